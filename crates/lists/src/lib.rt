@@ -1,0 +1,1 @@
+// Laws on lists, tests and repetition that several crates cite. There is no code here.

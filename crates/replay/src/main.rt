@@ -1,0 +1,159 @@
+// Replays recorded requests, and prints how many of the recorded answers the library gives, by kind.
+// A record is its kind, the lengths of request and answer (four bytes each, low byte first), request and answer.
+mod leaves;
+mod request;
+
+use libc::STDOUT_FILENO;
+ghost use Prim.Native.Nat.{_≤_};
+
+// How many records of each kind there were, and in how many the answers agreed. The last place is for unknown kinds.
+pub struct Tally {
+    pub asked: [u64; 10],
+    pub agreed: [u64; 10],
+}
+
+// Whether to go on, and the tally so far.
+pub struct Turn {
+    pub more: bool,
+    pub tally: Tally,
+}
+
+impl Tally {
+    fn counted(mut self, kind: usize, agrees: bool) -> Tally {
+        if 9 < kind {
+            return self;
+        }
+        self.asked[kind] = std::num::wrapping_add_u64(self.asked[kind], 1);
+        if agrees {
+            self.agreed[kind] = std::num::wrapping_add_u64(self.agreed[kind], 1);
+        }
+        self
+    }
+}
+
+// Where a kind stands in the tally.
+fn place_of(kind: u8) -> usize {
+    match kind {
+        b'u' => 0,
+        b't' => 1,
+        b'd' => 2,
+        b'n' => 3,
+        b'z' => 4,
+        b'h' => 5,
+        b'w' => 6,
+        b'c' => 7,
+        b'f' => 8,
+        _ => 9,
+    }
+}
+
+// The name of the kind at a place of the tally.
+fn print_name(place: usize) {
+    match place {
+        0 => io::write_all(STDOUT_FILENO, b"UTF-8 counts"),
+        1 => io::write_all(STDOUT_FILENO, b"blanks, padding, tails, breaks"),
+        2 => io::write_all(STDOUT_FILENO, b"numbers read"),
+        3 => io::write_all(STDOUT_FILENO, b"spellings read"),
+        4 => io::write_all(STDOUT_FILENO, b"numerals read"),
+        5 => io::write_all(STDOUT_FILENO, b"hand counts read"),
+        6 => io::write_all(STDOUT_FILENO, b"spellings written"),
+        7 => io::write_all(STDOUT_FILENO, b"hand counts written"),
+        8 => io::write_all(STDOUT_FILENO, b"numbers written"),
+        _ => io::write_all(STDOUT_FILENO, b"of unknown kind"),
+    }
+    ;
+}
+
+// Whether the library's answer to a request is the recorded one.
+fn agrees(kind: u8, request: &[u8], answer: &[u8]) -> bool {
+    let mut out = [0u8; 64];
+    let n = leaves::answer(kind, request, &mut out);
+    check::same(&out[..n], answer)
+}
+
+// Takes a record of n bytes of request and its answer apart, and replays it.
+fn replay(kind: u8, n: usize, record: &[u8]) -> bool {
+    if record.len() < n {
+        return false;
+    }
+    agrees(kind, &record[..n], &record[n..])
+}
+
+// What became of a record: it broke off, or was replayed, and the answers agreed or not.
+enum Heard {
+    Broken,
+    Replayed(bool),
+}
+
+// Reads the rest of a record and replays it.
+fn replay_rest(fd: i32, kind: u8, n: usize, record: &mut [u8]) -> Heard {
+    if io::read_full(fd, record) < record.len() {
+        return Heard::Broken;
+    }
+    Heard::Replayed(replay(kind, n, record))
+}
+
+// Reads one record and replays it.
+fn replay_next(fd: i32, tally: Tally) -> Turn {
+    let mut head = [0u8; 9];
+    if io::read_full(fd, &mut head) < 9 {
+        return Turn { more: false, tally };
+    }
+    let n = lent::get16(&head, 1) + 65536 * lent::get16(&head, 3);
+    let end = n + lent::get16(&head, 5) + 65536 * lent::get16(&head, 7);
+    if 65536 < end {
+        return Turn { more: false, tally };
+    }
+    let mut record = io::large_buffer();
+    let Heard::Replayed(ok) = replay_rest(fd, head[0], n, &mut record[..end]) else {
+        return Turn { more: false, tally };
+    };
+    Turn {
+        more: true,
+        tally: tally.counted(place_of(head[0]), ok),
+    }
+}
+
+// A proved loop has to end, and nothing says that a file does: the turns are counted down from a number that no run uses up.
+fn replay_all(fd: i32) -> Tally {
+    let mut tally = Tally {
+        asked: [0u64; 10],
+        agreed: [0u64; 10],
+    };
+    let mut turns = u64::MAX;
+    while turns > 0 {
+        let t = replay_next(fd, tally);
+        tally = t.tally;
+        turns = if t.more { turns - 1 } else { 0 };
+    }
+    tally
+}
+
+// A line of the tally: the kind, how many answers agree, and of how many. Unknown kinds are named only where there are any.
+fn print_line(place: usize, agreed: u64, asked: u64) {
+    if asked == 0 {
+        return;
+    }
+    print_name(place);
+    io::write_all(STDOUT_FILENO, b": ");
+    io::print_decimal(STDOUT_FILENO, agreed);
+    io::write_all(STDOUT_FILENO, b" of ");
+    io::print_decimal(STDOUT_FILENO, asked);
+    io::write_all(STDOUT_FILENO, b" agree\n");
+}
+
+fn print_tally(tally: Tally) {
+    for i in 0..10 {
+        print_line(i, tally.agreed[i], tally.asked[i]);
+    }
+}
+
+fn main() {
+    let path = b"answers";
+    let fd = os::open_read(path);
+    if fd < 0 {
+        os::fail(path);
+        return;
+    }
+    print_tally(replay_all(fd));
+}

@@ -1,0 +1,195 @@
+-- Digits by their keys: a character of three bytes is known by the number that they make.
+-- Assumes nothing.
+use Prim.Native.Nat.{ℕ, suc, _+_, _-_, _/_, _%_, _≤_, _<_}
+use native.Mathlib.Omega.{arith}
+use native.Mathlib.Nat.{add-zero}
+use mathlib.Core.Path.{_≡_, refl, sym, ap, _∙_}
+use mathlib.Core.List.{List, [], _∷_}
+use mathlib.Core.Bool.{Bool, true, false}
+use lib.ListN.{length, getD, drop, drop-of-length-le}
+use lib.Dec.{eqb, ltb}
+use lib.Seq.{getD-drop}
+use borrow.Author.Tests.{eq-eqb, ne-eqb, eqb-true, eqb-false, ltb-true}
+use Rattle.lists.specs.Pick.{pick}
+use Rattle.lists.proofs.Laws.{drop-step, pick-both}
+use Rattle.text.specs.Text.{cursor, prefixFrom, standsAt}
+use Rattle.spell.specs.Tables.{Spelling}
+use Rattle.spell.specs.Spell.{firstOf, spelled, allBytes, key, keys, keyAt, placeFrom, digitsFrom}
+use Rattle.spell.specs.declared.Spelled.{Spelled}
+use Rattle.spell.specs.declared.Spelled.the-variants.{As, Not}
+
+-- ---- where a number stands in a list
+
+module _ (x : ℕ) (ks : List ℕ) (i j : ℕ) where
+  pub place-none : length ks ≤ j → placeFrom i (drop j ks) x ≡ 0
+  unfolding placeFrom
+  place-none h = rw drop-of-length-le
+
+  pub place-here : j < length ks → getD ks j 0 ≡ x → placeFrom i (drop j ks) x ≡ i
+  unfolding placeFrom
+  place-here h e = rw (drop-step ks j h, eq-eqb x (getD ks j 0) (sym e))
+
+  pub place-more : j < length ks → (getD ks j 0 ≡ x → ⊥) → placeFrom i (drop j ks) x ≡ placeFrom (i + 1) (drop (j + 1) ks) x
+  unfolding placeFrom
+  place-more h e = rw (drop-step ks j h, ne-eqb x (getD ks j 0) (λ q. e (sym q)))
+
+-- ---- a character of three bytes
+
+-- the three bytes of a key
+abbrev pub bytesOf : ℕ → List ℕ
+bytesOf x = x / 65536 % 256 ∷ x / 256 % 256 ∷ x % 256 ∷ []
+
+-- what `allBytes` says of three
+three : (a b c : ℕ) → allBytes (a ∷ b ∷ c ∷ []) ≡ true → (a < 256) × (b < 256) × (0 < c) × (c < 256)
+three a b c h =
+    let (_, h₁) = pick-both (ltb 0 a) _ h in
+    let (a₁, h₂) = pick-both (ltb a 256) _ h₁ in
+    let (_, h₃) = pick-both (ltb 0 b) _ h₂ in
+    let (b₁, h₄) = pick-both (ltb b 256) _ h₃ in
+    let (c₀, h₅) = pick-both (ltb 0 c) _ h₄ in
+    let (c₁, _) = pick-both (ltb c 256) _ h₅ in
+    (ltb-true a 256 a₁, ltb-true b 256 b₁, ltb-true 0 c c₀, ltb-true c 256 c₁)
+
+-- three bytes, one of which may be missing
+pub record Near (l : List ℕ) : Type 0 where
+  pub first : getD l 0 0 < 256
+  pub second : getD l 1 0 < 256
+  pub third : getD l 2 0 < 256
+
+neither : (u : Bool) → pick u false false ≡ false
+neither true = refl
+neither false = refl
+
+module _ (a b c : ℕ) (t : allBytes (a ∷ b ∷ c ∷ []) ≡ true) where
+  -- no other three bytes have its key
+  same-key : (l : List ℕ) → Near l → key l ≡ key (a ∷ b ∷ c ∷ []) → (getD l 0 0 ≡ a) × (getD l 1 0 ≡ b) × (getD l 2 0 ≡ c)
+  same-key l n e =
+      let (a₁, b₁, c₀, c₁) = three a b c t in
+      let n₁ = n .first in
+      let n₂ = n .second in
+      let n₃ = n .third in
+      (omega arith, omega arith, omega arith)
+
+  -- a list starts with it where the list has its key
+  prefix-three : (l : List ℕ) → Near l → prefixFrom (a ∷ b ∷ c ∷ []) l ≡ eqb (key l) (key (a ∷ b ∷ c ∷ []))
+  unfolding prefixFrom
+  prefix-three [] n = sym (ne-eqb (key []) _ (λ e. omega (arith, three a b c t, same-key [] n e)))
+  prefix-three (x ∷ []) n = neither (eqb x a) ∙ sym (ne-eqb (key (x ∷ [])) _ (λ e. omega (arith, three a b c t, same-key (x ∷ []) n e)))
+  prefix-three (x ∷ y ∷ []) n =
+      ap (λ (u : Bool). pick (eqb x a) u false) (neither (eqb y b)) ∙ neither (eqb x a)
+      ∙ sym (ne-eqb (key (x ∷ y ∷ [])) _ (λ e. omega (arith, three a b c t, same-key (x ∷ y ∷ []) n e)))
+  prefix-three (x ∷ y ∷ z ∷ l) n = go (eqb (key (x ∷ y ∷ z ∷ l)) (key (a ∷ b ∷ c ∷ []))) refl
+    where
+      go : (u : Bool) → eqb (key (x ∷ y ∷ z ∷ l)) (key (a ∷ b ∷ c ∷ [])) ≡ u
+          → pick (eqb x a) (pick (eqb y b) (pick (eqb z c) true false) false) false ≡ u
+      go true e =
+          let (p, q, r) = same-key (x ∷ y ∷ z ∷ l) n (eqb-true _ _ e) in
+          rw (eq-eqb x a p, eq-eqb y b q, eq-eqb z c r)
+      go false e = off (eqb x a) (eqb y b) (eqb z c) refl refl refl
+        where
+          off : (u v w : Bool) → eqb x a ≡ u → eqb y b ≡ v → eqb z c ≡ w → pick u (pick v (pick w true false) false) false ≡ false
+          off true true true p q r =
+              let z₁ : x ≡ a = eqb-true x a p in
+              let z₂ : y ≡ b = eqb-true y b q in
+              let z₃ : z ≡ c = eqb-true z c r in
+              absurd (eqb-false (key (x ∷ y ∷ z ∷ l)) (key (a ∷ b ∷ c ∷ [])) e (omega arith))
+          off true true false p q r = refl
+          off true false w p q r = refl
+          off false v w p q r = refl
+
+-- the same of a text and a place
+key-at : (s : List ℕ) (at : ℕ) → key (drop at s) ≡ keyAt s at
+unfolding keyAt
+key-at s at = rw (getD-drop at s 0 0, getD-drop at s 1 0, getD-drop at s 2 0, add-zero at)
+
+stands-key : (t s : List ℕ) (at : ℕ) → length t ≡ 3 → allBytes t ≡ true → Near (drop at s) → standsAt t s at ≡ eqb (keyAt s at) (key t)
+unfolding standsAt
+stands-key [] s at h b n = absurd (omega arith)
+stands-key (x ∷ []) s at h b n = absurd (omega arith)
+stands-key (x ∷ y ∷ []) s at h b n = absurd (omega arith)
+stands-key (x ∷ y ∷ z ∷ []) s at h b n = prefix-three x y z b (drop at s) n ∙ ap (λ (k : ℕ). eqb k (key (x ∷ y ∷ z ∷ []))) (key-at s at)
+stands-key (x ∷ y ∷ z ∷ w ∷ t) s at h b n = absurd (omega arith)
+
+key-bytes : (t : List ℕ) → length t ≡ 3 → allBytes t ≡ true → bytesOf (key t) ≡ t
+key-bytes [] h b = absurd (omega arith)
+key-bytes (x ∷ []) h b = absurd (omega arith)
+key-bytes (x ∷ y ∷ []) h b = absurd (omega arith)
+key-bytes (x ∷ y ∷ z ∷ []) h b =
+    let (p, q, r₀, r) = three x y z b in
+    let k : ℕ = key (x ∷ y ∷ z ∷ []) in
+    let e₀ : k / 65536 % 256 ≡ x = omega arith in
+    let e₁ : k / 256 % 256 ≡ y = omega arith in
+    let e₂ : k % 256 ≡ z = omega arith in
+    ap (λ (i : ℕ). i ∷ k / 256 % 256 ∷ k % 256 ∷ []) e₀ ∙ ap (λ (i : ℕ). x ∷ i ∷ k % 256 ∷ []) e₁ ∙ ap (λ (i : ℕ). x ∷ y ∷ i ∷ []) e₂
+key-bytes (x ∷ y ∷ z ∷ w ∷ t) h b = absurd (omega arith)
+
+-- the bytes of a slice, at a place
+pub near : (s : List ℕ) (at : ℕ) → ((i : ℕ) → getD s i 0 < 256) → Near (drop at s)
+near s at h = record { first = rw (getD-drop at s 0 0) (h (at + 0)); second = rw (getD-drop at s 1 0) (h (at + 1)); third = rw (getD-drop at s 2 0) (h (at + 2)) }
+
+-- ---- a table of digits
+
+pub keys-length : (es : List Spelling) → length (keys es) ≡ length es
+keys-length [] = refl
+keys-length (e ∷ es) = ap suc (keys-length es)
+
+-- its first entry: the number, the three bytes, and the rest
+pub record Digit (i : ℕ) (e : Spelling) (es : List Spelling) : Type 0 where
+  pub number : e .number ≡ i
+  pub size : length (e .bytes) ≡ 3
+  pub bytes : allBytes (e .bytes) ≡ true
+  pub after : digitsFrom (i + 1) es ≡ true
+
+digit-head : (i : ℕ) (e : Spelling) (es : List Spelling) → digitsFrom i (e ∷ es) ≡ true → Digit i e es
+digit-head i e es h =
+    let (p, h₁) = pick-both (eqb (e .number) i) _ h in
+    let (q, h₂) = pick-both (eqb (length (e .bytes)) 3) _ h₁ in
+    let (r, h₃) = pick-both (allBytes (e .bytes)) (digitsFrom (i + 1) es) h₂ in
+    record { number = eqb-true _ _ p; size = eqb-true _ _ q; bytes = r; after = h₃ }
+
+-- what a place in the list of keys says is read
+abbrev pub read : ℕ → ℕ → Spelled
+read n at = pick (eqb n 0) Not (As n (cursor (at + 3)))
+
+pub digit-first : (i : ℕ) (es : List Spelling) → digitsFrom i es ≡ true → 0 < i → (s : List ℕ) (at : ℕ) → Near (drop at s)
+    → firstOf es s at ≡ read (placeFrom i (keys es) (keyAt s at)) at
+unfolding firstOf placeFrom
+digit-first i [] h p s at n = refl
+digit-first i (e ∷ es) h p s at n = rw (stands-key (e .bytes) s at (d .size) (d .bytes) n, d .number, d .size) (go (eqb (keyAt s at) (key (e .bytes))) (digit-first (i + 1) es (d .after) (omega arith) s at n))
+  where
+    d : Digit i e es
+    d = digit-head i e es h
+
+    go : (u : Bool) → firstOf es s at ≡ read (placeFrom (i + 1) (keys es) (keyAt s at)) at
+        → pick u (As i (cursor (at + 3))) (firstOf es s at) ≡ read (pick u i (placeFrom (i + 1) (keys es) (keyAt s at))) at
+    go true ih = rw (ne-eqb i 0 (λ q. omega arith))
+    go false ih = ih
+
+-- a number of the table is written by its key
+pub digit-spelled : (i : ℕ) (es : List Spelling) → digitsFrom i es ≡ true → (n : ℕ) → i ≤ n → n < i + length es
+    → spelled es n ≡ bytesOf (getD (keys es) (n - i) 0)
+unfolding spelled
+digit-spelled i [] h n l k = absurd (omega arith)
+digit-spelled i (e ∷ es) h n l k = go (eqb (e .number) n) refl (digit-spelled (i + 1) es (d .after) n)
+  where
+    d : Digit i e es
+    d = digit-head i e es h
+
+    go : (u : Bool) → eqb (e .number) n ≡ u → (i + 1 ≤ n → n < i + 1 + length es → spelled es n ≡ bytesOf (getD (keys es) (n - (i + 1)) 0))
+        → pick u (e .bytes) (spelled es n) ≡ bytesOf (getD (key (e .bytes) ∷ keys es) (n - i) 0)
+    go true q ih =
+        let z : n - i ≡ 0 = omega (arith, d .number, eqb-true (e .number) n q) in
+        rw z (sym (key-bytes (e .bytes) (d .size) (d .bytes)))
+    go false q ih =
+        let f : e .number ≡ n → ⊥ = eqb-false (e .number) n q in
+        let g : i ≡ n → ⊥ = λ r. f (d .number ∙ r) in
+        let z : n - i ≡ suc (n - (i + 1)) = omega arith in
+        rw z (ih (omega arith) (omega arith))
+
+-- and no other is
+pub digit-unspelled : (i : ℕ) (es : List Spelling) → digitsFrom i es ≡ true → (n : ℕ) → (i ≤ n → n < i + length es → ⊥) → spelled es n ≡ []
+unfolding spelled
+digit-unspelled i [] h n k = refl
+digit-unspelled i (e ∷ es) h n k =
+    let d = digit-head i e es h in
+    rw (ne-eqb (e .number) n (λ q. k (omega (arith, d .number)) (omega (arith, d .number)))) (digit-unspelled (i + 1) es (d .after) n (λ p q. k (omega arith) (omega arith)))

@@ -1,0 +1,5 @@
+pub mod Search
+pub mod Keys
+pub mod Written
+pub mod Answers
+pub mod Counts

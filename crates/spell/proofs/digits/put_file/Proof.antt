@@ -1,0 +1,24 @@
+-- The constant is the table `files`: antt computes it.
+-- Assumes nothing.
+use native.Mathlib.Omega.{arith}
+use mathlib.Core.Path.{refl}
+use borrow.Author.Needs.{needs}
+use Rattle.spell.specs.Tables.{files}
+use Rattle.spell.proofs.digits.put_file.Statement.{statement}
+use Rattle.spell.proofs.digits.put_file.Tie as tie
+
+slice-aggregate-put-digit : tie.Need-slice-aggregate-put-digit
+slice-aggregate-put-digit c = search needs
+
+put-digit-requires : tie.Need-put-digit-requires
+put-digit-requires c κs = (files, record { whole = refl; fits = refl; few = omega arith })
+
+same-length : tie.Need-same-length
+same-length c = search needs
+
+returns : tie.Need-returns
+returns c = c .before .before .put-digit .ensures files (record { whole = refl; fits = refl; few = omega arith })
+
+pub put-file-spec : {M : Type 1} → statement M
+put-file-spec =
+    tie.close (tie.spec slice-aggregate-put-digit put-digit-requires same-length returns)

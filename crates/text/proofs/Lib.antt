@@ -1,0 +1,5 @@
+pub mod Laws
+pub mod Readings
+pub mod Widths
+pub mod Answers
+pub mod Ends

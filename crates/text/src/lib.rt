@@ -1,0 +1,191 @@
+// A place in a text that hands itself on by value, and the smallest things that are read there.
+// The text goes beside the place as a slice. Past the end of the text the rest is empty.
+mod utf8;
+
+pub use utf8::well_formed;
+ghost use mathlib.Core.Path.{_≡_};
+ghost use Rattle.text.specs.Text.{isBlank, isText, isDigit, blanksAt, textAt, padWidth, paddingAt, standsAt, tagAt, breakAt, tailAt, digitsAt};
+
+pub struct Cursor {
+    pub at: usize,
+}
+
+// A place past what was read, or that it is not there.
+pub enum Place {
+    Past(Cursor),
+    Absent,
+}
+
+// The value of one or more digits and the place past them, that no digit stands here, or that the value is above the largest allowed.
+pub enum Number {
+    Value(u64, Cursor),
+    NoDigit,
+    TooLarge,
+}
+
+fn is_blank(b: u8) -> bool
+    ensures { λ r. ⌜ r ≡ isBlank b ⌝ }
+{
+    if b == b' ' {
+        return true;
+    }
+    b == b'\t'
+}
+
+fn is_text(b: u8) -> bool
+    ensures { λ r. ⌜ r ≡ isText b ⌝ }
+{
+    if b == b'\n' {
+        return false;
+    }
+    b != b'\r'
+}
+
+fn is_digit(b: u8) -> bool
+    ensures { λ r. ⌜ r ≡ isDigit b ⌝ }
+{
+    if b < b'0' {
+        return false;
+    }
+    b <= b'9'
+}
+
+// Whether the bytes t stand at a place.
+pub fn stands(s: &[u8], at: usize, t: &[u8]) -> bool
+    ensures { λ r. ⌜ r ≡ standsAt (now (t .entry)) (now (s .entry)) at ⌝ }
+{
+    let mut i = 0;
+    let mut j = at;
+    while i < t.len() {
+        if s.len() <= j {
+            return false;
+        }
+        if s[j] != t[i] {
+            return false;
+        }
+        i += 1;
+        j += 1;
+    }
+    true
+}
+
+// How wide the padding character at a place is: a space, or U+3000; 0 where there is none.
+fn pad_width(s: &[u8], at: usize) -> usize
+    ensures { λ r. ⌜ r ≡ padWidth (now (s .entry)) at ⌝ }
+{
+    if lent::peek(s, at) == b' ' {
+        return 1;
+    }
+    if stands(s, at, b"\xe3\x80\x80") {
+        return 3;
+    }
+    0
+}
+
+impl Cursor {
+    // Past the spaces and tabs.   (nom's space0)
+    pub fn blanks(self, s: &[u8]) -> Cursor
+        ensures { λ r. ⌜ r .at ≡ blanksAt (now (s .entry)) (self .at) ⌝ }
+    {
+        let mut at = self.at;
+        while is_blank(lent::peek(s, at)) {
+            at += 1;
+        }
+        Cursor { at }
+    }
+
+    // Past the spaces and U+3000 that may end an information line.   (the Rust's many0(one_of(" 　")))
+    pub fn padding(self, s: &[u8]) -> Cursor
+        ensures { λ r. ⌜ r .at ≡ paddingAt (now (s .entry)) (self .at) ⌝ }
+    {
+        let mut at = self.at;
+        loop {
+            let n = pad_width(s, at);
+            if n == 0 {
+                return Cursor { at };
+            }
+            at += n;
+        }
+    }
+
+    // Past what is neither a CR nor an LF.
+    fn text(self, s: &[u8]) -> Cursor
+        ensures { λ r. ⌜ r .at ≡ textAt (now (s .entry)) (self .at) ⌝ }
+    {
+        let mut at = self.at;
+        while at < s.len() {
+            if !is_text(s[at]) {
+                return Cursor { at };
+            }
+            at += 1;
+        }
+        Cursor { at }
+    }
+
+    // Past the text up to the first CR or LF, which must not be a CR without an LF.   (nom's not_line_ending)
+    pub fn tail(self, s: &[u8]) -> Place
+        ensures { λ r. ⌜ r ≡ tailAt (now (s .entry)) (self .at) ⌝ }
+    {
+        let e = self.text(s);
+        let at = e.at;
+        if lent::peek(s, at) == b'\r' {
+            if lent::peek(s, at + 1) != b'\n' {
+                return Place::Absent;
+            }
+        }
+        Place::Past(Cursor { at })
+    }
+
+    // Past an LF or a CR LF.   (nom's line_ending)
+    pub fn line_ending(self, s: &[u8]) -> Place
+        ensures { λ r. ⌜ r ≡ breakAt (now (s .entry)) (self .at) ⌝ }
+    {
+        let at = self.at;
+        let b = lent::peek(s, at);
+        if b == b'\n' {
+            return Place::Past(Cursor { at: at + 1 });
+        }
+        if b == b'\r' {
+            if lent::peek(s, at + 1) == b'\n' {
+                return Place::Past(Cursor { at: at + 2 });
+            }
+        }
+        Place::Absent
+    }
+
+    // Past a given byte string.   (nom's tag)
+    pub fn tag(self, s: &[u8], t: &[u8]) -> Place
+        ensures { λ r. ⌜ r ≡ tagAt (now (t .entry)) (now (s .entry)) (self .at) ⌝ }
+    {
+        let at = self.at;
+        if stands(s, at, t) {
+            return Place::Past(Cursor { at: at + t.len() });
+        }
+        Place::Absent
+    }
+
+    // Past one or more digits, with the number that they make, if it is at most the largest allowed.   (nom's digit1, and str::parse)
+    pub fn digits(self, s: &[u8], largest: u64) -> Number
+        ensures { λ r. ⌜ r ≡ digitsAt largest (now (s .entry)) (self .at) ⌝ }
+    {
+        let start = self.at;
+        let tens = largest / 10;
+        let mut at = start;
+        let mut n: u64 = 0;
+        while is_digit(lent::peek(s, at)) {
+            let d = (lent::peek(s, at) - b'0') as u64;
+            if tens < n {
+                return Number::TooLarge;
+            }
+            if largest - n * 10 < d {
+                return Number::TooLarge;
+            }
+            n = n * 10 + d;
+            at += 1;
+        }
+        if at == start {
+            return Number::NoDigit;
+        }
+        Number::Value(n, Cursor { at })
+    }
+}

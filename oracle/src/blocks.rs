@@ -1,0 +1,202 @@
+//! Blocks: of records that a reader gives and of records that none gives, spoiled, and round every limit.
+
+use crate::attach;
+use crate::judge::{self, Outcome};
+use crate::record::{encode, Clock, Diagram, Entry, Line, Move, Position, Record, Time, What, LIMIT};
+use crate::rng::Rng;
+use crate::texts;
+
+/// Texts as a reader never gives them among those it does.
+const TEXTS: [&str; 16] =
+    ["", "a", "b", "ab", "先手", "後手", "開始日時", "a：b", "#c", "a\rb", "a\nb", "&x", "*", "手合割", "🀄", "\0"];
+const BYTES: [u8; 8] = [0, 1, 9, 10, 25, 99, 100, 255];
+
+/// Any slice at all: mostly a sound block.
+pub fn block(r: &mut Rng) -> Vec<u8> {
+    match r.below(10) {
+        0..=1 => spoiled(r),
+        _ => sound_block(r),
+    }
+}
+
+pub fn sound_block(r: &mut Rng) -> Vec<u8> {
+    match r.below(300) {
+        0 => encode(&most_lines(r)),
+        1 => encode(&filled(r)),
+        2..=150 => read_block(r),
+        _ => encode(&record(r)),
+    }
+}
+
+/// A block that the reader answered, and so one that can be written and read back.
+pub fn read_block(r: &mut Rng) -> Vec<u8> {
+    loop {
+        if let Outcome::Made { result, .. } = judge::read(&texts::text(r)) {
+            return result;
+        }
+    }
+}
+
+/// A well-formed record.
+fn record(r: &mut Rng) -> Record {
+    let mut header: Vec<_> = (0..r.below(6)).map(|_| (text(r), text(r))).collect();
+    header.sort();
+    header.dedup_by(|later, earlier| later.0 == earlier.0);
+    let mut lines = vec![Line { start: 0, parent: 0, entries: entries(r, What::Slot) }];
+    for _ in 0..r.below(8) {
+        let start = r.below(8) as u64;
+        let what = what(r);
+        lines.push(Line { start, parent: 0, entries: entries(r, what) });
+        let shape: Vec<_> = lines.iter().map(|line| (line.start, line.entries.len())).collect();
+        match attach::parents(&shape) {
+            Ok(parents) => lines.last_mut().unwrap().parent = parents[lines.len() - 1],
+            Err(_) => drop(lines.pop()),
+        }
+    }
+    Record { header, position: position(r), lines }
+}
+
+/// Up to seven entries, the first of them this.
+fn entries(r: &mut Rng, first: What) -> Vec<Entry> {
+    let mut entries = vec![entry(r, first)];
+    for _ in 0..r.below(7) {
+        let what = what(r);
+        entries.push(entry(r, what));
+    }
+    entries
+}
+
+fn entry(r: &mut Rng, what: What) -> Entry {
+    let timed = what != What::Slot && r.one_in(2);
+    let time = timed.then(|| Time { now: clock(r), total: clock(r) });
+    let comments = (0..[0, 0, 0, 1, r.below(4)][r.below(5)]).map(|_| text(r)).collect();
+    Entry { what, time, comments }
+}
+
+fn clock(r: &mut Rng) -> Clock {
+    Clock { h: r.one_in(2).then(|| number(r)), m: number(r), s: number(r) }
+}
+
+fn what(r: &mut Rng) -> What {
+    if r.one_in(5) {
+        return What::Special(r.below(14) as u8);
+    }
+    What::Move(Move {
+        colour: r.below(2) as u8,
+        piece: 1 + r.below(14) as u8,
+        promote: r.below(3) as u8,
+        to: (!r.one_in(4)).then(|| to(r)),
+        from: (!r.one_in(4)).then(|| (number(r), number(r))),
+    })
+}
+
+/// A square, rarely one off the board.
+fn to(r: &mut Rng) -> (u8, u8) {
+    match r.below(40) {
+        0 => (number(r), 5),
+        1 => (5, number(r)),
+        _ => (1 + r.below(9) as u8, 1 + r.below(9) as u8),
+    }
+}
+
+fn number(r: &mut Rng) -> u8 {
+    let usual = r.below(60) as u8;
+    [BYTES[r.below(8)], usual, usual][r.below(3)]
+}
+
+fn text(r: &mut Rng) -> String {
+    (0..1 + r.below(2)).map(|_| r.pick(&TEXTS)).collect()
+}
+
+fn position(r: &mut Rng) -> Position {
+    if r.one_in(2) {
+        return Position { preset: r.below(17) as u8, diagram: None };
+    }
+    let cell = |r: &mut Rng| [0, 1 + r.below(14) as u8, 17 + r.below(14) as u8][r.below(3)];
+    let most = [2, 20, 100, 101, 256][r.below(5)];
+    let diagram = Diagram {
+        turn: r.below(2) as u8,
+        cells: std::array::from_fn(|_| cell(r)),
+        hands: std::array::from_fn(|_| if r.one_in(4) { r.below(most) as u8 } else { 0 }),
+    };
+    Position { preset: 16, diagram: Some(diagram) }
+}
+
+/// As many lines as a block can hold, or one fewer, each on the one before it; written only if they start at 1.
+fn most_lines(r: &mut Rng) -> Record {
+    let (start, spare) = (r.below(2) as u64, r.below(2));
+    let play = || Entry { what: What::Special(0), time: None, comments: vec![] };
+    let slot = Entry { what: What::Slot, ..play() };
+    let main = Line { start: 0, parent: 0, entries: vec![slot, play()] };
+    let mut record = Record { header: vec![], position: Position { preset: 0, diagram: None }, lines: vec![main] };
+    while record.length() + 28 * (1 + spare) <= LIMIT {
+        let parent = record.lines.len() - 1;
+        record.lines.push(Line { start, parent, entries: vec![play()] });
+    }
+    record
+}
+
+/// A record whose block is as long as a block can be, or nearly so.
+fn filled(r: &mut Rng) -> Record {
+    let mut record = record(r);
+    let short_by = LIMIT - record.length() - r.below(3);
+    let slot = &mut record.lines[0].entries[0];
+    slot.comments.push("x".repeat(short_by - 4));
+    record
+}
+
+/// A block with one byte altered: seeds in turn go through the values of a byte, then the bytes of a block.
+pub fn altered(seed: u64) -> Vec<u8> {
+    let mut block = encode(&record(&mut Rng::new(seed >> 17)));
+    let place = (seed >> 8) as usize % 512 % block.len();
+    block[place] = seed as u8;
+    block
+}
+
+/// A block that is mostly no longer sound.
+pub fn spoiled(r: &mut Rng) -> Vec<u8> {
+    let mut block = if r.one_in(3) { encode(&misshapen(r)) } else { sound_block(r) };
+    let length = block.len();
+    match r.below(12) {
+        0 => block[r.below(length)] = r.byte(),
+        1 => nudge(r, &mut block, 0, 28),
+        2 => nudge(r, &mut block, 28, 128),
+        3..=6 => nudge(r, &mut block, 100, length),
+        7 => block.truncate(r.below(length)),
+        8 => block.truncate(length - 1),
+        9 => block.push([0, b'x'][r.below(2)]),
+        10 => block.resize(length + 1 + r.below(70_000), 0),
+        _ => {}
+    }
+    block
+}
+
+/// One byte between these places up or down by one, or at a bound of its field.
+fn nudge(r: &mut Rng, block: &mut [u8], start: usize, end: usize) {
+    let byte = &mut block[start + r.below(end - start)];
+    *byte = [byte.wrapping_add(1), byte.wrapping_sub(1), byte.wrapping_add(2), 0, 1, 0x80, 0xff, 31][r.below(8)];
+}
+
+/// A record with one thing that no sound block has, in the layout of one.
+fn misshapen(r: &mut Rng) -> Record {
+    let mut record = record(r);
+    let lines = record.lines.len();
+    let line = &mut record.lines[r.below(lines)];
+    let entries = line.entries.len();
+    let entry = &mut line.entries[r.below(entries)];
+    match r.below(12) {
+        0 => line.parent = r.below(lines + 1),
+        1 => line.start = r.below(70_000) as u64,
+        2 => line.start += 1,
+        3 => line.entries.clear(),
+        4 => entry.what = What::Slot,
+        5 => entry.what = What::Special(14 + r.below(3) as u8),
+        6 => drop(line.entries.remove(0)),
+        7 => record.header.reverse(),
+        8 => record.header = record.header.iter().flat_map(|pair| [pair.clone(), pair.clone()]).collect(),
+        9 => record.position.preset = r.below(20) as u8,
+        10 => entry.comments.push("x".repeat(LIMIT - 300 + r.below(600))),
+        _ => record.lines.clear(),
+    }
+    record
+}

@@ -1,0 +1,82 @@
+//! A call of 01 with what it is given, the lent buffer apart.
+
+use crate::judge::{self, Answer, Outcome};
+use crate::sound::sound;
+use std::fmt;
+
+#[derive(Clone, PartialEq, Eq)]
+pub enum Call {
+    Read { text: Vec<u8> },
+    Write { block: Vec<u8> },
+    PutIn { block: Vec<u8>, line: u64, text: Vec<u8> },
+    Cut { block: Vec<u8>, line: u64 },
+    Comment { block: Vec<u8>, k: u64 },
+    Key { block: Vec<u8>, k: u64 },
+    Value { block: Vec<u8>, k: u64 },
+    Sound { block: Vec<u8> },
+}
+
+impl Call {
+    /// What the judge says. A look-up gives its part by offset and length, `sound` its answer in place of a number.
+    pub fn judged(&self) -> Outcome {
+        match self {
+            Call::Read { text } => judge::read(text),
+            Call::Write { block } => judge::write(block),
+            Call::PutIn { block, line, text } => judge::put_in(block, *line, text),
+            Call::Cut { block, line } => judge::cut(block, *line),
+            Call::Comment { block, k } => Outcome::Answered(judge::comment(block, *k).0),
+            Call::Key { block, k } => Outcome::Answered(judge::key(block, *k).0),
+            Call::Value { block, k } => Outcome::Answered(judge::value(block, *k).0),
+            Call::Sound { block } => Outcome::Answered(Answer { number: sound(block).into(), first: 0, second: 0 }),
+        }
+    }
+
+    /// The text that the call is given, if any.
+    pub fn text_mut(&mut self) -> Option<&mut Vec<u8>> {
+        match self {
+            Call::Read { text } | Call::PutIn { text, .. } => Some(text),
+            _ => None,
+        }
+    }
+}
+
+impl fmt::Display for Call {
+    fn fmt(&self, f: &mut fmt::Formatter) -> fmt::Result {
+        match self {
+            Call::Read { text } => write!(f, "read {}", Quoted(text)),
+            Call::Write { block } => write!(f, "write {}", Hex(block)),
+            Call::PutIn { block, line, text } => write!(f, "put_in {} {line} {}", Hex(block), Quoted(text)),
+            Call::Cut { block, line } => write!(f, "cut {} {line}", Hex(block)),
+            Call::Comment { block, k } => write!(f, "comment {} {k}", Hex(block)),
+            Call::Key { block, k } => write!(f, "key {} {k}", Hex(block)),
+            Call::Value { block, k } => write!(f, "value {} {k}", Hex(block)),
+            Call::Sound { block } => write!(f, "sound {}", Hex(block)),
+        }
+    }
+}
+
+/// More than this is not shown; the seed makes it again.
+const SHOWN: usize = 2_000;
+
+struct Quoted<'a>(&'a [u8]);
+
+impl fmt::Display for Quoted<'_> {
+    fn fmt(&self, f: &mut fmt::Formatter) -> fmt::Result {
+        match std::str::from_utf8(self.0) {
+            _ if self.0.len() > SHOWN => write!(f, "<{} bytes>", self.0.len()),
+            Ok(text) => write!(f, "{text:?}"),
+            Err(_) => write!(f, "b\"{}\"", self.0.escape_ascii()),
+        }
+    }
+}
+
+struct Hex<'a>(&'a [u8]);
+
+impl fmt::Display for Hex<'_> {
+    fn fmt(&self, f: &mut fmt::Formatter) -> fmt::Result {
+        if self.0.len() > SHOWN {
+            return write!(f, "<{} bytes>", self.0.len());
+        }
+        self.0.iter().try_for_each(|byte| write!(f, "{byte:02x}"))
+    }
+}

@@ -1,0 +1,99 @@
+//! The calls that a seed makes, for `check` and `compare` alike.
+
+use crate::blocks;
+use crate::call::Call;
+use crate::record::{decode, u16_at};
+use crate::rng::Rng;
+use crate::texts;
+
+pub fn short_text(seed: u64) -> Call {
+    Call::Read { text: texts::short(seed) }
+}
+
+pub fn any_text(seed: u64) -> Call {
+    Call::Read { text: texts::text(&mut Rng::new(seed)) }
+}
+
+pub fn altered_block(seed: u64) -> Call {
+    Call::Sound { block: blocks::altered(seed) }
+}
+
+/// As many spoiled ones as sound ones.
+pub fn any_block(seed: u64) -> Call {
+    let r = &mut Rng::new(seed);
+    Call::Sound { block: if r.one_in(2) { blocks::spoiled(r) } else { blocks::sound_block(r) } }
+}
+
+pub fn to_write(seed: u64) -> Call {
+    Call::Write { block: blocks::block(&mut Rng::new(seed)) }
+}
+
+pub fn to_put_in(seed: u64) -> Call {
+    let r = &mut Rng::new(seed);
+    let block = blocks::block(r);
+    put_in(r, block)
+}
+
+/// A put-in into a block that the reader answered.
+pub fn to_edit(seed: u64) -> Call {
+    let r = &mut Rng::new(seed);
+    let block = blocks::read_block(r);
+    put_in(r, block)
+}
+
+/// Mostly into a line that there is, at a ply that it has.
+fn put_in(r: &mut Rng, block: Vec<u8>) -> Call {
+    let shape = decode(&block).map_or(vec![], |record| record.shape());
+    let line = some_line(r, 0, shape.len());
+    let (start, count) = shape.get(line as usize).copied().unwrap_or((0, 0));
+    let first = start.max(1);
+    let plies = (start + count as u64).saturating_sub(first) as usize;
+    let ply = if r.one_in(10) { r.below(20) as u64 } else { first + r.below(plies.max(1)) as u64 };
+    Call::PutIn { block, line, text: texts::variation(r, ply) }
+}
+
+pub fn to_cut(seed: u64) -> Call {
+    let r = &mut Rng::new(seed);
+    let block = blocks::block(r);
+    let lines = decode(&block).map_or(0, |record| record.lines.len());
+    let line = some_line(r, 1, lines);
+    Call::Cut { block, line }
+}
+
+/// Mostly a line from the first to the last, if there are any.
+fn some_line(r: &mut Rng, first: usize, lines: usize) -> u64 {
+    match r.below(20) {
+        0 => r.next(),
+        1 => lines as u64,
+        2 => 0,
+        _ => (first + r.below(lines.saturating_sub(first).max(1))) as u64,
+    }
+}
+
+pub fn a_comment(seed: u64) -> Call {
+    let (block, k) = looked_up(seed, 12);
+    Call::Comment { block, k }
+}
+
+pub fn a_key(seed: u64) -> Call {
+    let (block, k) = looked_up(seed, 6);
+    Call::Key { block, k }
+}
+
+pub fn a_value(seed: u64) -> Call {
+    let (block, k) = looked_up(seed, 6);
+    Call::Value { block, k }
+}
+
+/// A block and mostly a number below the count at this place of its head.
+fn looked_up(seed: u64, count_at: usize) -> (Vec<u8>, u64) {
+    let r = &mut Rng::new(seed);
+    let block = blocks::block(r);
+    let count = u16_at(&block, count_at).unwrap_or(0);
+    let k = match r.below(12) {
+        0 => r.next(),
+        1 => count as u64,
+        _ => r.below(count.max(1)) as u64,
+    };
+    (block, k)
+}

@@ -1,0 +1,236 @@
+//! The judge against itself: known answers first, then what must hold of every generated case.
+
+use crate::attach;
+use crate::call::Call;
+use crate::cases;
+use crate::judge::{self, Answer, Outcome};
+use crate::known;
+use crate::record::{decode, encode, Clock, Record, What, LIMIT};
+use crate::runner::{caught, run, Kind};
+use crate::sound::sound;
+
+const KINDS: [Kind; 11] = [
+    Kind { name: "short texts", share: 17, make: cases::short_text, test: reading },
+    Kind { name: "texts", share: 22, make: cases::any_text, test: reading },
+    Kind { name: "bytes", share: 13, make: cases::altered_block, test: soundness },
+    Kind { name: "blocks", share: 10, make: cases::any_block, test: soundness },
+    Kind { name: "writing", share: 8, make: cases::to_write, test: writing },
+    Kind { name: "put-ins", share: 10, make: cases::to_put_in, test: putting_in },
+    Kind { name: "cuts", share: 8, make: cases::to_cut, test: cutting },
+    Kind { name: "edits", share: 6, make: cases::to_edit, test: editing },
+    Kind { name: "comments", share: 2, make: cases::a_comment, test: looking_up },
+    Kind { name: "keys", share: 2, make: cases::a_key, test: looking_up },
+    Kind { name: "values", share: 2, make: cases::a_value, test: looking_up },
+];
+
+/// Whether all known answers and all generated cases hold.
+pub fn check(cases: u64, seed: u64) -> bool {
+    let (mut passed, mut failed) = (0, 0);
+    for (name, group) in known::GROUPS {
+        match caught(group) {
+            Ok(()) => passed += 1,
+            Err(why) => {
+                println!("known answers, {name}: {why}");
+                failed += 1;
+            }
+        }
+    }
+    println!("{:12} {passed:7} passed, {failed} failed", "known answers");
+    let (more_passed, more_failed) = run("check", &KINDS, cases, seed);
+    println!("{} passed, {} failed", passed + more_passed, failed + more_failed);
+    failed + more_failed == 0
+}
+
+fn reading(call: &Call) -> u64 {
+    let Call::Read { text } = call else { unreachable!() };
+    let outcome = call.judged();
+    let number = buffers(&outcome);
+    if let Outcome::Made { result, answer } = outcome {
+        assert!(answer.first <= text.len() as u64 && answer.second == result.len() as u64);
+        assert!(sound(&result), "the reader's block is not sound");
+        reads_back(&result);
+    }
+    number
+}
+
+/// Both definitions of soundness agree, and a sound block is its record's encoding.
+fn soundness(call: &Call) -> u64 {
+    let Call::Sound { block } = call else { unreachable!() };
+    let record = decode(block).filter(Record::is_well_formed);
+    let encoded = record.filter(|record| record.length() <= LIMIT && encode(record) == *block);
+    assert_eq!(sound(block), encoded.is_some());
+    if let Some(record) = encoded {
+        assert_eq!(record.length(), block.len(), "the length formula");
+    }
+    u64::from(sound(block))
+}
+
+fn writing(call: &Call) -> u64 {
+    let Call::Write { block } = call else { unreachable!() };
+    let outcome = call.judged();
+    let number = buffers(&outcome);
+    match outcome {
+        Outcome::Answered(answer) => assert!(!sound(block) == (answer.number == 7)),
+        Outcome::Made { answer, .. } => {
+            let record = decode(block).unwrap();
+            assert_eq!(answer.second as usize, record.lines.len() - judge::written_lines(&record));
+        }
+        Outcome::Unattached { .. } => panic!("writing attaches nothing"),
+    }
+    number
+}
+
+/// The other lines keep their entries and, renumbered, their parents; the rule made afresh gives the same; and cutting
+/// the new line restores the block.
+fn putting_in(call: &Call) -> u64 {
+    let Call::PutIn { block, line, .. } = call else { unreachable!() };
+    let outcome = call.judged();
+    let number = buffers(&outcome);
+    let Outcome::Made { result, answer } = outcome else {
+        return number;
+    };
+    assert!(sound(&result));
+    let (before, mut after) = (decode(block).unwrap(), decode(&result).unwrap());
+    fresh(&after);
+    let place = answer.second as usize;
+    let new = after.lines.remove(place);
+    assert_eq!(new.parent as u64, *line);
+    for kept in &mut after.lines {
+        assert!(kept.parent != place, "a line hangs on the new one");
+        kept.parent -= usize::from(kept.parent > place);
+    }
+    assert_eq!(after, before);
+    let restored =
+        Outcome::Made { result: block.clone(), answer: Answer { number: 0, first: block.len() as u64, second: 1 } };
+    assert_eq!(judge::cut(&result, answer.second), restored);
+    number
+}
+
+/// Just the run goes; the kept lines keep their entries and, renumbered, their parents; the rule made afresh agrees.
+fn cutting(call: &Call) -> u64 {
+    let Call::Cut { block, line } = call else { unreachable!() };
+    let outcome = call.judged();
+    let number = buffers(&outcome);
+    let Outcome::Made { result, answer } = outcome else {
+        return number;
+    };
+    assert!(sound(&result));
+    let (mut before, after) = (decode(block).unwrap(), decode(&result).unwrap());
+    fresh(&after);
+    let (first, removed) = (*line as usize, answer.second as usize);
+    let gone: Vec<_> = before.lines.drain(first..first + removed).collect();
+    assert!(gone.iter().all(|other| other.start >= gone[0].start));
+    assert!(before.lines.get(first).is_none_or(|next| next.start < gone[0].start));
+    for kept in &mut before.lines {
+        assert!(!(first..first + removed).contains(&kept.parent), "a kept line hung on one that is gone");
+        kept.parent -= if kept.parent > first { removed } else { 0 };
+    }
+    assert_eq!(after, before);
+    number
+}
+
+/// After an edit, what a reader gave can still be read back.
+fn editing(call: &Call) -> u64 {
+    let Call::PutIn { block, line, .. } = call else { unreachable!() };
+    if let Outcome::Made { result, .. } = judge::cut(block, *line) {
+        reads_back(&result);
+    }
+    let outcome = call.judged();
+    if let Outcome::Made { result, .. } = &outcome {
+        reads_back(result);
+    }
+    buffers(&outcome)
+}
+
+/// The part is the text that the record has by this number, and lies in the block where the figures say.
+fn looking_up(call: &Call) -> u64 {
+    let (block, k, (answer, part)) = match call {
+        Call::Comment { block, k } => (block, *k, judge::comment(block, *k)),
+        Call::Key { block, k } => (block, *k, judge::key(block, *k)),
+        Call::Value { block, k } => (block, *k, judge::value(block, *k)),
+        _ => unreachable!(),
+    };
+    let named = decode(block).and_then(|record| match call {
+        Call::Comment { .. } => record.comments().nth(k as usize).cloned(),
+        Call::Key { .. } => record.header.into_iter().nth(k as usize).map(|(key, _)| key),
+        _ => record.header.into_iter().nth(k as usize).map(|(_, value)| value),
+    });
+    let (number, first, second) = match named {
+        _ if !sound(block) => (7, 0, 0),
+        None => (10, k, 0),
+        Some(named) => {
+            assert_eq!(part, named.as_bytes());
+            assert_eq!(&block[answer.first as usize..][..part.len()], part);
+            (0, answer.first, part.len() as u64)
+        }
+    };
+    assert_eq!(answer, Answer { number, first, second });
+    assert!(number == 0 || part.is_empty());
+    number
+}
+
+/// The parents are those that the rule gives the lines afresh.
+fn fresh(record: &Record) {
+    let parents = record.lines.iter().map(|line| line.parent).collect();
+    assert_eq!(attach::parents(&record.shape()), Ok(parents));
+}
+
+/// Buffers of every length: nothing changes in one that is short, only the result's bytes else. Answers the number
+/// that a long one gets.
+fn buffers(outcome: &Outcome) -> u64 {
+    let needed = outcome.needed().unwrap_or(0);
+    for length in [0, needed.saturating_sub(1), needed, needed + 7] {
+        let before: Vec<u8> = (0..length).map(|at| at as u8 | 1).collect();
+        let mut after = before.clone();
+        let answer = outcome.deliver(&mut after);
+        let changed = match outcome {
+            Outcome::Made { result, .. } if length >= needed => [result, &before[needed..]].concat(),
+            Outcome::Unattached { .. } if length >= needed => vec![0; length],
+            _ => before,
+        };
+        assert_eq!(after, changed);
+        assert_eq!(answer.number == 5, length < needed);
+    }
+    outcome.deliver(&mut vec![0; needed]).number
+}
+
+/// Reading back what is written of a block that a reader gave is the record again, but for what 01 says is lost.
+fn reads_back(block: &[u8]) {
+    let mut record = decode(block).unwrap();
+    let Outcome::Made { result: text, answer } = judge::write(block) else {
+        return;
+    };
+    record.lines.truncate(judge::written_lines(&record));
+    if text.len() > LIMIT || !colours_follow_plies(&record) {
+        return;
+    }
+    lose(&mut record);
+    let Outcome::Made { result: again, answer: taken } = judge::read(&text) else {
+        panic!("what was written is refused");
+    };
+    assert_eq!(taken.first, answer.first, "what was written is not wholly taken");
+    assert_eq!(decode(&again).unwrap(), record, "not the same record");
+}
+
+/// Now hour, 不成, and that a total hour is absent.
+fn lose(record: &mut Record) {
+    for entry in record.lines.iter_mut().flat_map(|line| &mut line.entries) {
+        if let What::Move(m) = &mut entry.what {
+            m.promote = if m.promote == 1 { 0 } else { m.promote };
+        }
+        if let Some(time) = &mut entry.time {
+            time.now.h = None;
+            time.total = Clock { h: Some(time.total.h.unwrap_or(0)), ..time.total };
+        }
+    }
+}
+
+fn colours_follow_plies(record: &Record) -> bool {
+    record.lines.iter().all(|line| {
+        let plies = line.entries.iter().zip(line.start..);
+        plies.into_iter().all(|(entry, ply)| match &entry.what {
+            What::Move(m) => m.colour == u8::from(ply % 2 == 0),
+            _ => true,
+        })
+    })
+}

@@ -1,0 +1,270 @@
+//! What each call answers: reading and writing by the original, all else by 01's words.
+
+use crate::attach;
+use crate::jkf::{JsonKifuFormat, MoveFormat};
+use crate::original::converter::kif::ToKif;
+use crate::original::parser::kakinoki::read_head;
+use crate::original::parser::kif::{parse, read_lines, read_moves};
+use crate::record::{decode, encode, u16_at, Entry, Line, Move, Record, What, LIMIT};
+use crate::sound::sound;
+use crate::translate::{self, nest, Play};
+use nom::error::VerboseError;
+use std::{iter, str};
+
+/// A number of 01's table, 0 on success, and the two figures.
+#[derive(Clone, Copy, Debug, PartialEq, Eq)]
+pub struct Answer {
+    pub number: u64,
+    pub first: u64,
+    pub second: u64,
+}
+
+/// What a call comes to before the lent buffer's length is looked at.
+#[derive(Clone, Debug, PartialEq, Eq)]
+pub enum Outcome {
+    /// An answer that changes no buffer, whatever its length.
+    Answered(Answer),
+    /// Refusal 6 in a buffer as long as the block would be.
+    Unattached { needed: usize, answer: Answer },
+    /// A result and the answer that goes with it.
+    Made { result: Vec<u8>, answer: Answer },
+}
+
+impl Outcome {
+    /// The length that the buffer must have, where it is asked for.
+    pub fn needed(&self) -> Option<usize> {
+        match self {
+            Outcome::Answered(_) => None,
+            Outcome::Unattached { needed, .. } => Some(*needed),
+            Outcome::Made { result, .. } => Some(result.len()),
+        }
+    }
+
+    /// The answer with this buffer lent, and what becomes of the buffer.
+    pub fn deliver(&self, out: &mut [u8]) -> Answer {
+        if let Some(needed) = self.needed().filter(|&needed| needed > out.len()) {
+            return answer(5, needed as u64, 0);
+        }
+        match self {
+            Outcome::Answered(answer) => *answer,
+            Outcome::Unattached { answer, .. } => {
+                out.fill(0);
+                *answer
+            }
+            Outcome::Made { result, answer } => {
+                out[..result.len()].copy_from_slice(result);
+                *answer
+            }
+        }
+    }
+}
+
+fn answer(number: u64, first: u64, second: u64) -> Answer {
+    Answer { number, first, second }
+}
+
+fn refused(number: u64, first: u64, second: u64) -> Outcome {
+    Outcome::Answered(answer(number, first, second))
+}
+
+pub fn read(text: &[u8]) -> Outcome {
+    if text.len() > LIMIT {
+        return refused(1, text.len() as u64, 0);
+    }
+    let text = match str::from_utf8(text) {
+        Ok(text) => text,
+        Err(error) => return refused(2, error.valid_up_to() as u64, 0),
+    };
+    let (rest, head) = match read_head(text) {
+        Ok(head) => head,
+        Err(error) => return refused(3, hand_line(text, error), 0),
+    };
+    let (rest, (main, variations)) = read_lines(rest).expect("no line at all is a main line without moves");
+    let variations = variations.into_iter().map(|(start, moves)| (start as u64, moves));
+    let lines: Vec<Play> = iter::once((0, main)).chain(variations).collect();
+    let mut record = translate::record(&head, &lines);
+    let parents = attach::parents(&record.shape());
+    confirm_attaching(text, rest, head, lines, parents.as_deref().ok());
+
+    let (taken, needed) = (text.len() - rest.len(), record.length());
+    if needed > LIMIT {
+        return refused(4, needed as u64, 0);
+    }
+    match parents {
+        Err((variation, ply)) => Outcome::Unattached { needed, answer: answer(6, variation, ply) },
+        Ok(parents) => {
+            record.lines.iter_mut().zip(parents).for_each(|(line, parent)| line.parent = parent);
+            Outcome::Made { result: encode(&record), answer: answer(0, taken as u64, needed as u64) }
+        }
+    }
+}
+
+/// The first byte of the hand line in which the reading failed.
+fn hand_line(text: &str, error: nom::Err<VerboseError<&str>>) -> u64 {
+    let nom::Err::Failure(VerboseError { errors }) = error else {
+        panic!("only a hand line makes the information block fail");
+    };
+    let failed_at = text.len() - errors[0].0.len();
+    text[..failed_at].rfind('\n').map_or(0, |at| at as u64 + 1)
+}
+
+/// Holds the attaching rule against the tree that the original's `parse` makes, or does not make, of the same text.
+fn confirm_attaching(text: &str, rest: &str, mut head: JsonKifuFormat, lines: Vec<Play>, parents: Option<&[usize]>) {
+    let by_rule = parents.map(|parents| {
+        head.moves = nest(lines, parents);
+        (rest, head)
+    });
+    assert!(parse(text).ok() == by_rule, "the attaching rule and the original's tree differ");
+}
+
+pub fn write(block: &[u8]) -> Outcome {
+    let Some(record) = record_of(block) else {
+        return refused(7, 0, 0);
+    };
+    if let Some((side, kind)) = count_over_99(&record) {
+        return refused(8, side, kind);
+    }
+    let written = written_lines(&record);
+    if let Some((line, entry)) = unwritable(&record.lines[..written]) {
+        return refused(9, line, entry);
+    }
+    let result = translate::original(&record).to_kif_owned().into_bytes();
+    let answer = answer(0, result.len() as u64, (record.lines.len() - written) as u64);
+    Outcome::Made { result, answer }
+}
+
+fn record_of(block: &[u8]) -> Option<Record> {
+    sound(block).then(|| decode(block).expect("a sound block holds a record"))
+}
+
+/// Side and kind of the first hand count that kanji cannot spell.
+fn count_over_99(record: &Record) -> Option<(u64, u64)> {
+    let hands = record.position.diagram.as_ref()?.hands;
+    let place = hands.iter().position(|&count| count > 99)? as u64;
+    Some((place / 7, place % 7))
+}
+
+/// The lines before the first variation with start 0.
+pub fn written_lines(record: &Record) -> usize {
+    let variations = &record.lines[1..];
+    1 + variations.iter().position(|line| line.start == 0).unwrap_or(variations.len())
+}
+
+/// Line and entry of the first move that cannot be written.
+fn unwritable(lines: &[Line]) -> Option<(u64, u64)> {
+    let in_line = |line: &Line| line.entries.iter().position(is_unwritable);
+    lines.iter().enumerate().find_map(|(k, line)| Some((k as u64, in_line(line)? as u64)))
+}
+
+fn is_unwritable(entry: &Entry) -> bool {
+    let What::Move(m) = &entry.what else {
+        return false;
+    };
+    let off_board = |place: u8| !(1..=9).contains(&place);
+    m.to.is_some_and(|(file, rank)| off_board(file) || off_board(rank)) || (entry.time.is_some() && width(m) == 14)
+}
+
+/// The columns that a written move takes: place, kind, promotion, origin.
+fn width(m: &Move) -> usize {
+    let kind = if (10..=12).contains(&m.piece) { 4 } else { 2 };
+    let promotion = if m.promote == 2 { 2 } else { 0 };
+    let origin = if m.from.is_some() { 4 } else { 2 };
+    4 + kind + promotion + origin
+}
+
+pub fn put_in(block: &[u8], line: u64, text: &[u8]) -> Outcome {
+    let Some(mut record) = record_of(block) else {
+        return refused(7, 0, 0);
+    };
+    let Some((parent, target)) = line_numbered(&record, line) else {
+        return refused(10, line, 0);
+    };
+    let Some((ply, entries)) = variation(text) else {
+        return refused(11, 0, 0);
+    };
+    if ply == 0 || ply < target.start || ply - target.start >= target.entries.len() as u64 {
+        return refused(12, line, ply);
+    }
+    if record.lines[1..].iter().any(|other| other.parent == parent && other.start == ply) {
+        return refused(13, line, ply);
+    }
+    let later = &record.lines[parent + 1..];
+    let place = parent + 1 + later.iter().position(|other| other.start <= ply).unwrap_or(later.len());
+    for other in &mut record.lines {
+        other.parent += usize::from(other.parent >= place);
+    }
+    record.lines.insert(place, Line { start: ply, parent, entries });
+    if let Some(changed) = changed_parent(&record, place) {
+        return refused(14, changed, 0);
+    }
+    let needed = record.length();
+    if needed > LIMIT {
+        return refused(4, needed as u64, 0);
+    }
+    Outcome::Made { result: encode(&record), answer: answer(0, needed as u64, place as u64) }
+}
+
+/// The line with this number, and the number as an index.
+fn line_numbered(record: &Record, line: u64) -> Option<(usize, &Line)> {
+    let index = usize::try_from(line).ok()?;
+    Some((index, record.lines.get(index)?))
+}
+
+/// Ply and entries of a text that is wholly move lines with comments.
+fn variation(text: &[u8]) -> Option<(u64, Vec<Entry>)> {
+    let text = str::from_utf8(text).ok().filter(|text| text.len() <= LIMIT)?;
+    let (rest, moves) = read_moves(text).ok()?;
+    let entries = moves.iter().map(|(_, entry): &(usize, MoveFormat)| translate::entry(entry)).collect();
+    rest.is_empty().then_some((moves[0].0 as u64, entries))
+}
+
+/// The old number of the first line, the new one apart, whose parent by the rule is not the one it had.
+fn changed_parent(record: &Record, new: usize) -> Option<u64> {
+    let shape = record.shape();
+    let changed = |&k: &usize| k != new && attach::parent(&shape[..k], shape[k].0) != record.lines[k].parent;
+    let k = (1..shape.len()).find(changed)?;
+    Some(k as u64 - u64::from(k > new))
+}
+
+pub fn cut(block: &[u8], line: u64) -> Outcome {
+    let Some(mut record) = record_of(block) else {
+        return refused(7, 0, 0);
+    };
+    let Some((first, target)) = line_numbered(&record, line).filter(|&(index, _)| index > 0) else {
+        return refused(10, line, 0);
+    };
+    let removed = record.lines[first..].iter().take_while(|other| other.start >= target.start).count();
+    record.lines.drain(first..first + removed);
+    for kept in &mut record.lines {
+        kept.parent -= if kept.parent > first { removed } else { 0 };
+    }
+    let result = encode(&record);
+    let answer = answer(0, result.len() as u64, removed as u64);
+    Outcome::Made { result, answer }
+}
+
+pub fn comment(block: &[u8], k: u64) -> (Answer, &[u8]) {
+    look_up(block, k, 12, |k| u16_at(block, 20).unwrap() + 4 * k)
+}
+
+pub fn key(block: &[u8], k: u64) -> (Answer, &[u8]) {
+    look_up(block, k, 6, |k| u16_at(block, 14).unwrap() + 8 * k)
+}
+
+pub fn value(block: &[u8], k: u64) -> (Answer, &[u8]) {
+    look_up(block, k, 6, |k| u16_at(block, 14).unwrap() + 8 * k + 4)
+}
+
+/// The part whose offset and length stand at `field(k)`, if the count at this place of the head goes so far.
+fn look_up(block: &[u8], k: u64, count_at: usize, field: impl Fn(usize) -> usize) -> (Answer, &[u8]) {
+    if !sound(block) {
+        return (answer(7, 0, 0), &[]);
+    }
+    let number = |at| u16_at(block, at).expect("tables lie within a sound block");
+    if k >= number(count_at) as u64 {
+        return (answer(10, k, 0), &[]);
+    }
+    let at = field(k as usize);
+    let (start, length) = (number(22) + number(at), number(at + 2));
+    (answer(0, start as u64, length as u64), &block[start..start + length])
+}

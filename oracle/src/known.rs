@@ -1,0 +1,229 @@
+//! The answers that 01 itself gives, and those at the points where its words meet the original: all by hand.
+
+use crate::judge::{self, Outcome};
+use crate::record::{decode, encode, Diagram, Line, Record, What, LIMIT};
+
+const WORKED_EXAMPLE: &str = "\
+手合割：平手
+手数--
+   1 ７六歩(77) ( 0:16/00:00:16)
+   2 ３四歩(33)
+*second
+   3 中断
+
+変化：2手
+   2 ８四歩(83)
+";
+
+const LISTING: &str = "\
+read 137 block 254
+line 0 start 0 moves 4 parent 0
+line 1 start 2 moves 1 parent 0
+";
+
+/// Each group by name; a group panics at the first answer that is not the known one.
+pub const GROUPS: [(&str, fn()); 7] = [
+    ("worked example", worked_example),
+    ("positions", positions),
+    ("put-ins and cuts", put_ins_and_cuts),
+    ("numbers", numbers),
+    ("texts", texts),
+    ("writing", writing),
+    ("orders", orders),
+];
+
+fn worked_example() {
+    assert_eq!(listing(WORKED_EXAMPLE), LISTING);
+}
+
+/// What the listing program prints.
+fn listing(text: &str) -> String {
+    let mut out = vec![0; LIMIT];
+    let answer = judge::read(text.as_bytes()).deliver(&mut out);
+    let mut shown = format!("read {} block {}\n", answer.first, answer.second);
+    let record = decode(&out[..answer.second as usize]).unwrap();
+    for (k, Line { start, parent, entries }) in record.lines.iter().enumerate() {
+        shown += &format!("line {k} start {start} moves {} parent {parent}\n", entries.len());
+    }
+    shown
+}
+
+/// Move lines from a ply on.
+fn moves(start: u64, count: u64) -> String {
+    (start..start + count).map(|ply| format!("{ply}同歩打\n")).collect()
+}
+
+/// A main line of eight plies and variations by start and number of moves.
+fn game(variations: &[(u64, u64)]) -> String {
+    let variations = variations.iter().map(|&(start, count)| format!("変化\n{}", moves(start, count)));
+    format!("手数\n{}{}", moves(1, 8), variations.collect::<String>())
+}
+
+/// Number, first and second figure with a buffer of this length.
+fn answered(outcome: Outcome, length: usize) -> (u64, u64, u64) {
+    let answer = outcome.deliver(&mut vec![1; length]);
+    (answer.number, answer.first, answer.second)
+}
+
+fn read(text: &str) -> (u64, u64, u64) {
+    answered(judge::read(text.as_bytes()), LIMIT)
+}
+
+fn block(text: &str) -> Vec<u8> {
+    match judge::read(text.as_bytes()) {
+        Outcome::Made { result, .. } => result,
+        other => panic!("{text:?}: {other:?}"),
+    }
+}
+
+fn record(text: &str) -> Record {
+    decode(&block(text)).unwrap()
+}
+
+/// The line and the entry that each variation hangs on.
+fn hung(variations: &[(u64, u64)]) -> Vec<(usize, u64)> {
+    let lines = record(&game(variations)).lines;
+    lines[1..].iter().map(|line| (line.parent, line.start - lines[line.parent].start)).collect()
+}
+
+fn positions() {
+    assert_eq!(hung(&[(5, 3), (3, 1)]), [(0, 5), (0, 3)]);
+    assert_eq!(hung(&[(3, 4), (5, 1)]), [(0, 3), (1, 2)]);
+    assert_eq!(hung(&[(5, 1), (5, 1)]), [(0, 5), (1, 0)]);
+    assert_eq!(read(&game(&[(3, 2), (5, 1)])), (6, 2, 5));
+    assert_eq!(hung(&[(8, 1)]), [(0, 8)]);
+    assert_eq!(read(&game(&[(9, 1)])), (6, 1, 9));
+    assert_eq!(hung(&[(0, 1)]), [(0, 0)]);
+}
+
+fn put_ins_and_cuts() {
+    let before = block(&game(&[(5, 3), (3, 1)]));
+    let put_in = |line, ply| judge::put_in(&before, line, moves(ply, 1).as_bytes());
+    let after = block(&game(&[(5, 3), (4, 1), (3, 1)]));
+    let Outcome::Made { result, answer } = put_in(0, 4) else { panic!() };
+    assert_eq!((&result, answer.first, answer.second), (&after, after.len() as u64, 2));
+    assert_eq!(answered(put_in(0, 5), LIMIT), (13, 0, 5));
+    assert_eq!(answered(put_in(1, 8), LIMIT), (12, 1, 8));
+
+    let Outcome::Made { result, answer } = judge::cut(&block(&game(&[(3, 4), (5, 1), (4, 1), (2, 1)])), 1) else {
+        panic!()
+    };
+    let after = block(&game(&[(2, 1)]));
+    assert_eq!((&result, answer.first, answer.second), (&after, after.len() as u64, 3));
+}
+
+fn numbers() {
+    let origin = |origin: &str| match &record(&format!("手数\n1同歩{origin}\n")).lines[0].entries[..] {
+        [_, entry] => match &entry.what {
+            What::Move(m) => m.from,
+            other => panic!("{other:?}"),
+        },
+        _ => None,
+    };
+    assert_eq!(origin("(255)"), Some((25, 5)));
+    assert_eq!(origin("(256)"), None);
+    assert_eq!(origin("打"), Some((0, 0)));
+    assert_eq!(origin("(00000077)"), Some((7, 7)));
+    assert_eq!(origin("(7)"), Some((0, 7)));
+    let pawns = |before: &str, after: &str| {
+        let rows = format!("|{}|一\n", " ・".repeat(9)).repeat(9);
+        let edge = "+---------------------------+\n";
+        let board = format!("  ９ ８ ７ ６ ５ ４ ３ ２ １\n{edge}{rows}{edge}");
+        let text = format!("先手の持駒：{before}\n{board}先手の持駒：{after}\n");
+        record(&text).position.diagram.unwrap().hands[0]
+    };
+    assert_eq!(pawns("歩九十九", ""), 99);
+    assert_eq!(pawns("歩十歩　歩", "なし"), 12);
+    assert_eq!(pawns("歩二十", "歩一十"), 30);
+    assert_eq!(pawns("歩九十九歩九十九", "歩九十九"), 255);
+}
+
+/// Short texts: what becomes of each.
+fn texts() {
+    let known = [
+        ("", (0, 0, 156)),
+        ("\n", (0, 0, 156)),
+        ("\n*c\n1同歩打\n", (0, 15, 176)),
+        ("\r\n*c\r\n1同歩打\r\n", (0, 18, 181)),
+        ("\rx\n", (0, 3, 156)),
+        ("\n\rx\n", (0, 0, 156)),
+        ("手数\n1同歩打\rx\n", (0, 7, 156)),
+        ("手数\n18446744073709551616同歩打\n", (0, 7, 156)),
+        ("手数\n1同歩打\nx\n18446744073709551615同歩打\n", (6, 1, u64::MAX)),
+        ("#c\n先手の持駒：x\n", (3, 3, 0)),
+        ("a：b\n先手の持駒：なし", (3, 6, 0)),
+        ("先手の持駒：玉\n", (3, 0, 0)),
+        ("手合割：平手\n#c\n手数--\n1同歩打\n", (6, 1, 1)),
+        ("手数\n1同歩打\n先手：x\n2同歩打\n", (6, 1, 2)),
+        ("手数\n1同歩打\n変化\n*c\n1同歩打\n", (0, 25, 176)),
+        ("a\nb\n0同歩打\n", (0, 15, 184)),
+    ];
+    for (text, answer) in known {
+        assert_eq!(read(text), answer, "{text:?}");
+    }
+}
+
+/// Blocks that are not written, and what is written of one that is.
+fn writing() {
+    let write = |block: &[u8]| answered(judge::write(block), 200_000);
+    for time in ["(0:1/0:2)", "(0:1:2/3:4)"] {
+        assert_eq!(write(&block(&format!("手数\n1 ７六成香成打{time}\n"))), (9, 0, 1));
+    }
+    let mut moved = record("手数\n1 ７六歩(77)\n");
+    for off_board in [(0, 6), (10, 6), (7, 0), (7, 10), (255, 255)] {
+        if let What::Move(m) = &mut moved.lines[0].entries[1].what {
+            m.to = Some(off_board);
+        }
+        assert_eq!(write(&encode(&moved)), (9, 0, 1));
+    }
+    let Outcome::Made { result, answer } = judge::write(&block(&game(&[(8, 1), (0, 1), (0, 1)]))) else { panic!() };
+    let main: String = (1..9).map(|ply| format!("{ply:4} 同　歩(00)\n")).collect();
+    let text = format!("手合割：平手\n手数----指手---------消費時間--\n{main}\n変化：8手\n   8 同　歩(00)\n");
+    assert_eq!((String::from_utf8(result).unwrap(), answer.second), (text, 2));
+}
+
+/// Where two refusals hold at once, the earlier in 01's order is given.
+fn orders() {
+    let long = |text: &[u8]| [text, &[b'x'; LIMIT]].concat();
+    let read = |text: &[u8], length| answered(judge::read(text), length);
+    assert_eq!(read(&long(b"\xff"), 0), (1, LIMIT as u64 + 1, 0));
+    assert_eq!(read(&["先手の持駒：x\n".as_bytes(), b"\xff"].concat(), 0), (2, 20, 0));
+    assert_eq!(read("先手の持駒：x\n".as_bytes(), 0), (3, 0, 0));
+    let too_many = format!("手数\n{}x\n9999同歩打\n", "1同歩打\n".repeat(3_269));
+    assert_eq!(read(too_many.as_bytes(), 0), (4, 65_564, 0));
+    assert_eq!(read(game(&[(9, 1)]).as_bytes(), 343), (5, 344, 0));
+    assert_eq!(read(game(&[(9, 1)]).as_bytes(), 344), (6, 1, 9));
+
+    let mut hands = record("手数\n1 ７六歩(77)\n");
+    hands.position.preset = 16;
+    hands.position.diagram =
+        Some(Diagram { turn: 0, cells: [0; 81], hands: [0, 0, 0, 0, 0, 0, 0, 0, 0, 100, 0, 0, 0, 0] });
+    if let What::Move(m) = &mut hands.lines[0].entries[1].what {
+        m.to = Some((0, 0));
+    }
+    let write = |block: &[u8]| answered(judge::write(block), 0);
+    assert_eq!(write(&[&encode(&hands)[..], &[0]].concat()), (7, 0, 0));
+    assert_eq!(write(&encode(&hands)), (8, 1, 2));
+    hands.position.diagram = None;
+    assert_eq!(write(&encode(&hands)), (9, 0, 1));
+
+    let block = block(&game(&[(5, 3)]));
+    let put_in = |block: &[u8], line, text: &[u8]| answered(judge::put_in(block, line, text), 0);
+    let filling = format!("5同歩打\n*{}\n", "x".repeat(LIMIT - 11 - 3));
+    assert_eq!(put_in(&block[1..], 9, b""), (7, 0, 0));
+    assert_eq!(put_in(&block, 9, b""), (10, 9, 0));
+    assert_eq!(put_in(&block, 0, &long(b"9")), (11, 0, 0));
+    assert_eq!(put_in(&block, 0, "9同歩打\nx\n".as_bytes()), (11, 0, 0));
+    assert_eq!(put_in(&block, 0, filling.replace('5', "0").as_bytes()), (12, 0, 0));
+    assert_eq!(put_in(&block, 0, filling.as_bytes()), (13, 0, 5));
+    assert_eq!(put_in(&block, 0, filling.replace('5', "4").as_bytes()).0, 4);
+    assert_eq!(put_in(&block, 0, "4同歩打\n".as_bytes()), (5, block.len() as u64 + 28, 0));
+
+    let cut = |block: &[u8], line| answered(judge::cut(block, line), 0);
+    assert_eq!(cut(&block[1..], 0), (7, 0, 0));
+    assert_eq!(cut(&block, 0), (10, 0, 0));
+    assert_eq!(cut(&block, 2), (10, 2, 0));
+    assert_eq!(cut(&block, 1), (5, block.len() as u64 - 68, 0));
+    let look_up = |block: &[u8]| judge::comment(block, u64::MAX).0;
+    assert_eq!((look_up(&block[1..]).number, look_up(&block).number, look_up(&block).first), (7, 10, u64::MAX));
+}

@@ -1,0 +1,62 @@
+//! The judge of the port: 01's calls over the Rust original, cases for them, and the port beside it.
+
+// The original's types, under the path by which its own files name them.
+include!(concat!(env!("OUT_DIR"), "/jkf.rs"));
+mod attach;
+mod blocks;
+mod call;
+mod cases;
+mod check;
+#[cfg(feature = "linked")]
+mod compare;
+mod judge;
+mod known;
+mod normalizer;
+mod original;
+#[cfg(feature = "linked")]
+mod port;
+mod record;
+mod recorder;
+mod rng;
+mod runner;
+mod sound;
+mod texts;
+mod translate;
+
+use std::process::ExitCode;
+use std::{env, thread};
+
+const CASES: u64 = 1_000_000;
+const SEED: u64 = 1;
+/// Enough for the original, which goes as deep into itself as variations are nested.
+const STACK: usize = 1 << 28;
+
+fn main() -> ExitCode {
+    let words: Vec<String> = env::args().skip(1).collect();
+    let running = thread::Builder::new().stack_size(STACK).spawn(move || obey(&words)).expect("a thread");
+    match running.join() {
+        Ok(Some(true)) => ExitCode::SUCCESS,
+        Ok(None) => {
+            eprintln!("usage: oracle/run [check [CASES] [SEED] | compare [CASES] [SEED] | record FILE]");
+            ExitCode::from(2)
+        }
+        _ => ExitCode::FAILURE,
+    }
+}
+
+/// Whether what the words ask for went well; none if they ask for nothing there is.
+fn obey(words: &[String]) -> Option<bool> {
+    let words: Vec<&str> = words.iter().map(String::as_str).collect();
+    match words[..] {
+        ["check", ref numbers @ ..] => Some(check::check(number(numbers, 0, CASES)?, number(numbers, 1, SEED)?)),
+        #[cfg(feature = "linked")]
+        ["compare", ref numbers @ ..] => Some(compare::compare(number(numbers, 0, CASES)?, number(numbers, 1, SEED)?)),
+        ["record", file] => Some(recorder::record(file).map_err(|error| eprintln!("{file}: {error}")).is_ok()),
+        _ => None,
+    }
+}
+
+/// The number at a place among the words, or what it is if left out.
+fn number(words: &[&str], at: usize, otherwise: u64) -> Option<u64> {
+    words.get(at).map_or(Some(otherwise), |word| word.parse().ok())
+}

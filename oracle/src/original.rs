@@ -1,0 +1,105 @@
+//! The Rust original, unchanged: its files are included from where they stand, never copied. What this project asks
+//! of its private functions follows each file, in the same module.
+
+#[allow(dead_code)]
+pub mod parser {
+    pub mod kakinoki {
+        include!(concat!(env!("KIF_RUST"), "/src/parser/kakinoki.rs"));
+
+        pub fn read_kind(input: &str) -> IResult<&str, Kind, VerboseError<&str>> {
+            piece_kind(input)
+        }
+
+        pub fn read_kanji_digit(input: &str) -> IResult<&str, u8, VerboseError<&str>> {
+            kansuji_digit(input)
+        }
+
+        pub fn read_wide_digit(input: &str) -> IResult<&str, u8, VerboseError<&str>> {
+            place_x(input)
+        }
+
+        pub fn read_count(input: &str) -> IResult<&str, u8, VerboseError<&str>> {
+            kansuji(input)
+        }
+
+        pub fn read_side(input: &str) -> IResult<&str, Color, VerboseError<&str>> {
+            color_prefix(input)
+        }
+
+        /// A preset's name with the padding after it.
+        pub fn read_preset(input: &str) -> IResult<&str, Preset, VerboseError<&str>> {
+            map(information_value_preset, |information| match information {
+                Information::Preset(preset) => preset,
+                _ => unreachable!("information_value_preset answers presets alone"),
+            })(input)
+        }
+
+        /// Header and position, and what is left of the text.
+        pub fn read_head(input: &str) -> IResult<&str, JsonKifuFormat, VerboseError<&str>> {
+            parse_without_moves(input)
+        }
+    }
+
+    pub mod kif {
+        include!(concat!(env!("KIF_RUST"), "/src/parser/kif.rs"));
+
+        /// The main line, and each variation with the number printed on its first move.
+        pub type Lines = (Vec<MoveFormat>, Vec<(usize, Vec<MoveFormat>)>);
+
+        /// The lines in file order, as `entire_moves` has them before it attaches them.
+        pub fn read_lines(input: &str) -> IResult<&str, Lines, VerboseError<&str>> {
+            let variation = preceded(many0(not_move_line), moves_with_index);
+            pair(preceded(opt(not_move_line), main_moves), many0(variation))(input)
+        }
+
+        /// Move lines with their comments, and no skip line after them.
+        pub fn read_moves(input: &str) -> IResult<&str, Vec<(usize, MoveFormat)>, VerboseError<&str>> {
+            many1(move_with_comments)(input)
+        }
+
+        pub fn read_special(input: &str) -> IResult<&str, Option<MoveSpecial>, VerboseError<&str>> {
+            map(move_special, |entry| entry.special)(input)
+        }
+    }
+}
+
+#[allow(dead_code)]
+pub mod converter {
+    pub mod kakinoki {
+        include!(concat!(env!("KIF_RUST"), "/src/converter/kakinoki.rs"));
+
+        pub fn show_board_kind(kind: Kind) -> String {
+            let mut shown = String::new();
+            write_board_kind(kind, &mut shown).unwrap();
+            shown
+        }
+
+        pub fn show_preset_line(preset: Preset) -> String {
+            let mut shown = String::new();
+            write_initial_preset(preset, &mut shown).unwrap();
+            shown
+        }
+
+        pub fn show_count(count: u8) -> String {
+            let mut shown = String::new();
+            write_kansuji(count, &mut shown).unwrap();
+            shown
+        }
+    }
+
+    pub mod kif {
+        include!(concat!(env!("KIF_RUST"), "/src/converter/kif.rs"));
+
+        pub fn show_move_kind(kind: Kind) -> String {
+            let mut shown = String::new();
+            write_move_kind(kind, &mut shown, &mut 0).unwrap();
+            shown
+        }
+
+        pub fn show_move_line(entry: MoveFormat) -> String {
+            let mut shown = String::new();
+            write_move_lines(&[entry], 1, &mut shown).unwrap();
+            shown
+        }
+    }
+}

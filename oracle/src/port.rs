@@ -1,0 +1,92 @@
+//! The port's calls, through the C surface of its library. Each is declared where oracle/run found it exported.
+
+// Some names stand idle until the library exports every call, and the last arm once it does.
+#![allow(dead_code, unused_variables, unreachable_patterns)]
+
+use crate::call::Call;
+use crate::judge::Answer;
+
+type In = *const u8;
+type Out = *mut u8;
+type Figure = *mut u64;
+
+extern "C" {
+    #[cfg(feature = "kif_read")]
+    fn kif_read(text: In, text_len: usize, out: Out, out_len: usize, number: Figure, first: Figure, second: Figure);
+    #[cfg(feature = "kif_write")]
+    fn kif_write(block: In, block_len: usize, out: Out, out_len: usize, number: Figure, first: Figure, second: Figure);
+    #[cfg(feature = "kif_put_in")]
+    fn kif_put_in(
+        block: In,
+        block_len: usize,
+        line: u64,
+        text: In,
+        text_len: usize,
+        out: Out,
+        out_len: usize,
+        number: Figure,
+        first: Figure,
+        second: Figure,
+    );
+    #[cfg(feature = "kif_cut")]
+    fn kif_cut(
+        block: In,
+        block_len: usize,
+        line: u64,
+        out: Out,
+        out_len: usize,
+        number: Figure,
+        first: Figure,
+        second: Figure,
+    );
+    #[cfg(feature = "kif_comment")]
+    fn kif_comment(block: In, block_len: usize, k: u64, number: Figure, first: Figure, second: Figure);
+    #[cfg(feature = "kif_key")]
+    fn kif_key(block: In, block_len: usize, k: u64, number: Figure, first: Figure, second: Figure);
+    #[cfg(feature = "kif_value")]
+    fn kif_value(block: In, block_len: usize, k: u64, number: Figure, first: Figure, second: Figure);
+    #[cfg(feature = "kif_sound")]
+    fn kif_sound(block: In, block_len: usize) -> u8;
+}
+
+/// What the port answers with this buffer lent.
+// SAFETY, of every call below: each pointer goes with the length of the slice that it comes from.
+pub fn answer(call: &Call, out: &mut [u8]) -> Answer {
+    let (at, room) = (out.as_mut_ptr(), out.len());
+    match call {
+        #[cfg(feature = "kif_read")]
+        Call::Read { text } => lend(|n, a, b| unsafe { kif_read(text.as_ptr(), text.len(), at, room, n, a, b) }),
+        #[cfg(feature = "kif_write")]
+        Call::Write { block } => lend(|n, a, b| unsafe { kif_write(block.as_ptr(), block.len(), at, room, n, a, b) }),
+        #[cfg(feature = "kif_put_in")]
+        Call::PutIn { block, line, text } => lend(|n, a, b| unsafe {
+            kif_put_in(block.as_ptr(), block.len(), *line, text.as_ptr(), text.len(), at, room, n, a, b)
+        }),
+        #[cfg(feature = "kif_cut")]
+        Call::Cut { block, line } => {
+            lend(|n, a, b| unsafe { kif_cut(block.as_ptr(), block.len(), *line, at, room, n, a, b) })
+        }
+        #[cfg(feature = "kif_comment")]
+        Call::Comment { block, k } => lend(|n, a, b| unsafe { kif_comment(block.as_ptr(), block.len(), *k, n, a, b) }),
+        #[cfg(feature = "kif_key")]
+        Call::Key { block, k } => lend(|n, a, b| unsafe { kif_key(block.as_ptr(), block.len(), *k, n, a, b) }),
+        #[cfg(feature = "kif_value")]
+        Call::Value { block, k } => lend(|n, a, b| unsafe { kif_value(block.as_ptr(), block.len(), *k, n, a, b) }),
+        #[cfg(feature = "kif_sound")]
+        Call::Sound { block } => {
+            Answer { number: unsafe { kif_sound(block.as_ptr(), block.len()) }.into(), first: 0, second: 0 }
+        }
+        _ => unreachable!("the library does not export this call"),
+    }
+}
+
+/// Lends three numbers to a call, between two that it must leave alone.
+fn lend(call: impl FnOnce(Figure, Figure, Figure)) -> Answer {
+    const UNTOUCHED: u64 = 0xa5a5_a5a5_a5a5_a5a5;
+    let mut numbers = [UNTOUCHED; 5];
+    let [_, number, first, second, _] = &mut numbers;
+    call(number, first, second);
+    let [before, number, first, second, after] = numbers;
+    assert_eq!([before, after], [UNTOUCHED; 2], "a number beside those lent was changed");
+    Answer { number, first, second }
+}

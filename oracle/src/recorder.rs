@@ -1,0 +1,295 @@
+//! A fixed sample of requests with the original's answers, for a program that replays them without Rust.
+//!
+//! A record is its kind (one byte), the request's and the answer's length (u32 each), request and answer. Every number
+//! in a request or an answer is a u64. All integers are little-endian.
+
+use crate::jkf::{MoveFormat, MoveSpecial};
+use crate::original::converter::{kakinoki as show, kif as show_kif};
+use crate::original::parser::{kakinoki, kif};
+use crate::rng::Rng;
+use crate::translate::{KINDS, PRESETS, SPECIALS};
+use nom::character::complete::{digit1, line_ending, not_line_ending, one_of, space0};
+use nom::error::VerboseError;
+use nom::multi::many0;
+use nom::IResult;
+use std::{fs, io, iter};
+
+const SEED: u64 = 1;
+
+/// A kind's letter, what it is, and its recorder.
+type Recorder = (u8, &'static str, fn(&mut Sample));
+
+const RECORDERS: [Recorder; 9] = [
+    (b'u', "UTF-8: bytes; count of well-formed ones from the start", utf8),
+    (b't', "blanks, padding, tail, break: which, place, text; found, place after", steps),
+    (b'd', "digits: largest, place, text; 0 none 1 value 2 too large, value, place after", digits),
+    (b'n', "kinds, specials, presets, sides: table, place, text; found, number, place after", names),
+    (b'z', "kanji digit, full-width digit: which, place, text; found, value, place after", numerals),
+    (b'h', "hand count: place, text; found, count, place after", counts),
+    (b'w', "kind in a move, special, preset, kind on the board: table, number; as written", spellings),
+    (b'c', "hand count: number; as written", written_counts),
+    (b'f', "{}, {:2}, {:02}, {:4}: form, value, buffer's length; the text if it fits", decimals),
+];
+
+/// Writes the sample to this file, and beside it how it was made.
+pub fn record(file: &str) -> io::Result<()> {
+    let mut sample = Sample { kind: 0, bytes: vec![], count: 0, r: Rng::new(SEED) };
+    let mut about = format!("Made by: oracle/run record FILE (its seed is {SEED}).\nKind, records, request; answer:\n");
+    for (kind, what, recorder) in RECORDERS {
+        let before = sample.count;
+        sample.kind = kind;
+        recorder(&mut sample);
+        about += &format!("{} {:5}  {what}\n", char::from(kind), sample.count - before);
+    }
+    fs::write(file, &sample.bytes)?;
+    fs::write(format!("{file}.txt"), about)?;
+    println!("{} records, {} bytes", sample.count, sample.bytes.len());
+    Ok(())
+}
+
+/// The records so far.
+struct Sample {
+    kind: u8,
+    bytes: Vec<u8>,
+    count: usize,
+    r: Rng,
+}
+
+impl Sample {
+    fn add(&mut self, request: &[u8], answer: &[u8]) {
+        self.bytes.push(self.kind);
+        self.bytes.extend((request.len() as u32).to_le_bytes());
+        self.bytes.extend((answer.len() as u32).to_le_bytes());
+        self.bytes.extend(request);
+        self.bytes.extend(answer);
+        self.count += 1;
+    }
+
+    /// A parser at a place of a text: what is asked, place and text; `answer` makes the numbers of what it finds.
+    /// Past the end of the text the rest is empty.
+    fn add_at(&mut self, asked: &[u64], place: u64, text: &str, answer: impl Fn(&str) -> Vec<u64>) {
+        let rest = usize::try_from(place).ok().and_then(|place| text.get(place..)).unwrap_or_default();
+        self.add(&[numbers(asked), numbers(&[place]), text.into()].concat(), &numbers(&answer(rest)));
+    }
+}
+
+fn numbers(numbers: &[u64]) -> Vec<u8> {
+    numbers.iter().flat_map(|number| number.to_le_bytes()).collect()
+}
+
+/// Every place of a text where a character begins, its end, and places past it.
+fn places(text: &str) -> Vec<u64> {
+    let within = text.char_indices().map(|(at, _)| at as u64);
+    within.chain([text.len() as u64, text.len() as u64 + 1, u64::MAX]).collect()
+}
+
+/// Found, the value, and the place after; three times 0 if nothing is found.
+fn found<T>(read: IResult<&str, T, VerboseError<&str>>, length: usize, value: impl Fn(T) -> u64) -> Vec<u64> {
+    read.map_or(vec![0, 0, 0], |(rest, read)| vec![1, value(read), (length - rest.len()) as u64])
+}
+
+fn utf8(sample: &mut Sample) {
+    let leads = [
+        0x7f, 0x80, 0xbf, 0xc0, 0xc1, 0xc2, 0xdf, 0xe0, 0xe1, 0xec, 0xed, 0xee, 0xef, 0xf0, 0xf1, 0xf3, 0xf4, 0xf5,
+        0xff,
+    ];
+    let seconds: [&[u8]; 10] = [b"", b"\0", b"\x7f", b"\x80", b"\x8f", b"\x90", b"\x9f", b"\xa0", b"\xbf", b"\xc0"];
+    let tails: [&[u8]; 3] = [b"", b"\x80", b"\x80\xbf"];
+    let mut texts = vec![vec![]];
+    for lead in leads {
+        for second in seconds {
+            texts.extend(tails.map(|tail| [b"a", &[lead][..], second, tail].concat()));
+        }
+    }
+    for length in 0..60 {
+        let characters: String = (0..length).map(|_| sample.r.pick(&["a", "é", "歩", "🀄", "\0"])).collect();
+        let mut text = characters.into_bytes();
+        let cut = text.len() - text.len().min(length % 4);
+        text.truncate(cut);
+        texts.push(text);
+    }
+    for text in texts {
+        let well_formed = std::str::from_utf8(&text).map_or_else(|error| error.valid_up_to(), str::len);
+        sample.add(&text, &numbers(&[well_formed as u64]));
+    }
+}
+
+fn steps(sample: &mut Sample) {
+    let texts = [
+        "", " ", "\t", "　", "\n", "\r", "\r\n", "\r\r\n", "\n\n", "x", "xy", " \t x", "　 　x", " 　\t　", "x\n",
+        "x\r\n", "x\ry", "\rx\n", "歩\r", "歩🀄\n　", "  \n", "a\0b\r\n", "\u{feff} \n", "、　", "\u{3001}\u{3000}",
+    ];
+    for text in texts {
+        for place in places(text) {
+            for which in 0..4 {
+                sample.add_at(&[which], place, text, |rest| step(which, place, rest));
+            }
+        }
+    }
+}
+
+/// Found and the place after.
+fn step(which: u64, place: u64, input: &str) -> Vec<u64> {
+    type Read<'a> = IResult<&'a str, (), VerboseError<&'a str>>;
+    let read: Read = match which {
+        0 => space0(input).map(|(rest, _)| (rest, ())),
+        1 => many0(one_of(" 　"))(input).map(|(rest, _)| (rest, ())),
+        2 => not_line_ending(input).map(|(rest, _)| (rest, ())),
+        _ => line_ending(input).map(|(rest, _)| (rest, ())),
+    };
+    read.map_or(vec![0, 0], |(rest, _)| vec![1, place + (input.len() - rest.len()) as u64])
+}
+
+fn digits(sample: &mut Sample) {
+    let mut texts: Vec<String> =
+        ["", "x", "-1", "+1", "７", "1", "12x", "0", "00", "007)", "255", "256", "254:", "0255", "0256"]
+            .map(String::from)
+            .to_vec();
+    for value in [9u128, 10, 99, 100, 199, 200, 249, 250, 260, 300, 999, 1000, u64::MAX as u128 - 1, u64::MAX as u128] {
+        texts.push(value.to_string());
+        texts.push(format!("{value:040}"));
+        texts.push(format!("{}x", value + 1));
+        texts.push(format!("{value}0"));
+    }
+    texts.extend(["9".repeat(40), "0".repeat(40), format!("{}1", "0".repeat(60)), "184467440737095516150".into()]);
+    for text in &texts {
+        let length = text.len() as u64;
+        for place in [0, 1, length, length + 1] {
+            for largest in [255, u64::MAX] {
+                sample.add_at(&[largest], place, text, |rest| digit(largest, text.len(), rest));
+            }
+        }
+    }
+}
+
+/// 0 for no digit, 1 for a value, 2 for too large; the value and the place after it.
+fn digit(largest: u64, length: usize, input: &str) -> Vec<u64> {
+    let read: IResult<&str, &str, VerboseError<&str>> = digit1(input);
+    let Ok((rest, figures)) = read else {
+        return vec![0, 0, 0];
+    };
+    // The original parses a u8 or a usize, by the type it needs.
+    let value = if largest == 255 { figures.parse::<u8>().map(u64::from) } else { figures.parse::<u64>() };
+    value.map_or(vec![2, 0, 0], |value| vec![1, value, (length - rest.len()) as u64])
+}
+
+fn names(sample: &mut Sample) {
+    let kinds = KINDS.iter().flat_map(|&kind| [show_kif::show_move_kind(kind), show::show_board_kind(kind)]);
+    let presets = PRESETS.iter().map(|&preset| shown_preset(preset));
+    let specials = SPECIALS.iter().map(|&special| shown_special(special));
+    let others = ["王", "竜", "先手", "後手", "下手", "上手", "不詰", "成", "", "x"].map(String::from);
+    let mut spellings: Vec<_> = kinds.chain(presets).chain(specials).chain(others).collect();
+    spellings.sort();
+    spellings.dedup();
+    for spelling in &spellings {
+        let mut half = spelling.clone();
+        half.pop();
+        for (text, place) in [(format!("{spelling}　 x"), 0), (format!("歩{spelling}"), 3), (half, 0)] {
+            (0..4).for_each(|table| name(sample, table, place, &text));
+        }
+    }
+    for place in [3, 4, u64::MAX] {
+        (0..4).for_each(|table| name(sample, table, place, "歩"));
+    }
+}
+
+fn name(sample: &mut Sample, table: u64, place: u64, text: &str) {
+    let length = text.len();
+    sample.add_at(&[table], place, text, |rest| match table {
+        0 => found(kakinoki::read_kind(rest), length, |kind| kind as u64 + 1),
+        1 => found(kif::read_special(rest), length, |special| special.unwrap() as u64),
+        2 => without_padding(found(kakinoki::read_preset(rest), length, |preset| preset as u64), text),
+        _ => found(kakinoki::read_side(rest), length, |side| side as u64),
+    });
+}
+
+/// The place after a preset's name; the original's goes past the padding too.
+fn without_padding(mut answer: Vec<u64>, text: &str) -> Vec<u64> {
+    answer[2] = text[..answer[2] as usize].trim_end_matches([' ', '　']).len() as u64;
+    answer
+}
+
+fn numerals(sample: &mut Sample) {
+    let figures = "一二三四五六七八九十〇１２３４５６７８９０百1";
+    for (at, figure) in figures.char_indices() {
+        for which in 0..2 {
+            numeral(sample, which, at as u64, figures);
+            numeral(sample, which, 0, &figure.to_string());
+        }
+    }
+    for place in [figures.len() as u64, figures.len() as u64 + 1, u64::MAX] {
+        (0..2).for_each(|which| numeral(sample, which, place, figures));
+    }
+}
+
+fn numeral(sample: &mut Sample, which: u64, place: u64, text: &str) {
+    let read = if which == 0 { kakinoki::read_kanji_digit } else { kakinoki::read_wide_digit };
+    sample.add_at(&[which], place, text, |rest| found(read(rest), text.len(), u64::from));
+}
+
+fn counts(sample: &mut Sample) {
+    let others = ["", "x", "一十", "一十一", "十十", "二十十", "九十九九", "一一", "百", "〇", "1", "１", "　二"]
+        .map(String::from);
+    for text in (1..100).map(show::show_count).chain(others) {
+        for text in [text.clone(), format!("{text}　")] {
+            count(sample, 0, &text);
+        }
+        count(sample, 3, &format!("歩{text}歩"));
+    }
+    for place in [3, 4, u64::MAX] {
+        count(sample, place, "十");
+    }
+}
+
+fn count(sample: &mut Sample, place: u64, text: &str) {
+    sample.add_at(&[], place, text, |rest| found(kakinoki::read_count(rest), text.len(), u64::from));
+}
+
+fn spellings(sample: &mut Sample) {
+    for table in 0..4 {
+        for number in (0..40).chain([255, 256, 257, 65_536, u64::MAX]) {
+            sample.add(&numbers(&[table, number]), spelling(table, number).unwrap_or_default().as_bytes());
+        }
+    }
+}
+
+/// How a table's number is written. Kinds are numbered from 1, specials and presets from 0.
+fn spelling(table: u64, number: u64) -> Option<String> {
+    let number = usize::try_from(number).ok()?;
+    match table {
+        0 => KINDS.get(number.checked_sub(1)?).map(|&kind| show_kif::show_move_kind(kind)),
+        1 => SPECIALS.get(number).map(|&special| shown_special(special)),
+        2 => PRESETS.get(number).map(|&preset| shown_preset(preset)),
+        _ => KINDS.get(number.checked_sub(1)?).map(|&kind| show::show_board_kind(kind)),
+    }
+}
+
+fn shown_preset(preset: crate::jkf::Preset) -> String {
+    let line = show::show_preset_line(preset);
+    line.trim_start_matches("手合割：").trim_end().into()
+}
+
+fn shown_special(special: MoveSpecial) -> String {
+    let line = show_kif::show_move_line(MoveFormat { special: Some(special), ..Default::default() });
+    line.trim_start_matches("   1 ").trim_end().into()
+}
+
+fn written_counts(sample: &mut Sample) {
+    for count in 0..100 {
+        sample.add(&numbers(&[count]), show::show_count(count as u8).as_bytes());
+    }
+}
+
+fn decimals(sample: &mut Sample) {
+    let powers = [1, 2, 3, 4, 5, 10, 19].into_iter().flat_map(|places| [10u64.pow(places) - 1, 10u64.pow(places)]);
+    let others = [0, 1, 5, 11, 59, 60, 254, 255, 256, 65_535, 65_536, 1 << 32, 1 << 63, u64::MAX - 1, u64::MAX];
+    for value in powers.chain(others) {
+        let forms = [format!("{value}"), format!("{value:2}"), format!("{value:02}"), format!("{value:4}")];
+        for (form, text) in iter::zip(0.., forms) {
+            for room in [0, text.len() - 1, text.len(), text.len() + 3] {
+                let fitting = if text.len() <= room { text.as_bytes() } else { b"" };
+                sample.add(&numbers(&[form, value, room as u64]), fitting);
+            }
+        }
+    }
+}
