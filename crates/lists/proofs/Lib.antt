@@ -1,3 +1,4 @@
 pub mod Laws
 pub mod Repeats
 pub mod Stand
+pub mod Tests

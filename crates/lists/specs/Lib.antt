@@ -1,2 +1,3 @@
 pub mod Pick
 pub mod Repeat
+pub mod Test

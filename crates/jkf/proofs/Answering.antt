@@ -1,0 +1,53 @@
+-- A number and two figures say one answer: the way back, so that no two answers have the same figures.
+-- Assumes nothing.
+use mathlib.Core.Path.{_≡_, refl, sym, ap, _∙_}
+use mathlib.Core.List.{[], _∷_}
+use lib.ListN.{getD}
+use Rattle.jkf.specs.declared.Answer.{Answer}
+use Rattle.jkf.specs.declared.Answer.the-variants.{Done, TextTooLong, NotUtf8, HandLine, BlockTooLong, BufferShort, NoEntry, NotSound, HandCount, CannotWrite, NoSuchPart, NotOneVariation, OutsideLine, EntryTaken, ParentChanges}
+use Rattle.jkf.specs.declared.Figures.{Figures}
+use Rattle.jkf.specs.Answers.{figures}
+
+-- The answers in the order of their numbers, with these figures; a number past them is taken for the refusal without any.
+abbrev pub answerOf : Figures → Answer
+answerOf r =
+    getD
+    (Done (r .first) (r .second)
+    ∷ TextTooLong (r .first)
+    ∷ NotUtf8 (r .first)
+    ∷ HandLine (r .first)
+    ∷ BlockTooLong (r .first)
+    ∷ BufferShort (r .first)
+    ∷ NoEntry (r .first) (r .second)
+    ∷ NotSound
+    ∷ HandCount (r .first) (r .second)
+    ∷ CannotWrite (r .first) (r .second)
+    ∷ NoSuchPart (r .first)
+    ∷ NotOneVariation
+    ∷ OutsideLine (r .first) (r .second)
+    ∷ EntryTaken (r .first) (r .second)
+    ∷ ParentChanges (r .first)
+    ∷ [])
+    (r .number)
+    NotSound
+
+pub back : (a : Answer) → answerOf (figures a) ≡ a
+unfolding figures
+back (Done x y) = refl
+back (TextTooLong x) = refl
+back (NotUtf8 x) = refl
+back (HandLine x) = refl
+back (BlockTooLong x) = refl
+back (BufferShort x) = refl
+back (NoEntry x y) = refl
+back NotSound = refl
+back (HandCount x y) = refl
+back (CannotWrite x y) = refl
+back (NoSuchPart x) = refl
+back NotOneVariation = refl
+back (OutsideLine x y) = refl
+back (EntryTaken x y) = refl
+back (ParentChanges x) = refl
+
+pub figures-one : (a b : Answer) → figures a ≡ figures b → a ≡ b
+figures-one a b e = sym (back a) ∙ ap answerOf e ∙ back b

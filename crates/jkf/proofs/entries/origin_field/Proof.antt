@@ -1,0 +1,22 @@
+-- Each arm's mark and bytes are those that `fromMark` and `originBytes` give that origin, and 1 is the larger mark.
+-- Assumes nothing.
+use native.Mathlib.Omega.{arith}
+use mathlib.Core.Path.{refl}
+use borrow.Author.Needs.{needs}
+use Rattle.jkf.proofs.entries.origin_field.Statement.{statement}
+use Rattle.jkf.proofs.entries.origin_field.Tie as tie
+
+enum-told : tie.Need-enum-told
+enum-told c = search needs
+
+enum-known-o : tie.Need-enum-known-o
+enum-known-o c = search needs
+
+returns : tie.Need-returns
+returns c = rw (c .enum-told .given .1) (refl, omega arith, refl)
+
+returns-2 : tie.Need-returns-2
+returns-2 c = rw (c .before .o .given .1) (refl, omega arith, refl)
+
+pub origin-field-spec : {M : Type 1} → statement M
+origin-field-spec = tie.close (tie.spec enum-told enum-known-o returns returns-2)

@@ -1,0 +1,27 @@
+-- What the calls answer: 01's number and two figures of each case.                                  (01, Numbers of refusal)
+-- Assumes nothing: these are definitions.
+use Prim.Native.Nat.{ℕ}
+use Rattle.jkf.specs.declared.Answer.{Answer}
+use Rattle.jkf.specs.declared.Answer.the-variants.{Done, TextTooLong, NotUtf8, HandLine, BlockTooLong, BufferShort, NoEntry, NotSound, HandCount, CannotWrite, NoSuchPart, NotOneVariation, OutsideLine, EntryTaken, ParentChanges}
+use Rattle.jkf.specs.declared.Figures.{Figures}
+
+abbrev pub figured : ℕ → ℕ → ℕ → Figures
+figured n a b = record { number = n; first = a; second = b }
+
+-- Success is 0 with two figures of its own; a refusal has its number in 01's table, and 0 for a figure that it does not have.
+unfoldable pub figures : Answer → Figures
+figures (Done a b) = figured 0 a b
+figures (TextTooLong length) = figured 1 length 0
+figures (NotUtf8 before) = figured 2 before 0
+figures (HandLine at) = figured 3 at 0
+figures (BlockTooLong needed) = figured 4 needed 0
+figures (BufferShort needed) = figured 5 needed 0
+figures (NoEntry variation ply) = figured 6 variation ply
+figures NotSound = figured 7 0 0
+figures (HandCount side kind) = figured 8 side kind
+figures (CannotWrite line entry) = figured 9 line entry
+figures (NoSuchPart number) = figured 10 number 0
+figures NotOneVariation = figured 11 0 0
+figures (OutsideLine line ply) = figured 12 line ply
+figures (EntryTaken line ply) = figured 13 line ply
+figures (ParentChanges line) = figured 14 line 0

@@ -1,0 +1,44 @@
+-- Where a variation hangs. The starts and entry counts of the lines are functions, so that the reader's table, a block's and a list's
+-- share the rule.                                                                                    (01, Attaching rule)
+-- Assumes nothing: these are definitions.
+use Prim.Native.Nat.{ℕ, zero, suc, _+_, _*_, _-_}
+use mathlib.Core.List.{List}
+use lib.Dec.{leb, ltb}
+use Rattle.lists.specs.Pick.{pick}
+use Rattle.lent.specs.Bytes.{le16}
+use Rattle.jkf.specs.declared.Hang.{Hang}
+use Rattle.jkf.specs.declared.Hang.the-variants.{On, Nowhere}
+
+-- The nearest of the k lines before whose start is at or below s; line 0 where none is.
+unfoldable pub near : (ℕ → ℕ) → ℕ → ℕ → ℕ
+near start s zero = 0
+near start s (suc j) = let r = near start s j in pick (leb (start j) s) j r
+
+-- On the line p with start t and n entries: the entry is the start less the line's, if there is that entry.
+abbrev pub hangOn : ℕ → ℕ → ℕ → ℕ → Hang
+hangOn s p t n = pick (leb t s) (pick (ltb (s - t) n) (On p (s - t)) Nowhere) Nowhere
+
+-- Where line k with start s hangs.
+unfoldable pub hangs : (ℕ → ℕ) → (ℕ → ℕ) → ℕ → ℕ → Hang
+hangs start count s k = hangOn s (near start s k) (start (near start s k)) (count (near start s k))
+
+abbrev pub onHang : {A : Type 0} → Hang → (ℕ → ℕ → A) → A → A
+onHang (On p e) f d = f p e
+onHang Nowhere f d = d
+
+-- All of n lines from k on hang, or the first that does not, with its start: refusal 6's figures.
+pub data Hung : Type 0 where
+  all : Hung
+  first : ℕ → ℕ → Hung
+
+unfoldable pub hungFrom : (ℕ → ℕ) → (ℕ → ℕ) → ℕ → ℕ → Hung
+hungFrom start count k zero = all
+hungFrom start count k (suc n) =
+    onHang (hangs start count (start k) k) (λ p e. hungFrom start count (k + 1) n) (first k (start k))
+
+-- A table of lines in lent memory: rows of eight bytes, start, first entry, entry count, parent.     (01, The block: line)
+abbrev pub startAt : List ℕ → ℕ → ℕ
+startAt lines k = le16 lines (8 * k)
+
+abbrev pub countAt : List ℕ → ℕ → ℕ
+countAt lines k = le16 lines (8 * k + 4)

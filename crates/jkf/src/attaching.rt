@@ -1,0 +1,53 @@
+// The attaching rule over a table of lines in lent memory: rows of eight bytes, start, first entry, entry count, parent.
+use crate::Hang;
+ghost use mathlib.Core.Path.{_≡_};
+ghost use Rattle.jkf.specs.Attaching.{near, hangs, startAt, countAt};
+
+// The start of line k; 0 past the table.
+fn start(lines: &[u8], k: usize) -> u64
+    ensures { λ r. ⌜ r ≡ startAt (now (lines .entry)) k ⌝ }
+{
+    if lines.len() / 8 < k {
+        return 0;
+    }
+    lent::get16(lines, 8 * k) as u64
+}
+
+// How many entries line k has; 0 past the table.
+fn count(lines: &[u8], k: usize) -> u64
+    ensures { λ r. ⌜ r ≡ countAt (now (lines .entry)) k ⌝ }
+{
+    if lines.len() / 8 < k {
+        return 0;
+    }
+    lent::get16(lines, 8 * k + 4) as u64
+}
+
+// The nearest of the k lines before whose start is at or below s.   (the Rust's merge_forks finds it by a stack)
+pub fn nearest(lines: &[u8], k: usize, s: u64) -> usize
+    ensures { λ r. ⌜ r ≡ near (startAt (now (lines .entry))) s k ⌝ }
+{
+    let mut j = k;
+    while 0 < j {
+        j -= 1;
+        if start(lines, j) <= s {
+            return j;
+        }
+    }
+    0
+}
+
+// Where a line that starts at s hangs, after k lines.   (the Rust's attach)
+pub fn attach(lines: &[u8], k: usize, s: u64) -> Hang
+    ensures { λ r. ⌜ r ≡ hangs (startAt (now (lines .entry))) (countAt (now (lines .entry))) s k ⌝ }
+{
+    let p = nearest(lines, k, s);
+    let t = start(lines, p);
+    if s < t {
+        return Hang::Nowhere;
+    }
+    if s - t < count(lines, p) {
+        return Hang::On(p as u64, s - t);
+    }
+    Hang::Nowhere
+}
