@@ -82,3 +82,10 @@ near-same st st′ s (suc k) f =
 pub hangs-made : (st n : ℕ → ℕ) (s k p t m : ℕ) → p ≡ near st s k → t ≡ st p → m ≡ n p → hangs st n s k ≡ hangOn s p t m
 unfolding hangs
 hangs-made st n s k p t m e₁ e₂ e₃ = cc
+
+-- lines that start alike and have as many entries hang alike
+pub hangs-same : (st st′ ct ct′ : ℕ → ℕ) → ((j : ℕ) → st j ≡ st′ j) → ((j : ℕ) → ct j ≡ ct′ j) → (s k : ℕ) → hangs st ct s k ≡ hangs st′ ct′ s k
+unfolding hangs
+hangs-same st st′ ct ct′ h g s k =
+    ap (λ (p : ℕ). hangOn s p (st p) (ct p)) (near-same st st′ s k (λ j l. h j)) ∙ ap (λ (t : ℕ). hangOn s (near st′ s k) t (ct (near st′ s k))) (h (near st′ s k))
+    ∙ ap (hangOn s (near st′ s k) (st′ (near st′ s k))) (g (near st′ s k))

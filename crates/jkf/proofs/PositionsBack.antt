@@ -1,6 +1,7 @@
 -- A position's 100 bytes say the position, whatever follows them.
 --     position-back     what is read is the position that was written
 --     position-length   there are 100 bytes
+--     bytes-part        bytes at a place are a part of the list
 -- Assumes nothing.
 use Prim.Native.Nat.{ℕ, zero, suc, _+_, _≤_}
 use native.Mathlib.Omega.{arith}
@@ -14,7 +15,7 @@ use Rattle.jkf.specs.declared.Position.{Position}
 use Rattle.jkf.specs.Positions.{positionBytes, bytesAt, positionIn}
 
 -- within a list the bytes at a place are a part of it
-bytes-part : (l : List ℕ) (at n : ℕ) → at + n ≤ length l → bytesAt l at n ≡ take n (drop at l)
+pub bytes-part : (l : List ℕ) (at n : ℕ) → at + n ≤ length l → bytesAt l at n ≡ take n (drop at l)
 unfolding bytesAt
 bytes-part l at zero h = refl
 bytes-part l at (suc n) h =

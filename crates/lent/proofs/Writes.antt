@@ -69,6 +69,10 @@ wrote-length {t} {o} {o′} {n} w =
 pub wrote-front : {t o o′ : List ℕ} {n : ℕ} → Wrote t o o′ n → take n o′ ≡ t
 wrote-front {t} {o} {n = n} w = rw (w .bytes) (take-at t (drop n o) n (sym (w .count)))
 
+-- a text that fills the buffer is all that it holds
+pub wrote-whole : {t o o′ : List ℕ} {n : ℕ} → Wrote t o o′ n → length o ≡ length t → o′ ≡ t
+wrote-whole {t} {o} {o′} {n} w e = w .bytes ∙ ap (λ (l : List ℕ). t ++ l) (drop-of-length-le o {i = n} (omega (arith, w .count))) ∙ append-nil t
+
 -- ---- one after another
 
 -- a part that begins at n and runs to the end, and the whole when it is back

@@ -60,3 +60,13 @@ answers (atMost a b) h = le-leb a b h
 answers (holds t) h = h
 answers (both s t) h = rw (answers s (h .0), answers t (h .1))
 answers (each n f) h = all-of (λ k. flag (f k)) n (λ k l. answers (f k) (h k l))
+
+-- ---- one test after another
+
+-- the first passed, so the second decides
+pub goes : (s t : Test) → flag s ≡ true → flag (both s t) ≡ flag t
+goes s t h = rw h
+
+-- the first failed
+pub fails : (s t : Test) → flag s ≡ false → flag (both s t) ≡ false
+fails s t h = rw h

@@ -1,15 +1,17 @@
 // Replays recorded requests, and prints how many of the recorded answers the library gives, by kind.
 // A record is its kind, the lengths of request and answer (four bytes each, low byte first), request and answer.
+mod blocks;
 mod leaves;
 mod request;
 
 use libc::STDOUT_FILENO;
 ghost use Prim.Native.Nat.{_≤_};
+ghost use lib.ListN.{length};
 
 // How many records of each kind there were, and in how many the answers agreed. The last place is for unknown kinds.
 pub struct Tally {
-    pub asked: [u64; 10],
-    pub agreed: [u64; 10],
+    pub asked: [u64; 12],
+    pub agreed: [u64; 12],
 }
 
 // Whether to go on, and the tally so far.
@@ -20,7 +22,7 @@ pub struct Turn {
 
 impl Tally {
     fn counted(mut self, kind: usize, agrees: bool) -> Tally {
-        if 9 < kind {
+        if 11 < kind {
             return self;
         }
         self.asked[kind] = std::num::wrapping_add_u64(self.asked[kind], 1);
@@ -43,7 +45,9 @@ fn place_of(kind: u8) -> usize {
         b'w' => 6,
         b'c' => 7,
         b'f' => 8,
-        _ => 9,
+        b's' => 9,
+        b'l' => 10,
+        _ => 11,
     }
 }
 
@@ -59,15 +63,28 @@ fn print_name(place: usize) {
         6 => io::write_all(STDOUT_FILENO, b"spellings written"),
         7 => io::write_all(STDOUT_FILENO, b"hand counts written"),
         8 => io::write_all(STDOUT_FILENO, b"numbers written"),
+        9 => io::write_all(STDOUT_FILENO, b"blocks, sound or not"),
+        10 => io::write_all(STDOUT_FILENO, b"look-ups"),
         _ => io::write_all(STDOUT_FILENO, b"of unknown kind"),
     }
     ;
 }
 
+// Fills the front of out with the library's answer to a request, and answers how many bytes it has.
+fn respond(kind: u8, request: &[u8], out: &mut [u8]) -> usize
+    ensures { λ r. ⌜ r ≤ length (now (out .entry)) ⌝ }
+{
+    match kind {
+        b's' => blocks::sound(request, out),
+        b'l' => blocks::look_up(request, out),
+        _ => leaves::answer(kind, request, out),
+    }
+}
+
 // Whether the library's answer to a request is the recorded one.
 fn agrees(kind: u8, request: &[u8], answer: &[u8]) -> bool {
-    let mut out = [0u8; 64];
-    let n = leaves::answer(kind, request, &mut out);
+    let mut out = [0u8; 2048];
+    let n = respond(kind, request, &mut out);
     check::same(&out[..n], answer)
 }
 
@@ -117,8 +134,8 @@ fn replay_next(fd: i32, tally: Tally) -> Turn {
 // A proved loop has to end, and nothing says that a file does: the turns are counted down from a number that no run uses up.
 fn replay_all(fd: i32) -> Tally {
     let mut tally = Tally {
-        asked: [0u64; 10],
-        agreed: [0u64; 10],
+        asked: [0u64; 12],
+        agreed: [0u64; 12],
     };
     let mut turns = u64::MAX;
     while turns > 0 {
@@ -143,7 +160,7 @@ fn print_line(place: usize, agreed: u64, asked: u64) {
 }
 
 fn print_tally(tally: Tally) {
-    for i in 0..10 {
+    for i in 0..12 {
         print_line(i, tally.agreed[i], tally.asked[i]);
     }
 }

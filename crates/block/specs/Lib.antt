@@ -1,0 +1,6 @@
+pub mod Model
+pub mod Encode
+pub mod Decode
+pub mod Sound
+pub mod Formed
+pub mod Look

@@ -1,0 +1,215 @@
+// The tests of a sound block's position, lines and entries.
+use crate::fields;
+use crate::texts;
+use jkf::Entry;
+use jkf::Hang;
+use jkf::Position;
+ghost use mathlib.Core.Path.{_≡_};
+ghost use Prim.Native.Nat.{_+_, _<_};
+ghost use lib.ListN.{length, take, getD};
+ghost use Rattle.lists.specs.Test.{equals, holds, each, flag};
+ghost use Rattle.jkf.specs.Entries.{entryBytes};
+ghost use Rattle.block.specs.Decode.{linesIn, movesIn, startOf, entryCount, parentOf};
+ghost use Rattle.block.specs.Sound.{same, isCell, diagramTest, fitsTest, positionTest, hangTest, lineTest, entriesBefore, kindTest, entryTest, commentsBefore};
+
+fn all_zero(s: &[u8]) -> bool
+    ensures { λ r. ⌜ r ≡ flag (each (length (now (s .entry))) (λ i. equals (getD (now (s .entry)) i 0) 0)) ⌝ }
+{
+    let mut i = 0;
+    while i < s.len() {
+        if s[i] != 0 {
+            return false;
+        }
+        i += 1;
+    }
+    true
+}
+
+fn is_cell(c: u8) -> bool
+    ensures { λ r. ⌜ r ≡ isCell c ⌝ }
+{
+    if c <= 14 {
+        return true;
+    }
+    if 17 <= c {
+        return c <= 30;
+    }
+    false
+}
+
+fn all_cells(s: &[u8]) -> bool
+    ensures { λ r. ⌜ r ≡ flag (each (length (now (s .entry))) (λ i. holds (isCell (getD (now (s .entry)) i 0)))) ⌝ }
+{
+    let mut i = 0;
+    while i < s.len() {
+        if !is_cell(s[i]) {
+            return false;
+        }
+        i += 1;
+    }
+    true
+}
+
+// Without a diagram turn, cells and counts are zero; with one the preset is 16.
+fn diagram_sound(p: Position) -> bool
+    ensures { λ r. ⌜ r ≡ flag (diagramTest p) ⌝ }
+{
+    let cells = p.cells;
+    let hands = p.hands;
+    if p.board != 0 {
+        return p.preset == 16;
+    }
+    if p.turn != 0 {
+        return false;
+    }
+    if !all_zero(&cells) {
+        return false;
+    }
+    all_zero(&hands)
+}
+
+fn position_fits(p: Position) -> bool
+    ensures { λ r. ⌜ r ≡ flag (fitsTest p) ⌝ }
+{
+    let cells = p.cells;
+    if 16 < p.preset {
+        return false;
+    }
+    if 1 < p.board {
+        return false;
+    }
+    if 1 < p.turn {
+        return false;
+    }
+    if !all_cells(&cells) {
+        return false;
+    }
+    diagram_sound(p)
+}
+
+pub(crate) fn position_sound(b: &[u8]) -> bool
+    ensures { λ r. ⌜ r ≡ flag (positionTest (now (b .entry))) ⌝ }
+{
+    if lent::peek(b, 31) != 0 {
+        return false;
+    }
+    if lent::peek(b, 127) != 0 {
+        return false;
+    }
+    position_fits(jkf::position_in(texts::rest(b, 28)))
+}
+
+// Line 0 starts at 0 and has no parent; any other hangs where the attaching rule says.
+fn hangs_right(b: &[u8], k: usize) -> bool
+    requires { ⌜ k < 65536 ⌝ }
+    ensures { λ r. ⌜ r ≡ flag (hangTest (startOf (now (b .entry))) (entryCount (now (b .entry))) (parentOf (now (b .entry))) k) ⌝ }
+{
+    if k == 0 {
+        if fields::start_of(b, 0) != 0 {
+            return false;
+        }
+        return fields::parent_of(b, 0) == 0;
+    }
+    let table = texts::rest(b, fields::line_place(b, 0));
+    let Hang::On(p, _) = jkf::attach(table, k, fields::start_of(b, k) as u64) else {
+        return false;
+    };
+    fields::parent_of(b, k) as u64 == p
+}
+
+// Line k, whose entries begin with this one.
+fn line_sound(b: &[u8], k: usize, first: usize) -> bool
+    requires { ⌜ (k < 65536) × (first ≡ entriesBefore (now b) k) ⌝ }
+    ensures { λ r. ⌜ r ≡ flag (lineTest (now (b .entry)) k) ⌝ }
+{
+    if fields::first_entry(b, k) != first {
+        return false;
+    }
+    if fields::entry_count(b, k) < 1 {
+        return false;
+    }
+    hangs_right(b, k)
+}
+
+pub(crate) fn lines_sound(b: &[u8]) -> bool
+    ensures { λ r. ⌜ r ≡ flag (each (linesIn (now (b .entry))) (lineTest (now (b .entry)))) ⌝ }
+{
+    let n = fields::lines(b);
+    let mut at = 0;
+    let mut k = 0;
+    while k < n {
+        if !line_sound(b, k, at) {
+            return false;
+        }
+        at += fields::entry_count(b, k);
+        k += 1;
+    }
+    true
+}
+
+// The slot is the first entry and no other; a move's colour, kind and promotion are in range.
+fn kind_sound(k: usize, e: Entry) -> bool
+    ensures { λ r. ⌜ r ≡ flag (kindTest k e) ⌝ }
+{
+    match e {
+        Entry::Slot => k == 0,
+        Entry::Play(m) => {
+            if k < 1 {
+                return false;
+            }
+            if 1 < m.color {
+                return false;
+            }
+            if m.piece < 1 {
+                return false;
+            }
+            if 14 < m.piece {
+                return false;
+            }
+            m.promote <= 2
+        }
+        Entry::End(_, _) => 1 <= k,
+    }
+}
+
+// The first 20 bytes are those of an entry.
+fn is_entry(row: &[u8], e: Entry, first: usize, count: usize) -> bool
+    ensures { λ r. ⌜ r ≡ same (take 20 (now (row .entry))) (entryBytes e first count) ⌝ }
+{
+    let mut made = [0u8; 20];
+    jkf::put_entry(&mut made, e, first, count);
+    texts::is_same(texts::front(row, 20), &made)
+}
+
+// Entry k, whose comments begin with this one.
+fn entry_sound(b: &[u8], k: usize, next: usize) -> bool
+    requires { ⌜ (k < 65536) × (next ≡ commentsBefore (now b) k) ⌝ }
+    ensures { λ r. ⌜ r ≡ flag (entryTest (now (b .entry)) k) ⌝ }
+{
+    let row = texts::rest(b, fields::move_place(b, k));
+    let e = jkf::entry_in(row);
+    if !kind_sound(k, e) {
+        return false;
+    }
+    let n = fields::comment_count(b, k);
+    if n == 0 {
+        return is_entry(row, e, 0, 0);
+    }
+    is_entry(row, e, next, n)
+}
+
+pub(crate) fn entries_sound(b: &[u8]) -> bool
+    ensures { λ r. ⌜ r ≡ flag (each (movesIn (now (b .entry))) (entryTest (now (b .entry)))) ⌝ }
+{
+    let n = fields::moves(b);
+    let mut at = 0;
+    let mut k = 0;
+    while k < n {
+        if !entry_sound(b, k, at) {
+            return false;
+        }
+        at += fields::comment_count(b, k);
+        k += 1;
+    }
+    true
+}

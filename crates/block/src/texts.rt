@@ -1,0 +1,114 @@
+// Texts of a block: whether one is valid, and which of two comes first.
+use crate::fields;
+ghost use mathlib.Core.Path.{_≡_};
+ghost use Prim.Native.Nat.{_<_};
+ghost use lib.ListN.{take, drop};
+ghost use Rattle.lists.specs.Test.{flag};
+ghost use Rattle.block.specs.Decode.{textAt, keyOf, valueOf, commentOf};
+ghost use Rattle.block.specs.Sound.{valid, before, same};
+
+// The part of the block that holds a text; what would lie past the end is left out.
+pub(crate) fn text_of(b: &[u8], offset: usize, len: usize) -> &[u8]
+    requires { ⌜ offset < 1000000000000 ⌝ }
+    ensures { λ r. ⌜ now r ≡ textAt (now (b .entry)) offset len ⌝ }
+{
+    let at = fields::text_place(b) + offset;
+    if b.len() <= at {
+        return &b[b.len()..];
+    }
+    if b.len() - at <= len {
+        return &b[at..];
+    }
+    &b[at..at + len]
+}
+
+// The key of header entry k.
+pub(crate) fn key_of(b: &[u8], k: usize) -> &[u8]
+    requires { ⌜ k < 65536 ⌝ }
+    ensures { λ r. ⌜ now r ≡ keyOf (now (b .entry)) k ⌝ }
+{
+    text_of(b, fields::key_offset(b, k), fields::key_length(b, k))
+}
+
+// Its value.
+pub(crate) fn value_of(b: &[u8], k: usize) -> &[u8]
+    requires { ⌜ k < 65536 ⌝ }
+    ensures { λ r. ⌜ now r ≡ valueOf (now (b .entry)) k ⌝ }
+{
+    text_of(b, fields::value_offset(b, k), fields::value_length(b, k))
+}
+
+// Comment k.
+pub(crate) fn comment_of(b: &[u8], k: usize) -> &[u8]
+    requires { ⌜ k < 65536 ⌝ }
+    ensures { λ r. ⌜ now r ≡ commentOf (now (b .entry)) k ⌝ }
+{
+    text_of(
+        b,
+        fields::comment_offset(b, k),
+        fields::comment_length(b, k),
+    )
+}
+
+pub(crate) fn is_valid(t: &[u8]) -> bool
+    ensures { λ r. ⌜ r ≡ flag (valid (now (t .entry))) ⌝ }
+{
+    text::well_formed(t) == t.len()
+}
+
+// Whether one text comes before another by bytes.
+pub(crate) fn is_before(a: &[u8], b: &[u8]) -> bool
+    ensures { λ r. ⌜ r ≡ before (now (a .entry)) (now (b .entry)) ⌝ }
+{
+    let mut i = 0;
+    while i < b.len() {
+        if a.len() <= i {
+            return true;
+        }
+        if a[i] < b[i] {
+            return true;
+        }
+        if b[i] < a[i] {
+            return false;
+        }
+        i += 1;
+    }
+    false
+}
+
+// Whether two texts have the same bytes.
+pub(crate) fn is_same(a: &[u8], b: &[u8]) -> bool
+    ensures { λ r. ⌜ r ≡ same (now (a .entry)) (now (b .entry)) ⌝ }
+{
+    if a.len() != b.len() {
+        return false;
+    }
+    let mut i = 0;
+    while i < a.len() {
+        if a[i] != b[i] {
+            return false;
+        }
+        i += 1;
+    }
+    true
+}
+
+// What stands from a place on.
+pub(crate) fn rest(b: &[u8], at: usize) -> &[u8]
+    ensures { λ r. ⌜ now r ≡ drop at (now (b .entry)) ⌝ }
+{
+    if b.len() <= at {
+        return &b[b.len()..];
+    }
+    &b[at..]
+}
+
+// The first n bytes, or all where there are fewer.
+pub(crate) fn front(s: &[u8], n: usize) -> &[u8]
+    ensures { λ r. ⌜ now r ≡ take n (now (s .entry)) ⌝ }
+{
+    if s.len() <= n {
+        return s;
+    }
+    &s[..n]
+}

@@ -1,0 +1,49 @@
+// The C surface: the library's calls under fixed names. A slice is a pointer and a length, a lent number a pointer.
+ghost use mathlib.Core.Path.{_≡_};
+ghost use Rattle.block.specs.Decode.{headersIn, commentsIn, keyOffset, keyLength, valueOffset, valueLength, commentOffset, commentLength};
+ghost use Rattle.block.specs.Sound.{soundb};
+ghost use Rattle.block.specs.Look.{lookAnswer, Told};
+
+// Whether a slice is just a sound block.
+#[no_mangle]
+pub extern "C" fn kif_sound(block: &[u8]) -> bool
+    ensures { λ r. ⌜ r ≡ soundb (now (block .entry)) ⌝ }
+{
+    block::sound(block)
+}
+
+// Where comment k of a block stands, and how long it is.
+#[no_mangle]
+pub extern "C" fn kif_comment(
+    block: &[u8],
+    k: u64,
+    number: &mut u64,
+    first: &mut u64,
+    second: &mut u64,
+)
+    ensures { λ _. ⌜ Told (lookAnswer (now (block .entry)) (commentsIn (now (block .entry))) k (commentOffset (now (block .entry)) k) (commentLength (now (block .entry)) k)) (now (number .exit)) (now (first .exit)) (now (second .exit)) ⌝ }
+{
+    block::comment(block, k, number, first, second);
+}
+
+// Where the key of header entry k stands, and how long it is.
+#[no_mangle]
+pub extern "C" fn kif_key(block: &[u8], k: u64, number: &mut u64, first: &mut u64, second: &mut u64)
+    ensures { λ _. ⌜ Told (lookAnswer (now (block .entry)) (headersIn (now (block .entry))) k (keyOffset (now (block .entry)) k) (keyLength (now (block .entry)) k)) (now (number .exit)) (now (first .exit)) (now (second .exit)) ⌝ }
+{
+    block::key(block, k, number, first, second);
+}
+
+// Where its value stands, and how long it is.
+#[no_mangle]
+pub extern "C" fn kif_value(
+    block: &[u8],
+    k: u64,
+    number: &mut u64,
+    first: &mut u64,
+    second: &mut u64,
+)
+    ensures { λ _. ⌜ Told (lookAnswer (now (block .entry)) (headersIn (now (block .entry))) k (valueOffset (now (block .entry)) k) (valueLength (now (block .entry)) k)) (now (number .exit)) (now (first .exit)) (now (second .exit)) ⌝ }
+{
+    block::value(block, k, number, first, second);
+}

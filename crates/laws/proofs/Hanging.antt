@@ -1,0 +1,112 @@
+-- What the attaching rule says of a line that hangs where it should: its parent stands before it, and it starts no later than all entries
+-- before it are many. And the rule looks at the lines up to the line itself only.
+-- Assumes nothing.
+use Prim.Native.Nat.{ℕ, zero, suc, _-_, _≤_, _<_}
+use native.Mathlib.Omega.{arith}
+use native.Mathlib.Decide.{decLt}
+use mathlib.Core.Path.{_≡_, refl, sym, ap, _∙_, subst}
+use mathlib.Core.Bool.{Bool, true, false, false≢true}
+use lib.Dec.{eqb, leb, ltb}
+use borrow.Author.Tests.{eqb-true, eqb-false, leb-true, ltb-true, ne-eqb}
+use Rattle.lists.specs.Pick.{pick}
+use Rattle.lists.specs.Test.{equals, both, flag, claim}
+use Rattle.lists.proofs.Tests.{says}
+use Rattle.jkf.specs.Attaching.{near, hangOn, hangs, onHang}
+use Rattle.jkf.specs.declared.Hang.the-variants.{On, Nowhere}
+use Rattle.block.specs.Sound.{sum, hangTest}
+use Rattle.jkf.proofs.Nears.{near-before, near-same}
+use Rattle.block.proofs.Sums.{sum-within}
+
+-- ---- where a line hangs
+
+-- on line p, with start t and n entries
+on-line : (s p t n q : ℕ) → onHang (hangOn s p t n) (λ p e. eqb q p) false ≡ true → (q ≡ p) × (t ≤ s) × (s - t < n)
+on-line s p t n q h = go (leb t s) refl (ltb (s - t) n) refl h
+  where
+    go : (x : Bool) → leb t s ≡ x → (y : Bool) → ltb (s - t) n ≡ y
+        → onHang (pick x (pick y (On p (s - t)) Nowhere) Nowhere) (λ p e. eqb q p) false ≡ true → (q ≡ p) × (t ≤ s) × (s - t < n)
+    go true e true e′ h = (eqb-true q p h, leb-true t s e, ltb-true (s - t) n e′)
+    go true e false e′ h = absurd (false≢true h)
+    go false e y e′ h = absurd (false≢true h)
+
+pub record Hung (start count parent : ℕ → ℕ) (k : ℕ) : Type 0 where
+  pub on : parent k ≡ near start (start k) k
+  pub from : start (near start (start k) k) ≤ start k
+  pub within : start k - start (near start (start k) k) < count (near start (start k) k)
+
+module _ (start count parent : ℕ → ℕ) where
+  pub hang-first : claim (hangTest start count parent 0) → (start 0 ≡ 0) × (parent 0 ≡ 0)
+  hang-first h = says (both (equals (start 0) 0) (equals (parent 0) 0)) h
+
+  pub hang-says : (k : ℕ) → 0 < k → claim (hangTest start count parent k) → Hung start count parent k
+  unfolding hangs
+  hang-says k h c =
+      let p = near start (start k) k in
+      let z : eqb k 0 ≡ false = ne-eqb k 0 (λ e. omega arith) in
+      let t = flag (both (equals (start 0) 0) (equals (parent 0) 0)) in
+      let e : pick (eqb k 0) t (onHang (hangs start count (start k) k) (λ p e. eqb (parent k) p) false)
+      ≡ onHang (hangs start count (start k) k) (λ p e. eqb (parent k) p) false = ap (λ (u : Bool). pick u t (onHang (hangs start count (start k) k) (λ p e. eqb (parent k) p) false)) z in
+      let (a, b, d) = on-line (start k) p (start p) (count p) (parent k) (sym e ∙ c) in
+      record { on = a; from = b; within = d }
+
+  -- a line starts no later than the entries before it are many
+  module _ (n : ℕ) (hang : (k : ℕ) → k < n → claim (hangTest start count parent k)) where
+    low : (m k : ℕ) → k < m → k < n → start k ≤ sum count k
+    low zero k h l = absurd (omega arith)
+    low (suc m) k h l = go (decLt 0 k) (low m)
+      where
+        go : Dec (0 < k) → ((j : ℕ) → j < m → j < n → start j ≤ sum count j) → start k ≤ sum count k
+        go (yes z) ih =
+            let g = hang-says k z (hang k l) in
+            let p = near start (start k) k in
+            let b = near-before start (start k) k z in
+            omega (arith, g .from, g .within, ih p (omega arith) (omega arith), sum-within count p k b)
+        go (no z) ih =
+            let e : k ≡ 0 = omega arith in
+            let c : start 0 ≡ 0 = hang-first (hang 0 (omega arith)) .0 in
+            subst (λ (j : ℕ). start j ≤ sum count j) (sym e) (omega arith)
+
+    pub start-low : (k : ℕ) → k < n → start k ≤ sum count k
+    start-low k l = low (suc k) k (omega arith) l
+
+    pub parent-low : (k : ℕ) → k < n → parent k ≤ k
+    parent-low k l = go (decLt 0 k)
+      where
+        go : Dec (0 < k) → parent k ≤ k
+        go (yes z) = omega (arith, hang-says k z (hang k l) .on, near-before start (start k) k z)
+        go (no z) =
+            let e : k ≡ 0 = omega arith in
+            let c : parent 0 ≡ 0 = hang-first (hang 0 (omega arith)) .1 in
+            subst (λ (j : ℕ). parent j ≤ j) (sym e) (omega arith)
+
+-- ---- the rule looks at the lines up to the line itself only
+
+same-line : (s s′ p p′ t t′ n n′ q q′ : ℕ) → s ≡ s′ → p ≡ p′ → t ≡ t′ → n ≡ n′ → q ≡ q′
+    → onHang (hangOn s p t n) (λ p e. eqb q p) false ≡ true → onHang (hangOn s′ p′ t′ n′) (λ p e. eqb q′ p) false ≡ true
+same-line s s′ p p′ t t′ n n′ q q′ e₁ e₂ e₃ e₄ e₅ h = rw (← e₁, ← e₂, ← e₃, ← e₄, ← e₅) h
+
+-- a test by whether k is zero
+zero-or : (k : ℕ) (x y x′ y′ : Bool) → (x ≡ true → x′ ≡ true) → (0 < k → y ≡ true → y′ ≡ true) → pick (eqb k 0) x y ≡ true → pick (eqb k 0) x′ y′ ≡ true
+zero-or k x y x′ y′ f g h = go (eqb k 0) refl h
+  where
+    go : (t : Bool) → eqb k 0 ≡ t → pick t x y ≡ true → pick t x′ y′ ≡ true
+    go true e h = f h
+    go false e h = let z : k ≡ 0 → ⊥ = eqb-false k 0 e in g (omega arith) h
+
+module _ (f g c d p q : ℕ → ℕ) (k : ℕ) (e₁ : (j : ℕ) → j ≤ k → f j ≡ g j) (e₂ : (j : ℕ) → j ≤ k → c j ≡ d j) (e₃ : (j : ℕ) → j ≤ k → p j ≡ q j) where
+  first-same : flag (both (equals (f 0) 0) (equals (p 0) 0)) ≡ true → flag (both (equals (g 0) 0) (equals (q 0) 0)) ≡ true
+  first-same h = rw (← e₁ 0 (omega arith), ← e₃ 0 (omega arith)) h
+
+  later-same : 0 < k → onHang (hangs f c (f k) k) (λ i e. eqb (p k) i) false ≡ true → onHang (hangs g d (g k) k) (λ i e. eqb (q k) i) false ≡ true
+  unfolding hangs
+  later-same z h =
+      let m = near f (f k) k in
+      let l : m ≤ k = omega (arith, near-before f (f k) k z) in
+      let e : m ≡ near g (g k) k = near-same f g (f k) k (λ j b. e₁ j (omega arith)) ∙ ap (λ (s : ℕ). near g s k) (e₁ k (omega arith)) in
+      same-line (f k) (g k) m (near g (g k) k) (f m) (g (near g (g k) k)) (c m) (d (near g (g k) k)) (p k) (q k) (e₁ k (omega arith)) e (e₁ m l ∙ ap g e) (e₂ m l ∙ ap d e)
+      (e₃ k (omega arith)) h
+
+  pub hang-same : claim (hangTest f c p k) → claim (hangTest g d q k)
+  hang-same h =
+      zero-or k (flag (both (equals (f 0) 0) (equals (p 0) 0))) (onHang (hangs f c (f k) k) (λ i e. eqb (p k) i) false)
+      (flag (both (equals (g 0) 0) (equals (q 0) 0))) (onHang (hangs g d (g k) k) (λ i e. eqb (q k) i) false) first-same later-same h

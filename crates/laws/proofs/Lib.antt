@@ -1,0 +1,12 @@
+pub mod Deciding
+pub mod Tables
+pub mod Parts
+pub mod Rows
+pub mod Lengths
+pub mod Positions
+pub mod Held
+pub mod Encoded
+pub mod Fields
+pub mod Hanging
+pub mod Decoded
+pub mod Made
