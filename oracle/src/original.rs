@@ -60,6 +60,11 @@ pub mod parser {
         pub fn read_special(input: &str) -> IResult<&str, Option<MoveSpecial>, VerboseError<&str>> {
             map(move_special, |entry| entry.special)(input)
         }
+
+        /// The number printed on a move line, and its entry.
+        pub fn read_move_line(input: &str) -> IResult<&str, (usize, MoveFormat), VerboseError<&str>> {
+            move_line(input)
+        }
     }
 }
 

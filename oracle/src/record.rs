@@ -182,7 +182,7 @@ fn position_bytes(position: &Position) -> [u8; 100] {
 }
 
 /// The sixteen bytes of an entry before its comments.
-fn entry_bytes(entry: &Entry) -> [u8; 16] {
+pub fn entry_bytes(entry: &Entry) -> [u8; 16] {
     let mut bytes = [0; 16];
     match &entry.what {
         What::Slot => {}

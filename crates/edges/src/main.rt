@@ -59,6 +59,7 @@ fn reads_nothing(s: &[u8], at: usize)
     check::expect(is_absent(c.line_ending(s)));
     check::expect(is_absent(c.tag(s, b"x")));
     check::expect(!is_value(c.digits(s, 255)));
+    check::expect(is_absent(c.character(s)));
 }
 
 // And by the tables.

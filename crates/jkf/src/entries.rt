@@ -191,7 +191,8 @@ pub fn put_entry(out: &mut [u8], e: Entry, first: usize, count: usize) -> usize
     put_parts(out, e, first, count)
 }
 
-fn special_of(n: u8) -> Special
+// The ending with a number, in the Rust's order.
+pub fn special_of(n: u8) -> Special
     ensures { λ r. ⌜ r ≡ specialOf n ⌝ }
 {
     match n {

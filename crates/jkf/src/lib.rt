@@ -7,6 +7,7 @@ pub use attaching::attach;
 pub use attaching::nearest;
 pub use entries::entry_in;
 pub use entries::put_entry;
+pub use entries::special_of;
 pub use positions::position_in;
 pub use positions::put_position;
 ghost use mathlib.Core.Path.{_≡_};

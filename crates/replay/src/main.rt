@@ -2,6 +2,7 @@
 // A record is its kind, the lengths of request and answer (four bytes each, low byte first), request and answer.
 mod blocks;
 mod leaves;
+mod lines;
 mod request;
 
 use libc::STDOUT_FILENO;
@@ -10,8 +11,8 @@ ghost use lib.ListN.{length};
 
 // How many records of each kind there were, and in how many the answers agreed. The last place is for unknown kinds.
 pub struct Tally {
-    pub asked: [u64; 12],
-    pub agreed: [u64; 12],
+    pub asked: [u64; 13],
+    pub agreed: [u64; 13],
 }
 
 // Whether to go on, and the tally so far.
@@ -22,7 +23,7 @@ pub struct Turn {
 
 impl Tally {
     fn counted(mut self, kind: usize, agrees: bool) -> Tally {
-        if 11 < kind {
+        if 12 < kind {
             return self;
         }
         self.asked[kind] = std::num::wrapping_add_u64(self.asked[kind], 1);
@@ -47,7 +48,8 @@ fn place_of(kind: u8) -> usize {
         b'f' => 8,
         b's' => 9,
         b'l' => 10,
-        _ => 11,
+        b'm' => 11,
+        _ => 12,
     }
 }
 
@@ -65,6 +67,7 @@ fn print_name(place: usize) {
         8 => io::write_all(STDOUT_FILENO, b"numbers written"),
         9 => io::write_all(STDOUT_FILENO, b"blocks, sound or not"),
         10 => io::write_all(STDOUT_FILENO, b"look-ups"),
+        11 => io::write_all(STDOUT_FILENO, b"move lines"),
         _ => io::write_all(STDOUT_FILENO, b"of unknown kind"),
     }
     ;
@@ -77,6 +80,7 @@ fn respond(kind: u8, request: &[u8], out: &mut [u8]) -> usize
     match kind {
         b's' => blocks::sound(request, out),
         b'l' => blocks::look_up(request, out),
+        b'm' => lines::move_line(request, out),
         _ => leaves::answer(kind, request, out),
     }
 }
@@ -134,8 +138,8 @@ fn replay_next(fd: i32, tally: Tally) -> Turn {
 // A proved loop has to end, and nothing says that a file does: the turns are counted down from a number that no run uses up.
 fn replay_all(fd: i32) -> Tally {
     let mut tally = Tally {
-        asked: [0u64; 12],
-        agreed: [0u64; 12],
+        asked: [0u64; 13],
+        agreed: [0u64; 13],
     };
     let mut turns = u64::MAX;
     while turns > 0 {
@@ -160,7 +164,7 @@ fn print_line(place: usize, agreed: u64, asked: u64) {
 }
 
 fn print_tally(tally: Tally) {
-    for i in 0..12 {
+    for i in 0..13 {
         print_line(i, tally.agreed[i], tally.asked[i]);
     }
 }

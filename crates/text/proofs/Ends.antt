@@ -6,8 +6,9 @@ use mathlib.Core.Path.{_≡_, refl}
 use mathlib.Core.List.{List}
 use mathlib.Core.Bool.{false}
 use lib.ListN.{length, getD, List·getD-eq-default}
-use borrow.Author.Tests.{eq-eqb}
+use borrow.Author.Tests.{eq-eqb, le-ltb}
 use Rattle.text.specs.Text.{cursor, isText, isDigit, standsAt, tagAt, padWidth, paddingAt, wideSpace, breakAt, tailAt, digitsAt}
+use Rattle.text.specs.Utf8.{charWidth, characterAt}
 use Rattle.text.specs.declared.Place.the-variants.{Past, Absent}
 use Rattle.text.specs.declared.Number.the-variants.{NoDigit}
 use Rattle.text.proofs.Laws.{span-end, stands-short}
@@ -23,6 +24,10 @@ module _ (s : List ℕ) (at : ℕ) (h : length s ≤ at) where
   pub tag-end : (t : List ℕ) → 0 < length t → tagAt t s at ≡ Absent
   unfolding tagAt
   tag-end t k = rw (stands-end t k)
+
+  pub character-end : characterAt s at ≡ Absent
+  unfolding characterAt charWidth
+  character-end = rw (le-ltb _ _ h)
 
   pub break-end : breakAt s at ≡ Absent
   unfolding breakAt

@@ -6,7 +6,9 @@ use mathlib.Core.Bool.{Bool, false}
 use lib.ListN.{length, getD}
 use lib.Dec.{eqb, ltb}
 use Rattle.lists.specs.Pick.{pick}
-use Rattle.text.specs.Text.{pastAll}
+use Rattle.text.specs.Text.{cursor, pastAll}
+use Rattle.text.specs.declared.Place.{Place}
+use Rattle.text.specs.declared.Place.the-variants.{Past, Absent}
 
 -- How many bytes a character that starts with b has; 0 where none does. C0, C1 and F5 to FF start none.
 unfoldable pub sizeOf : ℕ → ℕ
@@ -44,3 +46,7 @@ charWidth s at = pick (ltb at (length s)) (widthOf (sizeOf (getD s at 0)) s at) 
 -- How many bytes are well formed before the first fault.                                           (01, Numbers of refusal: 2)
 abbrev pub wellFormed : List ℕ → ℕ
 wellFormed s = pastAll charWidth s 0
+
+-- Past one character.                                                                              (01, Reading rules: skip line)
+unfoldable pub characterAt : List ℕ → ℕ → Place
+characterAt s at = pick (eqb (charWidth s at) 0) Absent (Past (cursor (at + charWidth s at)))

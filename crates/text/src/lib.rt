@@ -4,6 +4,7 @@ mod utf8;
 
 pub use utf8::well_formed;
 ghost use mathlib.Core.Path.{_≡_};
+ghost use Rattle.text.specs.Utf8.{characterAt};
 ghost use Rattle.text.specs.Text.{isBlank, isText, isDigit, blanksAt, textAt, padWidth, paddingAt, standsAt, tagAt, breakAt, tailAt, digitsAt};
 
 pub struct Cursor {
@@ -41,7 +42,7 @@ fn is_text(b: u8) -> bool
     b != b'\r'
 }
 
-fn is_digit(b: u8) -> bool
+pub fn is_digit(b: u8) -> bool
     ensures { λ r. ⌜ r ≡ isDigit b ⌝ }
 {
     if b < b'0' {
@@ -162,6 +163,18 @@ impl Cursor {
             return Place::Past(Cursor { at: at + t.len() });
         }
         Place::Absent
+    }
+
+    // Past one character.   (nom's anychar)
+    pub fn character(self, s: &[u8]) -> Place
+        ensures { λ r. ⌜ r ≡ characterAt (now (s .entry)) (self .at) ⌝ }
+    {
+        let at = self.at;
+        let n = utf8::char_width(s, at);
+        if n == 0 {
+            return Place::Absent;
+        }
+        Place::Past(Cursor { at: at + n })
     }
 
     // Past one or more digits, with the number that they make, if it is at most the largest allowed.   (nom's digit1, and str::parse)

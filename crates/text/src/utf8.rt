@@ -69,7 +69,7 @@ fn is_next(d: u8) -> bool
 }
 
 // The width of the character at a place; 0 where there is none.
-fn char_width(s: &[u8], at: usize) -> usize
+pub(crate) fn char_width(s: &[u8], at: usize) -> usize
     ensures { λ r. ⌜ r ≡ charWidth (now (s .entry)) at ⌝ }
 {
     if s.len() <= at {

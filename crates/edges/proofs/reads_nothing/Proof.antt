@@ -6,7 +6,7 @@ use mathlib.Core.Path.{refl, _∙_}
 use denote.Ref.{now}
 use borrow.Author.Tests.{eq-eqb}
 use borrow.Author.Needs.{needs}
-use Rattle.text.proofs.Ends.{padding-end, tail-end, break-end, tag-end, digits-end}
+use Rattle.text.proofs.Ends.{character-end, padding-end, tail-end, break-end, tag-end, digits-end}
 use Rattle.text.proofs.Laws.{span-end}
 use Rattle.text.specs.Text.{isBlank}
 use Rattle.edges.proofs.reads_nothing.Statement.{statement}
@@ -71,6 +71,17 @@ expect-requires-6 c κs =
     let a = c .before .before .before .before .before .before .before .before .before .before .before .before .before .before .before .before .before .before .before .args in
     rw (c .is-value .ensures, c .before .digits .ensures, digits-end (now (a .s)) (a .at) (c .before .before .before .before .before .before .before .before .before .before .before .before .before .before .before .before .before .before .before .pre) 255)
 
+character-requires : tie.Need-character-requires
+character-requires c κs = search needs
+
+is-absent-requires-3 : tie.Need-is-absent-requires-3
+is-absent-requires-3 c κs = search needs
+
+expect-requires-7 : tie.Need-expect-requires-7
+expect-requires-7 c κs =
+    let a = c .before .before .before .before .before .before .before .before .before .before .before .before .before .before .before .before .before .before .before .before .before .before .args in
+    rw (c .is-absent3 .ensures, c .before .character .ensures, character-end (now (a .s)) (a .at) (c .before .before .before .before .before .before .before .before .before .before .before .before .before .before .before .before .before .before .before .before .before .before .pre))
+
 returns : tie.Need-returns
 returns c = search needs
 
@@ -95,4 +106,7 @@ reads-nothing-spec =
     digits-requires
     is-value-requires
     expect-requires-6
+    character-requires
+    is-absent-requires-3
+    expect-requires-7
     returns)

@@ -1,0 +1,126 @@
+// Reading move lines, comments and skip lines.   (the Rust's src/parser/kif.rs)
+mod clocks;
+mod plays;
+mod remarks;
+
+use clocks::time;
+use jkf::Clock;
+use jkf::Entry;
+use jkf::Move;
+use jkf::Origin;
+use jkf::Target;
+use jkf::Time;
+use plays::what;
+pub use remarks::comment_line;
+pub use remarks::skip_line;
+use text::Cursor;
+use text::Number;
+use text::Place;
+ghost use mathlib.Core.Path.{_≡_};
+ghost use Prim.Native.Nat.{_≤_};
+ghost use Rattle.moves.specs.Moves.{colorOf, finished, lineEndAt, moveLineAt};
+
+// Where a move goes, and the place past it.
+pub enum Aim {
+    To(Target, Cursor),
+    NoAim,
+}
+
+// Where it comes from, and the place past it.
+pub enum Source {
+    Out(Origin, Cursor),
+    NoSource,
+}
+
+// 2 for 成, 1 for 不成, 0 for neither, and the place past it.
+pub struct Mark {
+    pub promote: u8,
+    pub next: Cursor,
+}
+
+// A clock's time, and the place past it.
+pub enum Clocked {
+    Shows(Clock, Cursor),
+    NoClock,
+}
+
+// A time, or that there is none, and the place past it.
+pub struct Timing {
+    pub time: Time,
+    pub next: Cursor,
+}
+
+// What is played, and the place past it.
+pub enum What {
+    Is(Entry, Cursor),
+    Nothing,
+}
+
+// A comment: where its text begins and ends, and the place past its line.
+pub enum Remark {
+    Stands(Cursor, Cursor, Cursor),
+    NoRemark,
+}
+
+// A move line: its number, its entry and the place past it.
+pub enum MoveLine {
+    Numbered(u64, Entry, Cursor),
+    NoLine,
+}
+
+// An entry with its colour and its time.
+fn finish(color: u8, time: Time, entry: Entry) -> Entry
+    ensures { λ r. ⌜ r ≡ finished color time entry ⌝ }
+{
+    match entry {
+        Entry::Slot => Entry::Slot,
+        Entry::Play(m) => {
+            let to = m.to;
+            let from = m.from;
+            Entry::Play(Move {
+                color,
+                piece: m.piece,
+                promote: m.promote,
+                to,
+                from,
+                time,
+            })
+        }
+        Entry::End(special, _) => Entry::End(special, time),
+    }
+}
+
+// Odd numbers are Black's.
+fn color(ply: u64) -> u8
+    ensures { λ r. ⌜ r ≡ colorOf ply ⌝ }
+{
+    (1 - ply % 2) as u8
+}
+
+// A tail and its break.
+pub(crate) fn line_end(c: Cursor, s: &[u8]) -> Place
+    ensures { λ r. ⌜ r ≡ lineEndAt (now (s .entry)) (c .at) ⌝ }
+{
+    let Place::Past(end) = c.tail(s) else {
+        return Place::Absent;
+    };
+    end.line_ending(s)
+}
+
+// A move line.   (the Rust's move_line)
+pub fn move_line(c: Cursor, s: &[u8]) -> MoveLine
+    ensures { λ r. ⌜ r ≡ moveLineAt (now (s .entry)) (c .at) ⌝ }
+{
+    let Number::Value(ply, numbered) = c.blanks(s).digits(s, u64::MAX) else {
+        return MoveLine::NoLine;
+    };
+    let What::Is(entry, played) = what(numbered.blanks(s), s) else {
+        return MoveLine::NoLine;
+    };
+    let timing = time(played.blanks(s), s);
+    let Place::Past(end) = line_end(timing.next, s) else {
+        return MoveLine::NoLine;
+    };
+    let taken = timing.time;
+    MoveLine::Numbered(ply, finish(color(ply), taken, entry), end)
+}

@@ -1,0 +1,73 @@
+// Comments, and the lines that are skipped.
+use crate::Remark;
+use crate::line_end;
+use text::Cursor;
+use text::Place;
+ghost use mathlib.Core.Path.{_≡_};
+ghost use Rattle.moves.specs.Moves.{remarkFrom, keptAt, commentLineAt, beginsMove, skipLineAt};
+
+// A text that begins at one place and has its tail and break from another on.
+fn remark_from(from: Cursor, c: Cursor, s: &[u8]) -> Remark
+    ensures { λ r. ⌜ r ≡ remarkFrom from (now (s .entry)) (c .at) ⌝ }
+{
+    let Place::Past(to) = c.tail(s) else {
+        return Remark::NoRemark;
+    };
+    let Place::Past(next) = to.line_ending(s) else {
+        return Remark::NoRemark;
+    };
+    Remark::Stands(from, to, next)
+}
+
+// A comment after &, which stays.
+fn kept(c: Cursor, s: &[u8]) -> Remark
+    ensures { λ r. ⌜ r ≡ keptAt (now (s .entry)) (c .at) ⌝ }
+{
+    let Place::Past(past) = c.tag(s, b"&") else {
+        return Remark::NoRemark;
+    };
+    remark_from(c, past, s)
+}
+
+// A comment after *, which is dropped, or after &.   (the Rust's move_comment_line)
+pub fn comment_line(c: Cursor, s: &[u8]) -> Remark
+    ensures { λ r. ⌜ r ≡ commentLineAt (now (s .entry)) (c .at) ⌝ }
+{
+    let Place::Past(past) = c.tag(s, b"*") else {
+        return kept(c, s);
+    };
+    remark_from(past, past, s)
+}
+
+// A space, a digit, *, ▲ or △: what begins no skip line.
+fn begins_move(s: &[u8], at: usize) -> bool
+    ensures { λ r. ⌜ r ≡ beginsMove (now (s .entry)) at ⌝ }
+{
+    let b = lent::peek(s, at);
+    if b == b' ' {
+        return true;
+    }
+    if b == b'*' {
+        return true;
+    }
+    if text::is_digit(b) {
+        return true;
+    }
+    if text::stands(s, at, b"\xe2\x96\xb2") {
+        return true;
+    }
+    text::stands(s, at, b"\xe2\x96\xb3")
+}
+
+// Another character, tail, break. The character may be an LF.   (the Rust's not_move_line)
+pub fn skip_line(c: Cursor, s: &[u8]) -> Place
+    ensures { λ r. ⌜ r ≡ skipLineAt (now (s .entry)) (c .at) ⌝ }
+{
+    if begins_move(s, c.at) {
+        return Place::Absent;
+    }
+    let Place::Past(past) = c.character(s) else {
+        return Place::Absent;
+    };
+    line_end(past, s)
+}

@@ -1,0 +1,30 @@
+// What reading a move line answers to a request.
+use crate::request::number;
+use crate::request::put_three;
+use crate::request::rest;
+use jkf::Entry;
+use moves::MoveLine;
+use text::Cursor;
+ghost use Prim.Native.Nat.{_≤_};
+ghost use lib.ListN.{length};
+
+// Found, the number, the place after and the entry's bytes.
+fn put_line(out: &mut [u8], ply: u64, after: u64, e: Entry) -> usize
+    ensures { λ r. ⌜ r ≤ length (now (out .entry)) ⌝ }
+{
+    let n = put_three(out, 1, ply, after);
+    n + jkf::put_entry(&mut out[n..], e, 0, 0)
+}
+
+// A move line at a place of a text.
+pub(crate) fn move_line(request: &[u8], out: &mut [u8]) -> usize
+    ensures { λ r. ⌜ r ≤ length (now (out .entry)) ⌝ }
+{
+    let c = Cursor {
+        at: number(request, 0) as usize,
+    };
+    match moves::move_line(c, rest(request, 8)) {
+        MoveLine::Numbered(ply, e, past) => put_line(out, ply, past.at as u64, e),
+        MoveLine::NoLine => put_three(out, 0, 0, 0),
+    }
+}
