@@ -19,10 +19,11 @@ use Rattle.block.specs.Encode.{entriesOf, commentsOf}
 use Rattle.block.specs.Decode.{headersIn, linesIn, movesIn, commentsIn, movePlace, textPlace, keyOffset, keyLength, valueOffset, valueLength, firstEntry, entryCount, firstComment, commentCount, commentOffset, commentLength, keyOf, valueOf, commentOf, notedIn, lineIn, run}
 use Rattle.block.specs.Sound.{Sound, headerBytes, commentBytes, commentsBefore, entriesBefore}
 use Rattle.laws.proofs.Deciding.{same-is}
+use Rattle.block.proofs.Lining.{le16-drop}
 use Rattle.block.proofs.Sums.{sum-none, sum-suc, sum-rises, sum-within}
 use Rattle.laws.proofs.Tables.{run-none, run-add, concat-grows}
 use Rattle.jkf.proofs.EntriesBack.{first-back}
-use Rattle.laws.proofs.Parts.{Part, Bytes, part-of, part-from, part-length, number-past, number-small}
+use Rattle.laws.proofs.Parts.{Part, Bytes, part-of, part-from, part-length, number-small}
 
 -- a run goes on with another that begins where it ends, or is empty
 follow : {X : Type 0} (f : ℕ → X) (a j n : ℕ) → j ≡ pick (eqb n 0) 0 a → run f 0 a ++ run f j n ≡ run f 0 (a + n)
@@ -90,7 +91,7 @@ module _ (b : List ℕ) (s : Sound b) (u : Bytes b) where
       let l = drop (movePlace b k) b in
       let f = pick (eqb (commentCount b k) 0) 0 (commentsBefore b k) in
       let e : l ≡ entryBytes (entryIn l) f (commentCount b k) ++ drop 20 l = sym (take-append-drop 20 l) ∙ ap (λ (t : List ℕ). t ++ drop 20 l) (entry-is k h) in
-      number-past b (movePlace b k) 16 ∙ ap (λ (t : List ℕ). le16 t 16) e ∙ first-back (entryIn l) f (commentCount b k) (drop 20 l) (small (eqb (commentCount b k) 0))
+      sym (le16-drop b (movePlace b k) 16) ∙ ap (λ (t : List ℕ). le16 t 16) e ∙ first-back (entryIn l) f (commentCount b k) (drop 20 l) (small (eqb (commentCount b k) 0))
     where
       small : (t : Bool) → pick t 0 (commentsBefore b k) < 65536
       small true = omega arith

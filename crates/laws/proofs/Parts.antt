@@ -7,9 +7,10 @@ use native.Mathlib.Omega.{arith}
 use mathlib.Core.Path.{_≡_, refl, sym, ap, ap₂, _∙_}
 use mathlib.Core.List.{List, [], _∷_, _++_, append-assoc}
 use lib.ListN.{length, getD, take, drop, take-append-drop, length-drop}
-use lib.Seq.{take-length, take-at, drop-at, take-add, drop-drop, length-take-le, getD-drop}
+use lib.Seq.{take-length, take-at, drop-at, take-add, drop-drop, length-take-le}
 use Rattle.lists.proofs.Laws.{drop-step}
 use Rattle.lent.specs.Bytes.{le16, bytes16}
+use Rattle.block.proofs.Lining.{le16-drop}
 
 -- t is the n bytes of b from o on
 pub record Part (b : List ℕ) (o n : ℕ) (t : List ℕ) : Type 0 where
@@ -68,18 +69,12 @@ part-in {b} {t} {o} {n} p l q i m w e f g =
 
 -- ---- numbers of two bytes
 
--- at a place past o
-pub number-past : (b : List ℕ) (o i : ℕ) → le16 b (o + i) ≡ le16 (drop o b) i
-number-past b o i =
-    let e : o + i + 1 ≡ o + (i + 1) = omega arith in
-    ap₂ (λ (x y : ℕ). x + 256 * y) (sym (getD-drop o b i 0)) (ap (λ (j : ℕ). getD b j 0) e ∙ sym (getD-drop o b (i + 1) 0))
-
 pub number-at : (b : List ℕ) (o : ℕ) → le16 b o ≡ le16 (drop o b) 0
-number-at b o = ap (le16 b) (sym (add-zero o)) ∙ number-past b o 0
+number-at b o = ap (le16 b) (sym (add-zero o)) ∙ sym (le16-drop b o 0)
 
 -- in a part
 pub part-number : {b t : List ℕ} {o n : ℕ} (i : ℕ) → Part b o n t → le16 b (o + i) ≡ le16 (t ++ drop n (drop o b)) i
-part-number {b} {t} {o} {n} i p = number-past b o i ∙ ap (λ (l : List ℕ). le16 l i) (from-part p .is)
+part-number {b} {t} {o} {n} i p = sym (le16-drop b o i) ∙ ap (λ (l : List ℕ). le16 l i) (from-part p .is)
 
 pub part-number₀ : {b t : List ℕ} {o n : ℕ} → Part b o n t → le16 b o ≡ le16 (t ++ drop n (drop o b)) 0
 part-number₀ {b} {t} {o} {n} p = number-at b o ∙ ap (λ (l : List ℕ). le16 l 0) (from-part p .is)
