@@ -4,10 +4,11 @@ use crate::blocks;
 use crate::call::Call;
 use crate::record::{decode, u16_at};
 use crate::rng::Rng;
+use crate::short;
 use crate::texts;
 
 pub fn short_text(seed: u64) -> Call {
-    Call::Read { text: texts::short(seed) }
+    Call::Read { text: short::short(seed) }
 }
 
 pub fn any_text(seed: u64) -> Call {

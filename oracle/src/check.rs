@@ -7,20 +7,21 @@ use crate::judge::{self, Answer, Outcome};
 use crate::known;
 use crate::record::{decode, encode, Clock, Record, What, LIMIT};
 use crate::runner::{caught, run, Kind};
+use crate::short::SHORT;
 use crate::sound::sound;
 
 const KINDS: [Kind; 11] = [
-    Kind { name: "short texts", share: 17, make: cases::short_text, test: reading },
-    Kind { name: "texts", share: 22, make: cases::any_text, test: reading },
-    Kind { name: "bytes", share: 13, make: cases::altered_block, test: soundness },
-    Kind { name: "blocks", share: 10, make: cases::any_block, test: soundness },
-    Kind { name: "writing", share: 8, make: cases::to_write, test: writing },
-    Kind { name: "put-ins", share: 10, make: cases::to_put_in, test: putting_in },
-    Kind { name: "cuts", share: 8, make: cases::to_cut, test: cutting },
-    Kind { name: "edits", share: 6, make: cases::to_edit, test: editing },
-    Kind { name: "comments", share: 2, make: cases::a_comment, test: looking_up },
-    Kind { name: "keys", share: 2, make: cases::a_key, test: looking_up },
-    Kind { name: "values", share: 2, make: cases::a_value, test: looking_up },
+    Kind { name: "short texts", share: 17, all: Some(SHORT), make: cases::short_text, test: reading },
+    Kind { name: "texts", share: 22, all: None, make: cases::any_text, test: reading },
+    Kind { name: "bytes", share: 13, all: None, make: cases::altered_block, test: soundness },
+    Kind { name: "blocks", share: 10, all: None, make: cases::any_block, test: soundness },
+    Kind { name: "writing", share: 8, all: None, make: cases::to_write, test: writing },
+    Kind { name: "put-ins", share: 10, all: None, make: cases::to_put_in, test: putting_in },
+    Kind { name: "cuts", share: 8, all: None, make: cases::to_cut, test: cutting },
+    Kind { name: "edits", share: 6, all: None, make: cases::to_edit, test: editing },
+    Kind { name: "comments", share: 2, all: None, make: cases::a_comment, test: looking_up },
+    Kind { name: "keys", share: 2, all: None, make: cases::a_key, test: looking_up },
+    Kind { name: "values", share: 2, all: None, make: cases::a_value, test: looking_up },
 ];
 
 /// Whether all known answers and all generated cases hold.
@@ -36,7 +37,7 @@ pub fn check(cases: u64, seed: u64) -> bool {
         }
     }
     println!("{:12} {passed:7} passed, {failed} failed", "known answers");
-    let (more_passed, more_failed) = run("check", &KINDS, cases, seed);
+    let (more_passed, more_failed) = run("check", &KINDS, cases, seed, None);
     println!("{} passed, {} failed", passed + more_passed, failed + more_failed);
     failed + more_failed == 0
 }

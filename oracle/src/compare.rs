@@ -2,66 +2,89 @@
 
 use crate::call::Call;
 use crate::cases;
-use crate::judge::{Answer, Outcome};
+use crate::judge::{Outcome, LONGEST};
+use crate::lent::Lent;
 use crate::port;
 use crate::runner::{run, Kind};
+use std::cell::Cell;
 use std::hint::black_box;
-use std::sync::LazyLock;
-use std::thread;
+use std::{slice, thread};
 
 /// What the port's calls may use of the stack.
 const STACK: usize = 1 << 20;
-/// The longest buffer that is lent: no block is written to so long a text.
-const LONGEST: usize = 200_000;
-/// Bytes on each side of a lent buffer that must stay.
-const GUARD: usize = 64;
+
+thread_local! {
+    /// The buffer from case to case. A case that fails leaves none behind.
+    static LENT: Cell<Option<Lent>> = const { Cell::new(None) };
+}
 
 const KINDS: &[Kind] = &[
     #[cfg(feature = "kif_sound")]
-    Kind { name: "bytes", share: 13, make: cases::altered_block, test: compared },
+    Kind { name: "bytes", share: 13, all: None, make: cases::altered_block, test: compared },
     #[cfg(feature = "kif_sound")]
-    Kind { name: "sound", share: 8, make: cases::any_block, test: compared },
+    Kind { name: "sound", share: 6, all: None, make: cases::any_block, test: compared },
     #[cfg(feature = "kif_comment")]
-    Kind { name: "comment", share: 4, make: cases::a_comment, test: compared },
+    Kind { name: "comment", share: 3, all: None, make: cases::a_comment, test: compared },
     #[cfg(feature = "kif_key")]
-    Kind { name: "key", share: 4, make: cases::a_key, test: compared },
+    Kind { name: "key", share: 3, all: None, make: cases::a_key, test: compared },
     #[cfg(feature = "kif_value")]
-    Kind { name: "value", share: 4, make: cases::a_value, test: compared },
+    Kind { name: "value", share: 3, all: None, make: cases::a_value, test: compared },
     #[cfg(feature = "kif_read")]
-    Kind { name: "short texts", share: 17, make: cases::short_text, test: compared },
+    Kind { name: "short texts", share: 31, all: Some(crate::short::SHORT), make: cases::short_text, test: compared },
     #[cfg(feature = "kif_read")]
-    Kind { name: "read", share: 20, make: cases::any_text, test: compared },
+    Kind { name: "read", share: 20, all: None, make: cases::any_text, test: compared },
     #[cfg(feature = "kif_write")]
-    Kind { name: "write", share: 10, make: cases::to_write, test: compared },
+    Kind { name: "write", share: 8, all: None, make: cases::to_write, test: compared },
     #[cfg(feature = "kif_put_in")]
-    Kind { name: "put_in", share: 12, make: cases::to_put_in, test: compared },
+    Kind { name: "put_in", share: 7, all: None, make: cases::to_put_in, test: compared },
     #[cfg(feature = "kif_cut")]
-    Kind { name: "cut", share: 8, make: cases::to_cut, test: compared },
+    Kind { name: "cut", share: 6, all: None, make: cases::to_cut, test: compared },
 ];
 
 /// Whether the port answers every case as the judge does.
 pub fn compare(cases: u64, seed: u64) -> bool {
-    let (passed, failed) = run("compare", KINDS, cases, seed);
+    let (passed, failed) = run("compare", KINDS, cases, seed, Some(|calls| all_compared(calls).ok()));
     println!("{passed} passed, {failed} failed");
     failed == 0
 }
 
-/// The same answer and the same bytes with every buffer; answers the number that the longest gets.
+/// The number that the port and the judge answer; a panic where they differ.
 fn compared(call: &Call) -> u64 {
-    let outcome = call.judged();
-    let lengths = lengths(call, &outcome);
-    let given = black_box(call.clone());
-    let ask = |&length: &usize| lent(length, |out| port::answer(&given, out));
-    let ported: Vec<_> = on_small_stack(|| lengths.iter().map(ask).collect());
-    assert!(*black_box(&given) == *call, "the port changed what it was given to read");
-    let mut number = 0;
-    for (length, (answer, bytes)) in lengths.iter().zip(ported) {
-        let (judged, judged_bytes) = lent(*length, |out| outcome.deliver(out));
-        assert_eq!(answer, judged, "the port's answer and the judge's, buffer {length}");
-        assert!(bytes == judged_bytes, "byte {} of buffer {length}", first_difference(&bytes, &judged_bytes));
-        number = judged.number;
+    all_compared(slice::from_ref(call)).unwrap_or_else(|difference| panic!("{difference}"))[0]
+}
+
+/// The numbers that the longest buffer gets, if answers and bytes are the same for all calls with every buffer; or how
+/// they first differ. One small stack serves all of them, since it takes longer to make than a call.
+fn all_compared(calls: &[Call]) -> Result<Vec<u64>, String> {
+    let outcomes: Vec<_> = calls.iter().map(Call::judged).collect();
+    let given = black_box(calls.to_vec());
+    let mut lent = LENT.take().unwrap_or_else(Lent::new);
+    let difference = on_small_stack(|| {
+        let mut cases = given.iter().zip(&outcomes);
+        cases.find_map(|(call, outcome)| {
+            lengths(call, outcome).iter().find_map(|&length| difference(call, outcome, &mut lent, length))
+        })
+    });
+    if let Some(difference) = difference {
+        return Err(difference);
     }
-    number
+    if *black_box(&given) != *calls {
+        return Err("the port changed what it was given to read".into());
+    }
+    LENT.set(Some(lent));
+    Ok(outcomes.iter().map(|outcome| outcome.answer_in(LONGEST).number).collect())
+}
+
+/// How the port and the judge differ with so many bytes lent.
+fn difference(call: &Call, outcome: &Outcome, lent: &mut Lent, length: usize) -> Option<String> {
+    let answer = lent.lend(length, |out| port::answer(call, out));
+    let (judged, front) = (outcome.answer_in(length), outcome.front_in(length));
+    if answer != judged {
+        return Some(format!("buffer {length}: the port answers {answer:?}, the judge {judged:?}"));
+    }
+    let at = lent.first_difference(length, front);
+    lent.restore(front.len());
+    at.map(|at| format!("buffer {length}: byte {at} is not as the judge leaves it"))
 }
 
 /// The lengths at which an answer could turn; look-ups and `sound` are lent no buffer.
@@ -73,21 +96,6 @@ fn lengths(call: &Call, outcome: &Outcome) -> Vec<usize> {
         }
         _ => vec![0],
     }
-}
-
-/// Where two buffers with their guards first differ, counted from the buffer's start.
-fn first_difference(bytes: &[u8], judged: &[u8]) -> isize {
-    let at = bytes.iter().zip(judged).take_while(|(port, judge)| port == judge).count();
-    at as isize - GUARD as isize
-}
-
-/// What a call answers and leaves in a buffer of this length: the buffer, patterned, with its guards.
-fn lent(length: usize, call: impl FnOnce(&mut [u8]) -> Answer) -> (Answer, Vec<u8>) {
-    static PATTERN: LazyLock<Vec<u8>> =
-        LazyLock::new(|| (0..LONGEST + 2 * GUARD).map(|at| (at * 167 + at / 256 + 13) as u8).collect());
-    let mut bytes = PATTERN[..length + 2 * GUARD].to_vec();
-    let answer = call(&mut bytes[GUARD..GUARD + length]);
-    (answer, bytes)
 }
 
 fn on_small_stack<T: Send>(run: impl FnOnce() -> T + Send) -> T {

@@ -11,6 +11,10 @@ use crate::translate::{self, nest, Play};
 use nom::error::VerboseError;
 use std::{iter, str};
 
+/// The longest buffer that is lent: no block is written to so long a text.
+pub const LONGEST: usize = 200_000;
+static ZEROS: [u8; LONGEST] = [0; LONGEST];
+
 /// A number of 01's table, 0 on success, and the two figures.
 #[derive(Clone, Copy, Debug, PartialEq, Eq)]
 pub struct Answer {
@@ -40,22 +44,28 @@ impl Outcome {
         }
     }
 
+    /// The answer with a buffer of this length lent.
+    pub fn answer_in(&self, room: usize) -> Answer {
+        match self {
+            _ if self.needed().is_some_and(|needed| needed > room) => answer(5, self.needed().unwrap() as u64, 0),
+            Outcome::Answered(answer) | Outcome::Unattached { answer, .. } | Outcome::Made { answer, .. } => *answer,
+        }
+    }
+
+    /// What a buffer of this length begins with afterwards; all behind it stays as it was.
+    pub fn front_in(&self, room: usize) -> &[u8] {
+        match self {
+            _ if self.needed().is_none_or(|needed| needed > room) => &[],
+            Outcome::Made { result, .. } => result,
+            _ => &ZEROS[..room],
+        }
+    }
+
     /// The answer with this buffer lent, and what becomes of the buffer.
     pub fn deliver(&self, out: &mut [u8]) -> Answer {
-        if let Some(needed) = self.needed().filter(|&needed| needed > out.len()) {
-            return answer(5, needed as u64, 0);
-        }
-        match self {
-            Outcome::Answered(answer) => *answer,
-            Outcome::Unattached { answer, .. } => {
-                out.fill(0);
-                *answer
-            }
-            Outcome::Made { result, answer } => {
-                out[..result.len()].copy_from_slice(result);
-                *answer
-            }
-        }
+        let front = self.front_in(out.len());
+        out[..front.len()].copy_from_slice(front);
+        self.answer_in(out.len())
     }
 }
 

@@ -1,7 +1,8 @@
 //! The answers that 01 itself gives, and those at the points where its words meet the original: all by hand.
 
 use crate::judge::{self, Outcome};
-use crate::record::{decode, encode, Diagram, Line, Record, What, LIMIT};
+use crate::listing::listing;
+use crate::record::{decode, encode, Diagram, Record, What, LIMIT};
 
 const WORKED_EXAMPLE: &str = "\
 手合割：平手
@@ -33,19 +34,9 @@ pub const GROUPS: [(&str, fn()); 7] = [
 ];
 
 fn worked_example() {
-    assert_eq!(listing(WORKED_EXAMPLE), LISTING);
-}
-
-/// What the listing program prints.
-fn listing(text: &str) -> String {
-    let mut out = vec![0; LIMIT];
-    let answer = judge::read(text.as_bytes()).deliver(&mut out);
-    let mut shown = format!("read {} block {}\n", answer.first, answer.second);
-    let record = decode(&out[..answer.second as usize]).unwrap();
-    for (k, Line { start, parent, entries }) in record.lines.iter().enumerate() {
-        shown += &format!("line {k} start {start} moves {} parent {parent}\n", entries.len());
-    }
-    shown
+    assert_eq!(listing(WORKED_EXAMPLE.as_bytes()), LISTING);
+    assert_eq!(listing("先手の持駒：x\n".as_bytes()), "refused 3 0 0\n");
+    assert_eq!(listing(&[b'x'; 70_000]), "refused 1 65536 0\n");
 }
 
 /// Move lines from a ply on.

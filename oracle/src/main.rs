@@ -3,6 +3,8 @@
 // The original's types, under the path by which its own files name them.
 include!(concat!(env!("OUT_DIR"), "/jkf.rs"));
 mod attach;
+#[cfg(feature = "kif_read")]
+mod bench;
 mod blocks;
 mod call;
 mod cases;
@@ -11,6 +13,9 @@ mod check;
 mod compare;
 mod judge;
 mod known;
+#[cfg(feature = "linked")]
+mod lent;
+mod listing;
 mod normalizer;
 mod original;
 #[cfg(feature = "linked")]
@@ -19,12 +24,13 @@ mod record;
 mod recorder;
 mod rng;
 mod runner;
+mod short;
 mod sound;
 mod texts;
 mod translate;
 
 use std::process::ExitCode;
-use std::{env, thread};
+use std::{env, fs, io, thread};
 
 const CASES: u64 = 1_000_000;
 const SEED: u64 = 1;
@@ -37,7 +43,7 @@ fn main() -> ExitCode {
     match running.join() {
         Ok(Some(true)) => ExitCode::SUCCESS,
         Ok(None) => {
-            eprintln!("usage: oracle/run [check [CASES] [SEED] | compare [CASES] [SEED] | record FILE]");
+            eprintln!("usage: oracle/run [check [CASES] [SEED] | compare [CASES] [SEED] | bench | record FILE | listing FILE]");
             ExitCode::from(2)
         }
         _ => ExitCode::FAILURE,
@@ -51,9 +57,25 @@ fn obey(words: &[String]) -> Option<bool> {
         ["check", ref numbers @ ..] => Some(check::check(number(numbers, 0, CASES)?, number(numbers, 1, SEED)?)),
         #[cfg(feature = "linked")]
         ["compare", ref numbers @ ..] => Some(compare::compare(number(numbers, 0, CASES)?, number(numbers, 1, SEED)?)),
-        ["record", file] => Some(recorder::record(file).map_err(|error| eprintln!("{file}: {error}")).is_ok()),
+        #[cfg(feature = "kif_read")]
+        ["bench"] => {
+            bench::bench();
+            Some(true)
+        }
+        #[cfg(not(feature = "kif_read"))]
+        ["bench"] => {
+            eprintln!("bench: the library exports no kif_read");
+            Some(false)
+        }
+        ["record", file] => Some(reported(file, recorder::record(file))),
+        ["listing", file] => Some(reported(file, fs::read(file).map(|input| print!("{}", listing::listing(&input))))),
         _ => None,
     }
+}
+
+/// Whether something was done with a file; if not, why.
+fn reported(file: &str, done: io::Result<()>) -> bool {
+    done.map_err(|error| eprintln!("{file}: {error}")).is_ok()
 }
 
 /// The number at a place among the words, or what it is if left out.

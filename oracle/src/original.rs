@@ -34,6 +34,15 @@ pub mod parser {
             })(input)
         }
 
+        /// A comment, its `&` kept and its `*` dropped.
+        pub fn read_comment_line(input: &str) -> IResult<&str, String, VerboseError<&str>> {
+            move_comment_line(input)
+        }
+
+        pub fn read_skip_line(input: &str) -> IResult<&str, &str, VerboseError<&str>> {
+            not_move_line(input)
+        }
+
         /// Header and position, and what is left of the text.
         pub fn read_head(input: &str) -> IResult<&str, JsonKifuFormat, VerboseError<&str>> {
             parse_without_moves(input)

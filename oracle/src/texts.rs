@@ -1,4 +1,4 @@
-//! Texts to read: made by the grammar, damaged, exhaustively short, round every limit.
+//! Texts to read: made by the grammar, damaged, round every limit.
 
 use crate::record::LIMIT;
 use crate::rng::Rng;
@@ -37,24 +37,6 @@ const SPLINTERS: [&str; 40] = [
     "成", "不成", "歩", "王", "十", "二", "７", "v", "|", "+", "・", "なし", "番", "の持駒：", "手合割：", "投了",
     "\u{feff}", "\0", "🀄",
 ];
-/// The pieces of the exhaustively short texts.
-const PIECES: [&str; 20] = [
-    "\n", "\r\n", "\r", "1", "0", "2", "同歩打", "投了", "*", "&", "#", "：", "x", " ", "　", "(0:1/0:2)",
-    "先手の持駒：", "歩", "先手番", "手合割：平手",
-];
-/// How many texts of up to four pieces there are.
-pub const SHORT: u64 = 1 + 20 + 20 * 20 + 20 * 20 * 20 + 20 * 20 * 20 * 20;
-
-/// The n-th of all texts of up to four pieces.
-pub fn short(n: u64) -> Vec<u8> {
-    let mut n = n % SHORT;
-    let mut text = String::new();
-    while n > 0 {
-        text += PIECES[((n - 1) % 20) as usize];
-        n = (n - 1) / 20;
-    }
-    text.into_bytes()
-}
 
 /// A text of any sort.
 pub fn text(r: &mut Rng) -> Vec<u8> {

@@ -4,3 +4,6 @@ pub mod Cuts
 pub mod Passing
 pub mod Lining
 pub mod Looking
+pub mod Tabling
+pub mod Rows
+pub mod Lengths

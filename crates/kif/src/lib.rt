@@ -3,6 +3,7 @@ ghost use mathlib.Core.Path.{_≡_};
 ghost use Rattle.block.specs.Decode.{headersIn, commentsIn, keyOffset, keyLength, valueOffset, valueLength, commentOffset, commentLength};
 ghost use Rattle.block.specs.Sound.{soundb};
 ghost use Rattle.block.specs.Look.{lookAnswer, Told};
+ghost use Rattle.parser.specs.Read.{readOf};
 
 // Whether a slice is just a sound block.
 #[no_mangle]
@@ -46,4 +47,22 @@ pub extern "C" fn kif_value(
     ensures { λ _. ⌜ Told (lookAnswer (now (block .entry)) (headersIn (now (block .entry))) k (valueOffset (now (block .entry)) k) (valueLength (now (block .entry)) k)) (now (number .exit)) (now (first .exit)) (now (second .exit)) ⌝ }
 {
     block::value(block, k, number, first, second);
+}
+
+// Reads a text into the front of a lent buffer.
+#[no_mangle]
+pub extern "C" fn kif_read(
+    text: &[u8],
+    out: &mut [u8],
+    number: &mut u64,
+    first: &mut u64,
+    second: &mut u64,
+)
+    ensures { λ _. ⌜ Told (readOf (now (text .entry)) (now (out .entry)) .answer) (now (number .exit)) (now (first .exit)) (now (second .exit)) ⌝ }
+    ensures { λ _. ⌜ now (out .exit) ≡ readOf (now (text .entry)) (now (out .entry)) .buffer ⌝ }
+{
+    let f = jkf::figures_of(parser::read(text, out));
+    *number = f.number;
+    *first = f.first;
+    *second = f.second;
 }

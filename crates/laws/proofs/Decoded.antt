@@ -17,10 +17,10 @@ use Rattle.block.specs.Model.{Header, Noted, Line, Record}
 use Rattle.block.specs.Encode.{encode, entriesOf, commentsOf}
 use Rattle.block.specs.Decode.{decode, headersIn, linesIn, parentOf, firstEntry, entryCount, firstComment, commentCount, commentOf, headerIn, notedIn, lineIn, run}
 use Rattle.block.specs.Formed.{headerOf, lineOf, notedOf, Formed}
-use Rattle.laws.proofs.Tables.{run-is, run-all, concat-sum, part-getD, part-within}
+use Rattle.block.proofs.Tabling.{run-is, run-all, concat-sum, part-getD, part-within}
 use Rattle.laws.proofs.Parts.{from-part}
 use Rattle.jkf.proofs.PositionsBack.{position-length, position-back}
-use Rattle.laws.proofs.Lengths.{block-length}
+use Rattle.block.proofs.Lengths.{block-length}
 use Rattle.laws.proofs.Hanging.{start-low, parent-low}
 use Rattle.laws.proofs.Fields.{notesOf, noHeader, noLine, noNoted, lengthOf, Fits, version-is, headers-are, lines-are, key-is, value-is, start-is, first-entry, entry-count-is, parent-is, first-comment, comment-count-is, what-is, comment-is, position-part}
 

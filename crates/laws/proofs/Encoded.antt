@@ -19,7 +19,7 @@ use Rattle.block.specs.Encode.{encode, encodeFlat, headBytes, blockLength, tabl
 use Rattle.block.specs.Decode.{decode, headersIn, linesIn, movesIn, commentsIn, headerPlace, linePlace, commentPlace, textPlace, keyLength, valueLength, startOf, firstEntry, entryCount, parentOf, firstComment, commentCount, commentOffset, commentLength, keyOf, valueOf, commentOf, headerIn, notedIn, lineIn, run}
 use Rattle.block.specs.Sound.{sum, Sound, headerBytes, commentBytes, commentsBefore, entriesBefore}
 use Rattle.block.proofs.Sums.{sum-none, sum-suc}
-use Rattle.laws.proofs.Tables.{length-run, table-grows, concat-grows}
+use Rattle.block.proofs.Tabling.{length-run, table-grows, concat-grows}
 use Rattle.laws.proofs.Parts.{Part, then, part-from, part-as, part-of, part-length, Bytes, number-part, two-part, four-part}
 use Rattle.laws.proofs.Positions.{position-bytes}
 use Rattle.laws.proofs.Held.{whole-length, key-part, value-part, key-length, value-length, comment-part, comment-length, entry-is, all-entries, all-comments}

@@ -21,7 +21,7 @@ use Rattle.block.specs.Sound.{Sound, headerBytes, commentBytes, commentsBefore,
 use Rattle.laws.proofs.Deciding.{same-is}
 use Rattle.block.proofs.Lining.{le16-drop}
 use Rattle.block.proofs.Sums.{sum-none, sum-suc, sum-rises, sum-within}
-use Rattle.laws.proofs.Tables.{run-none, run-add, concat-grows}
+use Rattle.block.proofs.Tabling.{run-none, run-add, concat-grows}
 use Rattle.jkf.proofs.EntriesBack.{first-back}
 use Rattle.laws.proofs.Parts.{Part, Bytes, part-of, part-from, part-length, number-small}
 

@@ -1,8 +1,5 @@
 pub mod Deciding
-pub mod Tables
 pub mod Parts
-pub mod Rows
-pub mod Lengths
 pub mod Positions
 pub mod Held
 pub mod Encoded
@@ -10,3 +7,9 @@ pub mod Fields
 pub mod Hanging
 pub mod Decoded
 pub mod Made
+pub mod Playing
+pub mod Smalling
+pub mod Breaking
+pub mod Heading
+pub mod Forming
+pub mod Reading

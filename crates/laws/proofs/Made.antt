@@ -24,9 +24,9 @@ use Rattle.block.specs.Decode.{headersIn, linesIn, movesIn, commentsIn, linePla
 use Rattle.block.specs.Sound.{same, before, valid, headTest, partsTest, totalsTest, positionTest, headerTest, lineTest, entryTest, commentTest, fitsTest, kindTest, ascends, headerBytes, commentBytes, commentsBefore, entriesBefore, Sound}
 use Rattle.block.specs.Formed.{headerOf, lineOf, notedOf, headerFits, lineFits, Formed}
 use Rattle.laws.proofs.Deciding.{same-refl}
-use Rattle.laws.proofs.Tables.{concat-sum}
+use Rattle.block.proofs.Tabling.{concat-sum}
 use Rattle.laws.proofs.Parts.{from-part}
-use Rattle.laws.proofs.Lengths.{block-length}
+use Rattle.block.proofs.Lengths.{block-length}
 use Rattle.laws.proofs.Hanging.{hang-same}
 use Rattle.laws.proofs.Fields.{notesOf, remarksOf, remarkOf, noHeader, noLine, noNoted, Fits, fits, head-begins, version-is, length-is, headers-are, lines-are, moves-are, comments-are, key-offset, key-length, value-offset, value-length, key-is, value-is, start-is, first-entry, entry-count-is, parent-is, entry-row, comment-count-is, what-is, comment-offset, comment-length, comment-is, position-part}
 use Rattle.laws.proofs.Decoded.{formed-fits, position-is}

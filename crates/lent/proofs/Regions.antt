@@ -8,7 +8,7 @@ use lib.ListN.{take-append-drop, length-set, getD, length, take, drop, set, leng
 use lib.Seq.{set-append-left, getD-take, getD-drop, drop-at, length-take-le, take-append-seam, drop-drop, sets, sets-eq, length-sets, set-comm}
 use borrow.Rule.Slice.PartMut.{midOf, putMid}
 use Rattle.lent.specs.Bytes.{Wrote, fitting}
-use Rattle.lent.proofs.Writes.{fitting-empty, rest, back}
+use Rattle.lent.proofs.Writes.{fitting-all, fitting-empty, rest, back}
 use Rattle.lent.specs.Regions.{only, Stored, put, puts, moved, join, first, Room, Same, Filled, Left, Counted, ToCount, all, starts, Empty}
 
 -- ---- one text
@@ -42,7 +42,7 @@ sets-sets (a ∷ t) u o p q h =
     sets-sets t u (set o p a) (suc p) q (omega arith)
     ∙ ap (λ (l : List ℕ). sets l (suc p) t) (sym (set-sets u o p q a (omega arith)))
 
-sets-more : (t u o : List ℕ) (p : ℕ) → sets (sets o p t) (p + length t) u ≡ sets o p (t ++ u)
+pub sets-more : (t u o : List ℕ) (p : ℕ) → sets (sets o p t) (p + length t) u ≡ sets o p (t ++ u)
 sets-more [] u o p = let z : p + 0 ≡ p = omega arith in ap (λ (n : ℕ). sets o n u) z
 sets-more (a ∷ t) u o p =
     let z : p + suc (length t) ≡ suc p + length t = omega arith in
@@ -395,3 +395,23 @@ filled-front {ts} {x} {ps} {ps′} n o h r f =
           ∙ ap (λ (l : List ℕ). puts l ps ts) (take-append-drop n o);
       ends = f .ends;
     }
+
+-- ---- a text that has its room
+
+pub stored-all : {t o o′ : List ℕ} {at r : ℕ} → at + length t ≤ length o → Stored (fitting t (drop at o)) o o′ at r → Stored t o o′ at r
+stored-all {t} {o} {o′} {at} {r} h s =
+    let e : fitting t (drop at o) ≡ t = fitting-all t (drop at o) (rw (length-drop at o) (omega arith)) in
+    subst (λ (u : List ℕ). Stored u o o′ at r) e s
+
+-- a region before those that are filled, of which nothing is
+pub filled-under : {ts : List (List ℕ)} {o o′ ps ps′ : List ℕ} (p q : ℕ) → q ≡ p → Filled ts o o′ ps ps′ → Filled ([] ∷ ts) o o′ (p ∷ ps) (q ∷ ps′)
+filled-under {ts} {o} {o′} {ps} {ps′} p q e f =
+    record {
+      bytes = f .bytes ∙ ap (λ (l : List ℕ). puts l ps ts) (sym (put-none o p));
+      ends = (omega arith, f .ends);
+    }
+
+-- one text at the first region
+pub filled-first : {t o o′ : List ℕ} {p r : ℕ} (ps : List ℕ) → Stored t o o′ p r → Filled (t ∷ []) o o′ (p ∷ ps) (r ∷ ps)
+filled-first {t} {o} {o′} {p} {r} ps s =
+    record { bytes = s .bytes ∙ sym (puts-nil (put o p t) ps); ends = (s .end, same-of (sym (moved-none ps [] tt))) }

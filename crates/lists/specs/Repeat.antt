@@ -1,6 +1,7 @@
 -- What is read again and again: a step at a place, with a state, goes on at a later place with another state, or stops.
 -- Assumes nothing: these are definitions.
 use Prim.Native.Nat.{ℕ, zero, suc}
+use mathlib.Core.List.{List, [], _∷_}
 
 -- What one step answers: the next place and state, or that there is nothing more.
 pub data Step (A : Type 0) : Type 0 where
@@ -23,3 +24,8 @@ ended at a = record { at = at; state = a }
 unfoldable pub repeatFrom : {A : Type 0} → (ℕ → A → Step A) → ℕ → ℕ → A → Ended A
 repeatFrom f zero at a = ended at a
 repeatFrom f (suc k) at a = onStep (f at a) (λ at′ a′. repeatFrom f k at′ a′) (ended at a)
+
+-- As many items as stand one after the other from a place on, at most as many as the fuel says.   (nom's many0)
+unfoldable pub manyFrom : {A : Type 0} → (ℕ → Step A) → ℕ → ℕ → Ended (List A)
+manyFrom item zero at = ended at []
+manyFrom item (suc k) at = onStep (item at) (λ next a. let r = manyFrom item k next in ended (r .at) (a ∷ r .state)) (ended at [])

@@ -1,1 +1,6 @@
 pub mod Figures
+pub mod Answers
+pub mod Smalls
+pub mod Fits
+pub mod Goings
+pub mod Worded

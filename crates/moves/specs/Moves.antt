@@ -6,7 +6,7 @@ use mathlib.Core.Bool.{Bool, true}
 use lib.ListN.{getD}
 use lib.Dec.{eqb}
 use Rattle.lists.specs.Pick.{pick}
-use Rattle.text.specs.Text.{cursor, onPlace, onNumber, isDigit, standsAt, tagAt, breakAt, tailAt, blanksAt, wideSpace, digitsAt}
+use Rattle.text.specs.Text.{cursor, onPlace, onNumber, isDigit, standsAt, tagAt, breakAt, tailAt, lineEndAt, blanksAt, wideSpace, digitsAt}
 use Rattle.text.specs.Utf8.{characterAt}
 use Rattle.text.specs.declared.Cursor.{Cursor}
 use Rattle.text.specs.declared.Place.{Place}
@@ -76,6 +76,14 @@ onClocked NoClock f d = d
 abbrev pub onWhat : {A : Type 0} → What → (Entry → Cursor → A) → A → A
 onWhat (Is e c) f d = f e c
 onWhat Nothing f d = d
+
+abbrev pub onRemark : {A : Type 0} → Remark → (Cursor → Cursor → Cursor → A) → A → A
+onRemark (Stands from to next) f d = f from to next
+onRemark NoRemark f d = d
+
+abbrev pub onMoveLine : {A : Type 0} → MoveLine → (ℕ → Entry → Cursor → A) → A → A
+onMoveLine (Numbered n e c) f d = f n e c
+onMoveLine NoLine f d = d
 
 abbrev pub mark : ℕ → Cursor → Mark
 mark n c = record { promote = n; next = c }
@@ -178,10 +186,6 @@ unfoldable pub finished : ℕ → Time → Entry → Entry
 finished color t Slot = Slot
 finished color t (Play m) = Play (record { color = color; piece = m .piece; promote = m .promote; to = m .to; from = m .from; time = t })
 finished color t (End x u) = End x t
-
--- A tail and its break.
-unfoldable pub lineEndAt : List ℕ → ℕ → Place
-lineEndAt s at = onPlace (tailAt s at) (λ c. breakAt s (c .at)) NoPlace
 
 -- Blanks, a number below 2^64, blanks, a special or a move, blanks, a time if there is one, tail, break.  (the Rust's move_line)
 unfoldable pub moveLineAt : List ℕ → ℕ → MoveLine

@@ -18,7 +18,7 @@ use text::Number;
 use text::Place;
 ghost use mathlib.Core.Path.{_≡_};
 ghost use Prim.Native.Nat.{_≤_};
-ghost use Rattle.moves.specs.Moves.{colorOf, finished, lineEndAt, moveLineAt};
+ghost use Rattle.moves.specs.Moves.{colorOf, finished, moveLineAt};
 
 // Where a move goes, and the place past it.
 pub enum Aim {
@@ -97,16 +97,6 @@ fn color(ply: u64) -> u8
     (1 - ply % 2) as u8
 }
 
-// A tail and its break.
-pub(crate) fn line_end(c: Cursor, s: &[u8]) -> Place
-    ensures { λ r. ⌜ r ≡ lineEndAt (now (s .entry)) (c .at) ⌝ }
-{
-    let Place::Past(end) = c.tail(s) else {
-        return Place::Absent;
-    };
-    end.line_ending(s)
-}
-
 // A move line.   (the Rust's move_line)
 pub fn move_line(c: Cursor, s: &[u8]) -> MoveLine
     ensures { λ r. ⌜ r ≡ moveLineAt (now (s .entry)) (c .at) ⌝ }
@@ -118,7 +108,7 @@ pub fn move_line(c: Cursor, s: &[u8]) -> MoveLine
         return MoveLine::NoLine;
     };
     let timing = time(played.blanks(s), s);
-    let Place::Past(end) = line_end(timing.next, s) else {
+    let Place::Past(end) = timing.next.line_end(s) else {
         return MoveLine::NoLine;
     };
     let taken = timing.time;

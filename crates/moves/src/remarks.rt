@@ -1,6 +1,5 @@
 // Comments, and the lines that are skipped.
 use crate::Remark;
-use crate::line_end;
 use text::Cursor;
 use text::Place;
 ghost use mathlib.Core.Path.{_≡_};
@@ -69,5 +68,5 @@ pub fn skip_line(c: Cursor, s: &[u8]) -> Place
     let Place::Past(past) = c.character(s) else {
         return Place::Absent;
     };
-    line_end(past, s)
+    past.line_end(s)
 }

@@ -37,7 +37,8 @@ pub(crate) fn answer(kind: u8, request: &[u8], out: &mut [u8]) -> usize
     }
 }
 
-fn put_place(out: &mut [u8], place: Place) -> usize
+// Found and the place after.
+pub(crate) fn put_place(out: &mut [u8], place: Place) -> usize
     ensures { λ r. ⌜ r ≤ length (now (out .entry)) ⌝ }
 {
     match place {

@@ -1,9 +1,12 @@
-// What reading a move line answers to a request.
+// What reading a move line, a comment or a skip line answers to a request.
+use crate::leaves::put_place;
 use crate::request::number;
+use crate::request::put_four;
 use crate::request::put_three;
 use crate::request::rest;
 use jkf::Entry;
 use moves::MoveLine;
+use moves::Remark;
 use text::Cursor;
 ghost use Prim.Native.Nat.{_≤_};
 ghost use lib.ListN.{length};
@@ -27,4 +30,33 @@ pub(crate) fn move_line(request: &[u8], out: &mut [u8]) -> usize
         MoveLine::Numbered(ply, e, past) => put_line(out, ply, past.at as u64, e),
         MoveLine::NoLine => put_three(out, 0, 0, 0),
     }
+}
+
+// Found, where the comment begins and ends, and the place after its line.
+pub(crate) fn comment_line(request: &[u8], out: &mut [u8]) -> usize
+    ensures { λ r. ⌜ r ≤ length (now (out .entry)) ⌝ }
+{
+    let c = Cursor {
+        at: number(request, 0) as usize,
+    };
+    match moves::comment_line(c, rest(request, 8)) {
+        Remark::Stands(from, to, next) => put_four(
+            out,
+            1,
+            from.at as u64,
+            to.at as u64,
+            next.at as u64,
+        ),
+        Remark::NoRemark => put_four(out, 0, 0, 0, 0),
+    }
+}
+
+// Found and the place after a skip line.
+pub(crate) fn skip_line(request: &[u8], out: &mut [u8]) -> usize
+    ensures { λ r. ⌜ r ≤ length (now (out .entry)) ⌝ }
+{
+    let c = Cursor {
+        at: number(request, 0) as usize,
+    };
+    put_place(out, moves::skip_line(c, rest(request, 8)))
 }

@@ -3,6 +3,7 @@
 mod blocks;
 mod leaves;
 mod lines;
+mod reads;
 mod request;
 
 use libc::STDOUT_FILENO;
@@ -11,8 +12,8 @@ ghost use lib.ListN.{length};
 
 // How many records of each kind there were, and in how many the answers agreed. The last place is for unknown kinds.
 pub struct Tally {
-    pub asked: [u64; 13],
-    pub agreed: [u64; 13],
+    pub asked: [u64; 16],
+    pub agreed: [u64; 16],
 }
 
 // Whether to go on, and the tally so far.
@@ -23,7 +24,7 @@ pub struct Turn {
 
 impl Tally {
     fn counted(mut self, kind: usize, agrees: bool) -> Tally {
-        if 12 < kind {
+        if 15 < kind {
             return self;
         }
         self.asked[kind] = std::num::wrapping_add_u64(self.asked[kind], 1);
@@ -49,7 +50,10 @@ fn place_of(kind: u8) -> usize {
         b's' => 9,
         b'l' => 10,
         b'm' => 11,
-        _ => 12,
+        b'k' => 12,
+        b'x' => 13,
+        b'r' => 14,
+        _ => 15,
     }
 }
 
@@ -68,6 +72,9 @@ fn print_name(place: usize) {
         9 => io::write_all(STDOUT_FILENO, b"blocks, sound or not"),
         10 => io::write_all(STDOUT_FILENO, b"look-ups"),
         11 => io::write_all(STDOUT_FILENO, b"move lines"),
+        12 => io::write_all(STDOUT_FILENO, b"comments"),
+        13 => io::write_all(STDOUT_FILENO, b"skip lines"),
+        14 => io::write_all(STDOUT_FILENO, b"texts read"),
         _ => io::write_all(STDOUT_FILENO, b"of unknown kind"),
     }
     ;
@@ -81,13 +88,16 @@ fn respond(kind: u8, request: &[u8], out: &mut [u8]) -> usize
         b's' => blocks::sound(request, out),
         b'l' => blocks::look_up(request, out),
         b'm' => lines::move_line(request, out),
+        b'k' => lines::comment_line(request, out),
+        b'x' => lines::skip_line(request, out),
+        b'r' => reads::read(request, out),
         _ => leaves::answer(kind, request, out),
     }
 }
 
-// Whether the library's answer to a request is the recorded one.
+// Whether the library's answer to a request is the recorded one. The bytes before tell one that a call left alone from a 0.
 fn agrees(kind: u8, request: &[u8], answer: &[u8]) -> bool {
-    let mut out = [0u8; 2048];
+    let mut out = [165u8; 2048];
     let n = respond(kind, request, &mut out);
     check::same(&out[..n], answer)
 }
@@ -138,8 +148,8 @@ fn replay_next(fd: i32, tally: Tally) -> Turn {
 // A proved loop has to end, and nothing says that a file does: the turns are counted down from a number that no run uses up.
 fn replay_all(fd: i32) -> Tally {
     let mut tally = Tally {
-        asked: [0u64; 13],
-        agreed: [0u64; 13],
+        asked: [0u64; 16],
+        agreed: [0u64; 16],
     };
     let mut turns = u64::MAX;
     while turns > 0 {
@@ -164,7 +174,7 @@ fn print_line(place: usize, agreed: u64, asked: u64) {
 }
 
 fn print_tally(tally: Tally) {
-    for i in 0..13 {
+    for i in 0..16 {
         print_line(i, tally.agreed[i], tally.asked[i]);
     }
 }

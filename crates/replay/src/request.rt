@@ -54,3 +54,11 @@ pub(crate) fn put_three(out: &mut [u8], a: u64, b: u64, c: u64) -> usize
     let n = put_two(out, a, b);
     n + put_number(&mut out[n..], c)
 }
+
+// Four numbers.
+pub(crate) fn put_four(out: &mut [u8], a: u64, b: u64, c: u64, d: u64) -> usize
+    ensures { λ r. ⌜ r ≤ length (now (out .entry)) ⌝ }
+{
+    let n = put_two(out, a, b);
+    n + put_two(&mut out[n..], c, d)
+}

@@ -1,13 +1,13 @@
 -- What is known of an answer of a table: how far it goes, and that its number is the table's.
 -- Assumes nothing.
-use Prim.Native.Nat.{ℕ, _+_, _≤_, _<_, max}
+use Prim.Native.Nat.{ℕ, zero, suc, _+_, _≤_, _<_, max}
 use native.Mathlib.Omega.{arith}
-use mathlib.Core.Path.{_≡_, refl, subst}
+use mathlib.Core.Path.{_≡_, refl, sym, subst, _∙_}
 use mathlib.Core.List.{List, [], _∷_}
-use mathlib.Core.Bool.{Bool, true, false}
+use mathlib.Core.Bool.{Bool, true, false, false≢true}
 use lib.ListN.{length}
-use lib.Dec.{ltb}
-use borrow.Author.Tests.{ltb-true}
+use lib.Dec.{eqb, ltb}
+use borrow.Author.Tests.{ltb-true, eq-eqb}
 use Rattle.lists.specs.Pick.{pick}
 use Rattle.lists.proofs.Laws.{by-pick, pick-both}
 use Rattle.text.specs.Text.{cursor, standsAt}
@@ -15,7 +15,7 @@ use Rattle.text.specs.declared.Cursor.{Cursor}
 use Rattle.text.proofs.Laws.{stands-fits}
 use Rattle.text.proofs.Ends.{stands-end}
 use Rattle.spell.specs.Tables.{Spelling}
-use Rattle.spell.specs.Spell.{onSpelled, firstOf}
+use Rattle.spell.specs.Spell.{onSpelled, firstOf, hasNumber}
 use Rattle.spell.specs.declared.Spelled.{Spelled}
 use Rattle.spell.specs.declared.Spelled.the-variants.{As, Not}
 
@@ -74,3 +74,36 @@ first-end m (e ∷ es) h s at k =
     let (_, h₁) = pick-both (ltb (e .number) m) _ h in
     let (q, r) = pick-both (ltb 0 (length (e .bytes))) (below m es) h₁ in
     rw (stands-end s at k (e .bytes) (ltb-true _ _ q), first-end m es r s at k)
+
+-- ---- the number is the table's
+
+pub first-has : (es : List Spelling) (s : List ℕ) (at : ℕ) → OnSpelled (λ n c. hasNumber es n ≡ true) (firstOf es s at)
+unfolding firstOf hasNumber
+first-has [] s at = isNot
+first-has (e ∷ es) s at =
+    by-pick (OnSpelled (λ n c. hasNumber (e ∷ es) n ≡ true)) (standsAt (e .bytes) s at) (As (e .number) (cursor (at + length (e .bytes)))) (firstOf es s at)
+    (λ t. isAs here) (λ t. go (first-has es s at))
+  where
+    here : hasNumber (e ∷ es) (e .number) ≡ true
+    here = rw (eq-eqb (e .number) (e .number) refl)
+
+    go : {r : Spelled} → OnSpelled (λ n c. hasNumber es n ≡ true) r → OnSpelled (λ n c. hasNumber (e ∷ es) n ≡ true) r
+    go (isAs {n} {c} h) = isAs (by-pick (λ b. b ≡ true) (eqb (e .number) n) true (hasNumber es n) (λ t. refl) (λ t. h))
+    go isNot = isNot
+
+-- what two laws say of one answer
+pub both-spelled : {P Q : ℕ → Cursor → Type 0} {r : Spelled} → OnSpelled P r → OnSpelled Q r → OnSpelled (λ n c. P n c × Q n c) r
+both-spelled (isAs h) (isAs k) = isAs (h, k)
+both-spelled isNot isNot = isNot
+
+has-some : (es : List Spelling) (n : ℕ) → hasNumber es 0 ≡ false → hasNumber es n ≡ true → 1 ≤ n
+has-some es zero z h = let w : false ≡ true = sym z ∙ h in absurd (false≢true w)
+has-some es (suc n) z h = omega arith
+
+-- where a table does not have 0, its numbers are from 1 on
+pub first-some : (es : List Spelling) → hasNumber es 0 ≡ false → (s : List ℕ) (at : ℕ) → OnSpelled (λ n c. 1 ≤ n) (firstOf es s at)
+first-some es z s at = go (first-has es s at)
+  where
+    go : {r : Spelled} → OnSpelled (λ n c. hasNumber es n ≡ true) r → OnSpelled (λ n c. 1 ≤ n) r
+    go (isAs {n} {c} h) = isAs (has-some es n z h)
+    go isNot = isNot

@@ -3,7 +3,7 @@
 use Prim.Native.Nat.{ℕ, suc, _+_, _*_, _-_, _≤_, _<_, max}
 use native.Mathlib.Nat.{le-refl}
 use native.Mathlib.Omega.{arith}
-use mathlib.Core.Path.{_≡_, refl, ap}
+use mathlib.Core.Path.{_≡_, refl, sym, ap}
 use mathlib.Core.List.{List, [], _∷_}
 use mathlib.Core.Bool.{Bool, true, false, false≢true}
 use lib.ListN.{length, getD, drop, length-drop, drop-of-length-le}
@@ -11,7 +11,7 @@ use lib.Dec.{ltb, leb, eqb}
 use borrow.Author.Tests.{ltb-false, leb-true, eqb-true, eq-eqb, ne-eqb}
 use Rattle.lists.specs.Pick.{pick}
 use Rattle.lists.proofs.Laws.{drop-step, head-at, class-in, in-list}
-use Rattle.text.specs.Text.{cursor, onPlace, isText, isDigit, spanFrom, spanAt, prefixFrom, standsAt, tagAt, textAt, breakAt, tailAt, numberFrom, numberAt}
+use Rattle.text.specs.Text.{cursor, onPlace, isText, isDigit, spanFrom, spanAt, prefixFrom, standsAt, tagAt, textAt, breakAt, tailAt, lineEndAt, numberFrom, numberAt}
 use Rattle.text.specs.declared.Cursor.{Cursor}
 use Rattle.text.specs.declared.Place.{Place}
 use Rattle.text.specs.declared.Place.the-variants.{Past, Absent}
@@ -150,7 +150,7 @@ number-ge s at n = number-from-ge (drop at s) n
 pub no-past : {A : Type 0} (c : Cursor) → Absent ≡ Past c → A
 no-past c e = let z : _≡_ {A = ℕ} 0 1 = ap (λ (x : Place). onPlace x (λ d. 1) 0) e in absurd (omega arith)
 
-past-at : {c d : Cursor} → Past c ≡ Past d → c .at ≡ d .at
+pub past-at : {c d : Cursor} → Past c ≡ Past d → c .at ≡ d .at
 past-at e = ap (λ (x : Place). onPlace x (λ d. d .at) 0) e
 
 -- a place past something of the text, from the place at which it is
@@ -185,18 +185,32 @@ tail-from s at c e = go (eqb (getD s (textAt s at) 0) 13) (eqb (getD s (textAt s
     go true false e = no-past c e
     go false u e = end e
 
+-- a byte string that was read stands there
+pub tag-back : (t s : List ℕ) (at : ℕ) (c : Cursor) → tagAt t s at ≡ Past c → (standsAt t s at ≡ true) × (c .at ≡ at + length t)
+unfolding tagAt
+tag-back t s at c e = go (standsAt t s at) refl e
+  where
+    go : (u : Bool) → standsAt t s at ≡ u → pick u (Past (cursor (at + length t))) Absent ≡ Past c → (standsAt t s at ≡ true) × (c .at ≡ at + length t)
+    go true p e = (p, sym (past-at e))
+    go false p e = no-past c e
+
 -- a byte string of one byte or more is passed
 pub tag-after : (t s : List ℕ) (at : ℕ) (c : Cursor) → 0 < length t → tagAt t s at ≡ Past c → After at (length s) c
-unfolding tagAt
-tag-after t s at c n e = go (standsAt t s at) refl e
-  where
-    go : (u : Bool) → standsAt t s at ≡ u → pick u (Past (cursor (at + length t))) Absent ≡ Past c → After at (length s) c
-    go true p e =
-        let h = past-at e in
-        record { past = omega arith; within = omega (arith, stands-fits t s at p) }
-    go false p e = no-past c e
+tag-after t s at c n e =
+    let (p, q) = tag-back t s at c e in
+    record { past = omega arith; within = omega (arith, stands-fits t s at p) }
 
 -- where a place is handed on and a place comes back, both are there
 pub place-back : (p : Place) (f : Cursor → Place) (c : Cursor) → onPlace p f Absent ≡ Past c → (d : Cursor) × (p ≡ Past d) × (f d ≡ Past c)
 place-back (Past d) f c e = (d, refl, e)
 place-back Absent f c e = no-past c e
+
+-- a tail and its break
+pub line-end-after : (s : List ℕ) (at : ℕ) (c : Cursor) → lineEndAt s at ≡ Past c → After at (length s) c
+unfolding lineEndAt
+line-end-after s at c e =
+    let (d, p, q) = place-back (tailAt s at) (λ d. breakAt s (d .at)) c e in
+    let h = tail-from s at d p in
+    let a = break-after s (d .at) c q in
+    let f = a .past in
+    record { past = omega arith; within = a .within }

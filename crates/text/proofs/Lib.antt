@@ -3,3 +3,4 @@ pub mod Readings
 pub mod Widths
 pub mod Answers
 pub mod Ends
+pub mod Boundaries

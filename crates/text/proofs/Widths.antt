@@ -68,7 +68,7 @@ pad-within s at =
 
 -- ---- UTF-8
 
-next-zero : isNext 0 ≡ false
+pub next-zero : isNext 0 ≡ false
 unfolding isNext
 next-zero = refl
 

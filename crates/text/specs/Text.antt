@@ -95,6 +95,10 @@ tailEnd s e = pick (eqb (getD s e 0) 13) (pick (eqb (getD s (e + 1) 0) 10) (Past
 unfoldable pub tailAt : List ℕ → ℕ → Place
 tailAt s at = tailEnd s (textAt s at)
 
+-- A tail and its break.
+unfoldable pub lineEndAt : List ℕ → ℕ → Place
+lineEndAt s at = onPlace (tailAt s at) (λ c. breakAt s (c .at)) Absent
+
 -- U+3000, the ideographic space.
 abbrev pub wideSpace : List ℕ
 wideSpace = 227 ∷ 128 ∷ 128 ∷ []
@@ -129,3 +133,22 @@ numberIs largest at e n = pick (eqb e at) NoDigit (pick (leb n largest) (Value n
 -- (01, Reading rules: move line, time)
 unfoldable pub digitsAt : ℕ → List ℕ → ℕ → Number
 digitsAt largest s at = numberIs largest at (spanAt isDigit s at) (numberAt s at 0)
+
+-- ---- keys
+
+-- ：
+abbrev pub wideColon : List ℕ
+wideColon = 239 ∷ 188 ∷ 154 ∷ []
+
+-- What ends a key: ：, a CR or an LF, or the end of the text.                                         (01, Reading rules: key and value)
+abbrev pub endsKey : List ℕ → Bool
+endsKey [] = true
+endsKey (b ∷ l) = pick (isText b) (prefixFrom wideColon (b ∷ l)) true
+
+unfoldable pub keyFrom : List ℕ → List ℕ
+keyFrom [] = []
+keyFrom (b ∷ l) = let r = b ∷ keyFrom l in pick (endsKey (b ∷ l)) [] r
+
+-- The key that begins at a place.
+unfoldable pub keyAt : List ℕ → ℕ → List ℕ
+keyAt s at = keyFrom (drop at s)

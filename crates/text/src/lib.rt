@@ -5,7 +5,7 @@ mod utf8;
 pub use utf8::well_formed;
 ghost use mathlib.Core.Path.{_≡_};
 ghost use Rattle.text.specs.Utf8.{characterAt};
-ghost use Rattle.text.specs.Text.{isBlank, isText, isDigit, blanksAt, textAt, padWidth, paddingAt, standsAt, tagAt, breakAt, tailAt, digitsAt};
+ghost use Rattle.text.specs.Text.{isBlank, isText, isDigit, blanksAt, textAt, padWidth, paddingAt, standsAt, tagAt, breakAt, tailAt, lineEndAt, digitsAt};
 
 pub struct Cursor {
     pub at: usize,
@@ -152,6 +152,16 @@ impl Cursor {
             }
         }
         Place::Absent
+    }
+
+    // Past a tail and its break.
+    pub fn line_end(self, s: &[u8]) -> Place
+        ensures { λ r. ⌜ r ≡ lineEndAt (now (s .entry)) (self .at) ⌝ }
+    {
+        let Place::Past(end) = self.tail(s) else {
+            return Place::Absent;
+        };
+        end.line_ending(s)
     }
 
     // Past a given byte string.   (nom's tag)

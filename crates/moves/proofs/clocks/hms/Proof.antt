@@ -40,13 +40,13 @@ unfolding hmsAt
 returns-3 c = rw (← c .before .before .before .before .before .before .before .before .before .figure .ensures, c .before .before .before .before .before .before .before .h .given .1, ← c .before .before .before .before .before .figure2 .ensures, c .before .before .before .m .given .1, ← c .before .digits .ensures) (sym (number-else (c .before .digits .result) _ _ (c .match3 .keys2)))
 
 cast-t12 : tie.Need-cast-t12
-cast-t12 c = omega (arith, value-is (figure-fits _ _) (sym (c .before .before .before .before .before .before .before .before .before .before .before .figure .ensures) ∙ c .before .before .before .before .before .before .before .before .before .h .given .1))
+cast-t12 c = omega (arith, value-is (figure-fits _ _) (sym (c .before .before .before .before .before .before .before .before .before .before .before .figure .ensures) ∙ c .before .before .before .before .before .before .before .before .before .h .given .1) .small)
 
 cast-t13 : tie.Need-cast-t13
-cast-t13 c = omega (arith, value-is (figure-fits _ _) (sym (c .before .before .before .before .before .before .before .figure2 .ensures) ∙ c .before .before .before .before .before .m .given .1))
+cast-t13 c = omega (arith, value-is (figure-fits _ _) (sym (c .before .before .before .before .before .before .before .figure2 .ensures) ∙ c .before .before .before .before .before .m .given .1) .small)
 
 cast-t14 : tie.Need-cast-t14
-cast-t14 c = omega (arith, value-is (digits-fit 255 _ _) (sym (c .before .before .before .digits .ensures) ∙ c .before .n .given .1))
+cast-t14 c = omega (arith, value-is (digits-fit 255 _ _) (sym (c .before .before .before .digits .ensures) ∙ c .before .n .given .1) .small)
 
 returns-4 : tie.Need-returns-4
 unfolding hmsAt

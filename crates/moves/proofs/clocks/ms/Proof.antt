@@ -30,10 +30,10 @@ unfolding msAt
 returns-2 c = rw (← c .before .before .before .before .before .figure .ensures, c .before .before .before .m .given .1, ← c .before .digits .ensures) (sym (number-else (c .before .digits .result) _ _ (c .match2 .keys2)))
 
 cast-t9 : tie.Need-cast-t9
-cast-t9 c = omega (arith, value-is (figure-fits _ _) (sym (c .before .before .before .before .before .before .before .figure .ensures) ∙ c .before .before .before .before .before .m .given .1))
+cast-t9 c = omega (arith, value-is (figure-fits _ _) (sym (c .before .before .before .before .before .before .before .figure .ensures) ∙ c .before .before .before .before .before .m .given .1) .small)
 
 cast-t10 : tie.Need-cast-t10
-cast-t10 c = omega (arith, value-is (digits-fit 255 _ _) (sym (c .before .before .before .digits .ensures) ∙ c .before .n .given .1))
+cast-t10 c = omega (arith, value-is (digits-fit 255 _ _) (sym (c .before .before .before .digits .ensures) ∙ c .before .n .given .1) .small)
 
 returns-3 : tie.Need-returns-3
 unfolding msAt

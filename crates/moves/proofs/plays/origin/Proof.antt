@@ -52,7 +52,7 @@ unfolding originAt
 returns-3 c = rw (← c .before .before .before .before .before .before .before .before .before .before .before .tag .ensures, c .before .before .before .before .before .before .before .before .before .inside .given .1, ← c .before .before .before .before .before .before .before .digits .ensures, c .before .before .before .before .before .n .given .1, ← c .before .before .tag2 .ensures, c .enum-told2 .given .1)
 
 cast-t17 : tie.Need-cast-t17
-cast-t17 c = omega (arith, value-is (digits-fit 255 _ _) (sym (c .before .before .before .before .before .before .before .before .digits .ensures) ∙ c .before .before .before .before .before .before .n .given .1))
+cast-t17 c = omega (arith, value-is (digits-fit 255 _ _) (sym (c .before .before .before .before .before .before .before .before .digits .ensures) ∙ c .before .before .before .before .before .before .n .given .1) .small)
 
 cast-t19 : tie.Need-cast-t19
 cast-t19 c = search needs

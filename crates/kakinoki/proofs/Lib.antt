@@ -1,0 +1,15 @@
+pub mod Filled
+pub mod Reach
+pub mod Pieces
+pub mod Cells
+pub mod Sevens
+pub mod Tags
+pub mod Keys
+pub mod Lines
+pub mod Items
+pub mod Places
+pub mod Blocks
+pub mod Stored
+pub mod Starting
+pub mod Diagrams
+pub mod Heads

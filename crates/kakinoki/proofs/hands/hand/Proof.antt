@@ -1,0 +1,41 @@
+-- The answers of the steps, handed on as the definition hands them on.
+-- Assumes nothing.
+use borrow.Author.Needs.{needs}
+use Rattle.kakinoki.specs.Informations.{handAt}
+use Rattle.kakinoki.proofs.hands.hand.Statement.{statement}
+use Rattle.kakinoki.proofs.hands.hand.Tie as tie
+
+slice-aggregate-tag : tie.Need-slice-aggregate-tag
+slice-aggregate-tag c = search needs
+
+tag-requires : tie.Need-tag-requires
+tag-requires c κs = search needs
+
+enum-known-end : tie.Need-enum-known-end
+enum-known-end c = search needs
+
+enum-told : tie.Need-enum-told
+enum-told c = search needs
+
+pieces-requires : tie.Need-pieces-requires
+pieces-requires c κs = search needs
+
+returns : tie.Need-returns
+unfolding handAt
+returns c = rw (← c .before .before .before .tag .ensures, c .before .enum-told .given .1, ← c .pieces .ensures)
+
+returns-2 : tie.Need-returns-2
+unfolding handAt
+returns-2 c = rw (← c .before .before .before .tag .ensures, c .before .end .given .1)
+
+pub hand-spec : {M : Type 1} → statement M
+hand-spec =
+    tie.close
+    (tie.spec
+    slice-aggregate-tag
+    tag-requires
+    enum-known-end
+    enum-told
+    pieces-requires
+    returns
+    returns-2)

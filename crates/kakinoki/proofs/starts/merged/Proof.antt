@@ -1,0 +1,27 @@
+-- Preset, turn and both hands are made as in the definition.
+-- Assumes nothing.
+use borrow.Author.Needs.{needs}
+use Rattle.kakinoki.specs.Starts.{merged}
+use Rattle.kakinoki.proofs.starts.merged.Statement.{statement}
+use Rattle.kakinoki.proofs.starts.merged.Tie as tie
+
+either-requires : tie.Need-either-requires
+either-requires c κs = search needs
+
+either-requires-2 : tie.Need-either-requires-2
+either-requires-2 c κs = search needs
+
+add-hands-requires : tie.Need-add-hands-requires
+add-hands-requires c κs = search needs
+
+add-hands-requires-2 : tie.Need-add-hands-requires-2
+add-hands-requires-2 c κs = search needs
+
+returns : tie.Need-returns
+unfolding merged
+returns c = rw (c .before .before .before .either .ensures, c .before .before .either2 .ensures, c .before .add-hands .ensures, c .add-hands2 .ensures)
+
+pub merged-spec : {M : Type 1} → statement M
+merged-spec =
+    tie.close
+    (tie.spec either-requires either-requires-2 add-hands-requires add-hands-requires-2 returns)

@@ -1,0 +1,3 @@
+pub mod Informations
+pub mod Boards
+pub mod Starts

@@ -1,0 +1,90 @@
+-- What stands before the moves is ready to be stored: a text of 65,535 bytes has at most 13,107 header lines, and each begins below 65,536,
+-- so all their places are kept as they are, and sorted by key they stand in the front of the buffer.
+-- Assumes nothing.
+use Prim.Native.Nat.{ℕ, suc, _+_, _-_, _≤_, _<_}
+use native.Mathlib.Nat.{mod-eq-of-lt}
+use native.Mathlib.Omega.{arith}
+use mathlib.Core.Path.{_≡_, refl, sym, ap, _∙_}
+use mathlib.Core.List.{List, [], _∷_, _++_}
+use lib.ListN.{length, getD, take, drop, replicate, length-append, length-replicate}
+use lib.Seq.{sets, sets-eq, take-at, length-take-le}
+use borrow.Author.Tests.{le-ltb}
+use Rattle.sorted.specs.Sorted.{kept, Leads, keptCount, keptBuffer}
+use Rattle.kakinoki.specs.Informations.{low16}
+use Rattle.kakinoki.specs.Starts.{startOf, headerPlaces}
+use Rattle.kakinoki.specs.declared.Start.{Start}
+use Rattle.kakinoki.proofs.Heads.{header-begins, headers-few}
+use Rattle.parser.specs.Read.{noPlaces, Prepared}
+
+-- ---- numbers of 16 bits, and a list at a buffer's front
+
+low-same : (l : List ℕ) → ((i : ℕ) → i < length l → getD l i 0 < 65536) → low16 l ≡ l
+low-same [] h = refl
+low-same (x ∷ l) h =
+    ap (λ (n : ℕ). n ∷ low16 l) (mod-eq-of-lt (h 0 (omega arith))) ∙ ap (λ (r : List ℕ). x ∷ r) (low-same l (λ i n. h (suc i) (omega arith)))
+
+front-of : (l o : List ℕ) (n : ℕ) → length l ≤ length o → length l ≡ n → take n (sets o 0 l) ≡ l
+front-of l o n h e = ap (take n) (sets-eq l o 0 (omega arith)) ∙ take-at l (drop (0 + length l) o) n e
+
+-- places that have room are sorted into the front
+kept-leads : (s ps o out : List ℕ) (r : ℕ) → length ps ≤ 13107 → length ps ≤ length o → r ≡ keptCount s ps o → out ≡ keptBuffer s ps o
+    → Leads (kept s ps) out r
+unfolding keptCount keptBuffer
+kept-leads s ps o out r h g e f =
+    let a = le-ltb 13107 (length ps) h in
+    let b = le-ltb (length o) (length ps) g in
+    let n : r ≡ length (kept s ps) = rw (a, b) at e in
+    let z : List ℕ = replicate (length o - length (kept s ps)) 0 in
+    let m : out ≡ kept s ps ++ z = rw (a, b) at f in
+    record {
+      count = n;
+      front = ap (take r) m ∙ take-at (kept s ps) z r (sym n);
+      fits = omega (arith, ap length m, length-append (kept s ps) z);
+    }
+
+-- ---- what was read before the moves
+
+abbrev pub Begun : List ℕ → Start → List ℕ → Type 0
+Begun s start places = (length s ≤ 65535) × (start ≡ startOf s) × (places ≡ sets noPlaces 0 (low16 (headerPlaces s)))
+
+module _ (s : List ℕ) (start : Start) (places : List ℕ) (b : Begun s start places) where
+  places-few : length (headerPlaces s) ≤ 13107
+  places-few = omega (arith, headers-few s, b .0)
+
+  places-low : low16 (headerPlaces s) ≡ headerPlaces s
+  places-low = low-same (headerPlaces s) (λ i n. omega (arith, header-begins s i n .inside, b .0))
+
+  counted : length (headerPlaces s) ≡ start .headers
+  unfolding startOf
+  counted = sym (ap (λ (x : Start). x .headers) (b .1))
+
+  room : length (headerPlaces s) ≤ length noPlaces
+  room = simp length-replicate places-few
+
+  places-taken : take (start .headers) places ≡ headerPlaces s
+  places-taken =
+      ap (take (start .headers)) (b .2 ∙ ap (sets noPlaces 0) places-low) ∙ front-of (headerPlaces s) noPlaces (start .headers) room counted
+
+  pub taken-count : start .headers ≡ length (take (start .headers) places)
+  taken-count = sym counted ∙ sym (ap length places-taken)
+
+  module _ (r : ℕ) (out : List ℕ) (e : (r ≡ keptCount s (take (start .headers) places) noPlaces) × (out ≡ keptBuffer s (take (start .headers) places) noPlaces)) where
+    sorted-leads : Leads (kept s (headerPlaces s)) out r
+    sorted-leads =
+        kept-leads s (headerPlaces s) noPlaces out r places-few room (e .0 ∙ ap (λ (ps : List ℕ). keptCount s ps noPlaces) places-taken)
+        (e .1 ∙ ap (λ (ps : List ℕ). keptBuffer s ps noPlaces) places-taken)
+
+    pub sorted-within : r ≤ length out
+    sorted-within = sorted-leads .fits
+
+    pub sorted-count : r ≡ length (take r out)
+    sorted-count = sym (length-take-le r out sorted-within)
+
+    pub prepared : Prepared s (start .position) (start .next .at) (take r out)
+    prepared =
+        record {
+          short = b .0;
+          position = ap (λ (x : Start). x .position) (b .1);
+          place = ap (λ (x : Start). x .next .at) (b .1);
+          headers = sorted-leads .front;
+        }

@@ -1,0 +1,4 @@
+pub mod Plays
+pub mod Filling
+pub mod Parse
+pub mod Read

@@ -1,0 +1,48 @@
+-- What a text says: its header, its position, its lines of play, and how much of it is taken.         (01, Reading rules)
+-- Assumes nothing: these are definitions.
+use Prim.Native.Nat.{ℕ, _+_}
+use mathlib.Core.List.{List, []}
+use lib.ListN.{length}
+use Rattle.lists.specs.Repeat.{Ended}
+use Rattle.jkf.specs.declared.Position.{Position}
+use Rattle.block.specs.Model.{Header, Noted, Line, Record}
+use Rattle.block.specs.Attach.{Play, attach}
+use Rattle.block.specs.Encode.{headerText, entriesOf, commentsOf, commentText, blockLength}
+use Rattle.sorted.specs.Sorted.{byBytes, enterAll}
+use Rattle.sorted.specs.declared.Order.{Order}
+use Rattle.kakinoki.specs.Starts.{startOf, headersSaid}
+use Rattle.parser.specs.Plays.{playsAt}
+
+pub record Parsed : Type 0 where
+  pub headers : List Header
+  pub position : Position
+  pub plays : List Play
+  pub taken : ℕ
+
+abbrev pub byHeader : Header → Header → Order
+byHeader a b = byBytes (a .key) (b .key)
+
+-- Header entries ascend by key, and the last value of a key wins.
+unfoldable pub headersOf : List ℕ → List Header
+headersOf s = enterAll byHeader [] (headersSaid s)
+
+unfoldable pub parse : List ℕ → Parsed
+parse s =
+    record {
+      headers = headersOf s;
+      position = startOf s .position;
+      plays = playsAt s (startOf s .next .at) .state;
+      taken = playsAt s (startOf s .next .at) .at;
+    }
+
+-- The record: each line hangs where the attaching rule says.
+abbrev pub recordOf : Parsed → Record
+recordOf p = record { version = 1; headers = p .headers; position = p .position; lines = attach (p .plays) }
+
+-- The length of its block, which is known before anything hangs.                                      (01, The block: length)
+abbrev pub neededBy : List Header → List Line → ℕ
+neededBy hs ls =
+    blockLength (length hs) (length ls) (length (entriesOf ls)) (length (commentsOf (entriesOf ls))) (length (headerText hs) + length (commentText (commentsOf (entriesOf ls))))
+
+unfoldable pub needed : Parsed → ℕ
+needed p = neededBy (p .headers) (attach (p .plays))

@@ -1,0 +1,90 @@
+-- What `read` answers, and what the lent buffer then holds.                                           (01, Numbers of refusal)
+-- Assumes nothing: these are definitions.
+use Prim.Native.Nat.{ℕ, _≤_}
+use mathlib.Core.Path.{_≡_}
+use mathlib.Core.List.{List, [], _++_}
+use lib.ListN.{length, drop, replicate}
+use lib.Dec.{ltb}
+use Rattle.lists.specs.Pick.{pick}
+use Rattle.text.specs.Utf8.{wellFormed}
+use Rattle.jkf.specs.Attaching.{Hung, all, first}
+use Rattle.jkf.specs.declared.Answer.{Answer}
+use Rattle.jkf.specs.declared.Answer.the-variants.{Done, TextTooLong, NotUtf8, HandLine, BlockTooLong, BufferShort, NoEntry}
+use Rattle.jkf.specs.Positions.{positionBytes}
+use Rattle.jkf.specs.declared.Position.{Position}
+use Rattle.block.specs.Encode.{encode, headBytes}
+use Rattle.block.specs.Attach.{allHung}
+use Rattle.sorted.specs.Sorted.{kept}
+use Rattle.kakinoki.specs.Starts.{startOf, headerPlaces}
+use Rattle.kakinoki.specs.declared.Fault.{Fault}
+use Rattle.kakinoki.specs.declared.Fault.the-variants.{NoFault, At}
+use Rattle.parser.specs.Filling.{sizesAt}
+use Rattle.parser.specs.Parse.{Parsed, parse, needed, recordOf}
+use Rattle.parser.specs.declared.Sizes.{Sizes}
+
+abbrev pub onFault : {A : Type 0} → Fault → (ℕ → A) → A → A
+onFault (At at) f d = f at
+onFault NoFault f d = d
+
+abbrev pub onHung : {A : Type 0} → Hung → (ℕ → ℕ → A) → A → A
+onHung (first k ply) f d = f k ply
+onHung all f d = d
+
+-- An answer, and the lent buffer after it.
+pub record Outcome : Type 0 where
+  pub answer : Answer
+  pub buffer : List ℕ
+
+-- A refusal that leaves the buffer as it was.
+abbrev pub refuse : Answer → List ℕ → Outcome
+refuse a o = record { answer = a; buffer = o }
+
+-- Refusal 6 clears the whole buffer; success puts the block at its front and changes nothing past it.
+unfoldable pub filledWith : Parsed → List ℕ → Outcome
+filledWith p o =
+    onHung (allHung (p .plays))
+    (λ k ply. record { answer = NoEntry k ply; buffer = replicate (length o) 0 })
+    (record { answer = Done (p .taken) (needed p); buffer = encode (recordOf p) ++ drop (needed p) o })
+
+-- Refusals 4 and 5 come before 6, so the length is asked for first.
+unfoldable pub storedOf : Parsed → List ℕ → Outcome
+storedOf p o =
+    pick (ltb 65535 (needed p))
+    (refuse (BlockTooLong (needed p)) o)
+    (pick (ltb (length o) (needed p)) (refuse (BufferShort (needed p)) o) (filledWith p o))
+
+-- Refusal 3, then the others.
+unfoldable pub startedOf : List ℕ → List ℕ → Outcome
+startedOf s o = let r = storedOf (parse s) o in onFault (startOf s .fault) (λ at. refuse (HandLine at) o) r
+
+-- Refusals 1 and 2, then the others.                                                                  (01, Numbers of refusal: order)
+unfoldable pub readOf : List ℕ → List ℕ → Outcome
+readOf s o =
+    let r = startedOf s o in
+    pick (ltb 65535 (length s))
+    (refuse (TextTooLong (length s)) o)
+    (pick (ltb (wellFormed s) (length s)) (refuse (NotUtf8 (wellFormed s)) o) r)
+
+-- ---- on the way
+
+-- Room for the places of as many header lines as 65,535 bytes can hold.
+abbrev pub noPlaces : List ℕ
+noPlaces = replicate 13107 0
+
+-- What was read before the moves, and the places of the header lines by key.
+pub record Prepared (s : List ℕ) (p : Position) (at : ℕ) (hs : List ℕ) : Type 0 where
+  pub short : length s ≤ 65535
+  pub position : p ≡ startOf s .position
+  pub place : at ≡ startOf s .next .at
+  pub headers : hs ≡ kept s (headerPlaces s)
+
+-- The lines are counted, and the block fits the buffer.
+pub record Measured (s : List ℕ) (z : Sizes) (n : ℕ) (o : List ℕ) : Type 0 where
+  pub sizes : z ≡ sizesAt s (startOf s .next .at)
+  pub needs : n ≡ needed (parse s)
+  pub most : n ≤ 65535
+  pub room : n ≤ length o
+
+-- A block's first 128 bytes.
+abbrev pub headOf : ℕ → ℕ → Sizes → Position → List ℕ
+headOf total headers z position = headBytes 1 total headers (z .lines) (z .entries) (z .comments) ++ positionBytes position

@@ -1,0 +1,5 @@
+pub mod Orders
+pub mod Merges
+pub mod Kept
+pub mod Keys
+pub mod Buffers

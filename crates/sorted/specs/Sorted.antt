@@ -1,0 +1,87 @@
+-- Header lines in the order of their keys, of equal keys the last.                                   (01, Reading rules; The block: header entry)
+-- Assumes nothing: these are definitions.
+use Prim.Native.Nat.{ℕ, _-_, _≤_}
+use mathlib.Core.Path.{_≡_}
+use mathlib.Core.List.{List, [], _∷_, _++_}
+use lib.ListN.{length, take, replicate}
+use lib.Dec.{ltb}
+use Rattle.lists.specs.Pick.{pick}
+use Rattle.text.specs.Text.{keyAt}
+use Rattle.sorted.specs.declared.Order.{Order}
+use Rattle.sorted.specs.declared.Order.the-variants.{Less, Equal, Greater}
+
+abbrev pub onOrder : {A : Type 0} → Order → A → A → A → A
+onOrder Less a b c = a
+onOrder Equal a b c = b
+onOrder Greater a b c = c
+
+-- ---- the order
+
+unfoldable pub compared : ℕ → ℕ → Order
+compared x y = pick (ltb x y) Less (pick (ltb y x) Greater Equal)
+
+-- Lists of bytes as a dictionary orders them.                                                        (01, The block: keys ascending by bytes)
+unfoldable pub byBytes : List ℕ → List ℕ → Order
+byBytes [] [] = Equal
+byBytes [] (y ∷ ys) = Less
+byBytes (x ∷ xs) [] = Greater
+byBytes (x ∷ xs) (y ∷ ys) = let r = byBytes xs ys in onOrder (compared x y) Less r Greater
+
+-- Header lines, which the places where they begin stand for.
+abbrev pub byKey : List ℕ → ℕ → ℕ → Order
+byKey s p q = byBytes (keyAt s p) (keyAt s q)
+
+-- ---- what is kept
+
+-- What is entered into an ascending list stands at its place, instead of what was equal to it.        (01, Reading rules: the last wins)
+unfoldable pub enter : {A : Type 0} → (A → A → Order) → List A → A → List A
+enter o [] p = p ∷ []
+enter o (x ∷ l) p = onOrder (o x p) (x ∷ enter o l p) (p ∷ l) (p ∷ x ∷ l)
+
+-- One after the other.                                                                               (the Rust's HashMap)
+unfoldable pub enterAll : {A : Type 0} → (A → A → Order) → List A → List A → List A
+enterAll o l [] = l
+enterAll o l (p ∷ ps) = enterAll o (enter o l p) ps
+
+-- The places of header lines by key, of equal keys the last.
+unfoldable pub kept : List ℕ → List ℕ → List ℕ
+kept s ps = enterAll (byKey s) [] ps
+
+-- Two ascending lists in one; of equal ones the second's stays.
+unfoldable pub into : {A : Type 0} → (A → A → Order) → A → (List A → List A) → List A → List A
+into o x f [] = x ∷ f []
+into o x f (y ∷ ys) = onOrder (o x y) (x ∷ f (y ∷ ys)) (y ∷ f ys) (y ∷ into o x f ys)
+
+unfoldable pub merge : {A : Type 0} → (A → A → Order) → List A → List A → List A
+merge o [] ys = ys
+merge o (x ∷ xs) ys = into o x (merge o xs) ys
+
+-- ---- in a buffer
+
+-- The first n of a buffer are l.
+pub record Leads (l after : List ℕ) (n : ℕ) : Type 0 where
+  pub count : n ≡ length l
+  pub front : take n after ≡ l
+  pub fits : n ≤ length after
+
+-- At most as many lines as a text of 65,535 bytes can have, and a buffer that has room for them all; or else the other.
+abbrev pub ifRoom : {A : Type 0} → List ℕ → List ℕ → A → A → A
+ifRoom ps o a b = pick (ltb 13107 (length ps)) b (pick (ltb (length o) (length ps)) b a)
+
+unfoldable pub keptCount : List ℕ → List ℕ → List ℕ → ℕ
+keptCount s ps o = ifRoom ps o (length (kept s ps)) 0
+
+-- The kept places, and zeros behind them.
+unfoldable pub keptBuffer : List ℕ → List ℕ → List ℕ → List ℕ
+keptBuffer s ps o = ifRoom ps o (kept s ps ++ replicate (length o - length (kept s ps)) 0) o
+
+-- ---- what is known of it
+
+-- Each of a list.
+abbrev pub All : {A : Type 0} → (A → Type 0) → List A → Type 0
+All P [] = Unit {0}
+All P (x ∷ l) = P x × All P l
+
+abbrev pub Ascending : {A : Type 0} → (A → A → Order) → List A → Type 0
+Ascending o [] = Unit {0}
+Ascending o (x ∷ l) = All (λ y. o x y ≡ Less) l × Ascending o l

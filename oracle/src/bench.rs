@@ -1,0 +1,55 @@
+//! The original and the port side by side in one process, timed on texts that a fixed seed makes.
+
+mod reading;
+mod slow;
+mod usual;
+
+use std::hint::black_box;
+use std::time::{Duration, Instant};
+
+/// How often each side does each work, in turns; the best time counts.
+const ROUNDS: usize = 300;
+
+/// Every call that both sides have.
+pub fn bench() {
+    println!("Best of {ROUNDS} rounds. The port is lent one buffer, which is not cleared between calls; what the");
+    println!("original makes (for reading its JsonKifuFormat) is freed outside the time. MB are 1,000,000 bytes.");
+    reading::bench();
+}
+
+/// How long something takes, its result's end apart.
+fn timed<T>(run: impl FnOnce() -> T) -> Duration {
+    let start = Instant::now();
+    let made = black_box(run());
+    let took = start.elapsed();
+    drop(made);
+    took
+}
+
+/// The best time of each side over so many rounds.
+fn best<const N: usize>(rounds: usize, mut round: impl FnMut() -> [Duration; N]) -> [Duration; N] {
+    let mut best = [Duration::MAX; N];
+    for _ in 0..rounds {
+        let times = round();
+        best.iter_mut().zip(times).for_each(|(best, time)| *best = time.min(*best));
+    }
+    best
+}
+
+fn millis(time: Duration) -> f64 {
+    time.as_secs_f64() * 1e3
+}
+
+/// A line of the table: both times, both speeds, and how many times as fast the port is.
+fn row(name: &str, bytes: usize, [rust, port]: [Duration; 2]) {
+    let micros = |time: Duration| millis(time) * 1e3;
+    let speed = |time: Duration| bytes as f64 / micros(time);
+    println!(
+        "{name:8} {bytes:6} bytes  Rust {:9.1} us {:7.1} MB/s  port {:9.1} us {:7.1} MB/s  {:5.1} times",
+        micros(rust),
+        speed(rust),
+        micros(port),
+        speed(port),
+        micros(rust) / micros(port),
+    );
+}
