@@ -12,12 +12,13 @@ use Rattle.text.specs.declared.Cursor.{Cursor}
 use Rattle.text.specs.declared.Place.{Place}
 use Rattle.text.specs.declared.Place.the-variants.{Past}
 use Rattle.text.proofs.Laws.{no-past, break-after, tag-after, place-back}
+use Rattle.text.proofs.Answers.{by-past}
 use Rattle.spell.specs.Tables.{numerals}
 use Rattle.spell.specs.declared.Spelled.{Spelled}
 use Rattle.spell.proofs.Answers.{OnSpelled, isAs, isNot, by-spelled}
 use Rattle.kakinoki.specs.Boards.{filesTag, ruleTag, emptyTag, noCells, noBoard, whiteAt, cellAt, cellsFrom, rowEndAt, rowAt, rowsFrom, ruledAt, boardAt}
 use Rattle.kakinoki.specs.declared.Board.{Board}
-use Rattle.kakinoki.proofs.Reach.{spelled-map, by-past, first-after, kind-known}
+use Rattle.kakinoki.proofs.Reach.{spelled-map, first-after, kind-known}
 
 -- a board that is there ends at a place or past it
 abbrev pub Onward : ℕ → Board → Type 0

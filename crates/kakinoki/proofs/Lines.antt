@@ -17,6 +17,7 @@ use Rattle.text.specs.declared.Cursor.{Cursor}
 use Rattle.text.specs.declared.Place.{Place}
 use Rattle.text.specs.declared.Place.the-variants.{Past, Absent}
 use Rattle.text.proofs.Laws.{After, no-past, break-after, tail-from, tag-after, place-back}
+use Rattle.text.proofs.Answers.{by-past}
 use Rattle.spell.specs.Tables.{presets, sides}
 use Rattle.spell.specs.declared.Spelled.{Spelled}
 use Rattle.spell.proofs.Answers.{OnSpelled, isAs, isNot, by-spelled}
@@ -28,7 +29,7 @@ use Rattle.kakinoki.specs.declared.Held.the-variants.{By, Unreadable, No
 use Rattle.kakinoki.specs.declared.KeyValue.{KeyValue}
 use Rattle.kakinoki.specs.declared.KeyValue.the-variants.{Pair, NoPair}
 use Rattle.kakinoki.proofs.Pieces.{piece-goes}
-use Rattle.kakinoki.proofs.Reach.{repeat-keeps, padding-on, by-past, spelled-map, first-after, onward}
+use Rattle.kakinoki.proofs.Reach.{repeat-keeps, padding-on, spelled-map, first-after, onward}
 
 line-end-after : (s : List ℕ) (at : ℕ) (c : Cursor) → lineEndAt s at ≡ Past c → After at (length s) c
 unfolding lineEndAt

@@ -4,25 +4,23 @@ use Prim.Native.Nat.{ℕ, zero, suc, _+_, _≤_, max}
 use native.Mathlib.Omega.{arith}
 use mathlib.Core.Path.{_≡_, refl}
 use mathlib.Core.List.{List, [], _∷_}
-use mathlib.Core.Bool.{Bool, true, false}
+use mathlib.Core.Bool.{true}
 use lib.ListN.{length}
-use lib.Dec.{eqb, leb}
-use borrow.Author.Tests.{leb-true}
-use Rattle.lists.specs.Pick.{pick}
+use lib.Dec.{eqb}
 use Rattle.lists.specs.Repeat.{Step, more, stop, ended, onStep, repeatFrom}
-use Rattle.lists.proofs.Laws.{by-pick, pick-both}
-use Rattle.text.specs.Text.{cursor, onPlace, standsAt, tagAt, padWidth, widthStep, pastAll, paddingAt}
+use Rattle.lists.proofs.Laws.{by-pick}
+use Rattle.text.specs.Text.{tagAt, padWidth, widthStep, pastAll, paddingAt}
 use Rattle.text.specs.declared.Cursor.{Cursor}
-use Rattle.text.specs.declared.Place.{Place}
-use Rattle.text.specs.declared.Place.the-variants.{Past, Absent}
+use Rattle.text.specs.declared.Place.the-variants.{Past}
 use Rattle.text.proofs.Laws.{After, tag-after}
+use Rattle.text.proofs.Answers.{by-past}
 use Rattle.text.proofs.Widths.{pad-within}
 use Rattle.spell.specs.Tables.{Spelling, kinds, numerals}
-use Rattle.spell.specs.Spell.{firstOf}
+use Rattle.spell.specs.Spell.{firstOf, hasNumber}
 use Rattle.spell.specs.Count.{ten, tensAt, countAt}
 use Rattle.spell.specs.declared.Spelled.{Spelled}
 use Rattle.spell.specs.declared.Spelled.the-variants.{As, Not}
-use Rattle.spell.proofs.Answers.{OnSpelled, isAs, isNot, as-is, by-spelled, below, first-within, first-known}
+use Rattle.spell.proofs.Answers.{OnSpelled, isAs, isNot, as-is, by-spelled, below, first-within, first-known, first-some}
 
 -- ---- repetitions
 
@@ -71,25 +69,7 @@ pub spelled-map : {P Q : ℕ → Cursor → Type 0} {r : Spelled} → ((n : ℕ)
 spelled-map k (isAs {n} {c} h) = isAs (k n c h)
 spelled-map k isNot = isNot
 
--- what is made of a place that is there, and what stands for none
-pub by-past : {A : Type 0} (Q : A → Type 0) {d : A} (z : Q d) (p : Place) {f : Cursor → A} → ((c : Cursor) → p ≡ Past c → Q (f c)) → Q (onPlace p f d)
-by-past Q z (Past c) k = k c refl
-by-past Q z Absent k = z
-
 -- ---- tables
-
--- every number of a table is m or more: a test that antt computes
-abbrev pub above : ℕ → List Spelling → Bool
-above m [] = true
-above m (e ∷ es) = pick (leb m (e .number)) (above m es) false
-
-pub first-above : (m : ℕ) (es : List Spelling) → above m es ≡ true → (s : List ℕ) (at : ℕ) → OnSpelled (λ n c. m ≤ n) (firstOf es s at)
-unfolding firstOf
-first-above m [] h s at = isNot
-first-above m (e ∷ es) h s at =
-    let (p, q) = pick-both (leb m (e .number)) (above m es) h in
-    by-pick (OnSpelled (λ n c. m ≤ n)) (standsAt (e .bytes) s at) (As (e .number) (cursor (at + length (e .bytes)))) (firstOf es s at)
-    (λ _. isAs (leb-true _ _ p)) (λ _. first-above m es q s at)
 
 -- a spelling of a table without empty ones is passed
 pub first-after : (m : ℕ) (es : List Spelling) → below m es ≡ true → (s : List ℕ) (at : ℕ) → OnSpelled (λ n c. After at (length s) c) (firstOf es s at)
@@ -104,10 +84,11 @@ pub record Kind (s : List ℕ) (at k : ℕ) (c : Cursor) : Type 0 where
   pub after : After at (length s) c
 
 pub kind-known : (s : List ℕ) (at : ℕ) → OnSpelled (Kind s at) (firstOf kinds s at)
+unfolding hasNumber
 kind-known s at =
     spelled-all (firstOf kinds s at) λ n c e.
     let m = as-is (first-known 15 kinds refl s at) e .small in
-    record { least = as-is (first-above 1 kinds refl s at) e; most = omega arith; after = as-is (first-after 15 kinds refl s at) e }
+    record { least = as-is (first-some kinds refl s at) e; most = omega arith; after = as-is (first-after 15 kinds refl s at) e }
 
 -- ---- counts
 

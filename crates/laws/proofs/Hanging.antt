@@ -1,7 +1,7 @@
 -- What the attaching rule says of a line that hangs where it should: its parent stands before it, and it starts no later than all entries
 -- before it are many. And the rule looks at the lines up to the line itself only.
 -- Assumes nothing.
-use Prim.Native.Nat.{ℕ, zero, suc, _-_, _≤_, _<_}
+use Prim.Native.Nat.{ℕ, _-_, _≤_, _<_}
 use native.Mathlib.Omega.{arith}
 use native.Mathlib.Decide.{decLt}
 use mathlib.Core.Path.{_≡_, refl, sym, ap, _∙_, subst}
@@ -15,7 +15,7 @@ use Rattle.jkf.specs.Attaching.{near, hangOn, hangs, onHang}
 use Rattle.jkf.specs.declared.Hang.the-variants.{On, Nowhere}
 use Rattle.block.specs.Sound.{sum, hangTest}
 use Rattle.jkf.proofs.Nears.{near-before, near-same}
-use Rattle.block.proofs.Sums.{sum-within}
+use Rattle.parser.proofs.Hung.{start-low as lines-low}
 
 -- ---- where a line hangs
 
@@ -51,23 +51,10 @@ module _ (start count parent : ℕ → ℕ) where
 
   -- a line starts no later than the entries before it are many
   module _ (n : ℕ) (hang : (k : ℕ) → k < n → claim (hangTest start count parent k)) where
-    low : (m k : ℕ) → k < m → k < n → start k ≤ sum count k
-    low zero k h l = absurd (omega arith)
-    low (suc m) k h l = go (decLt 0 k) (low m)
-      where
-        go : Dec (0 < k) → ((j : ℕ) → j < m → j < n → start j ≤ sum count j) → start k ≤ sum count k
-        go (yes z) ih =
-            let g = hang-says k z (hang k l) in
-            let p = near start (start k) k in
-            let b = near-before start (start k) k z in
-            omega (arith, g .from, g .within, ih p (omega arith) (omega arith), sum-within count p k b)
-        go (no z) ih =
-            let e : k ≡ 0 = omega arith in
-            let c : start 0 ≡ 0 = hang-first (hang 0 (omega arith)) .0 in
-            subst (λ (j : ℕ). start j ≤ sum count j) (sym e) (omega arith)
-
     pub start-low : (k : ℕ) → k < n → start k ≤ sum count k
-    start-low k l = low (suc k) k (omega arith) l
+    start-low k l =
+        lines-low start count (hang-first (hang 0 (omega arith)) .0) k
+        (λ j z m. let g = hang-says j z (hang j (omega arith)) in record { from = g .from; within = g .within }) k (omega arith)
 
     pub parent-low : (k : ℕ) → k < n → parent k ≤ k
     parent-low k l = go (decLt 0 k)
