@@ -8,9 +8,20 @@ struct Alphabet {
     most: u32,
 }
 
-const EDGE: &str = "+---------------------------+\n";
-const FILES: &str = "  ９ ８ ７ ６ ５ ４ ３ ２ １\n";
-const ROWS: &str = "\
+/// Literals, so that the board's tokens and the whole board are made of one text.
+macro_rules! files {
+    () => {
+        "  ９ ８ ７ ６ ５ ４ ３ ２ １\n"
+    };
+}
+macro_rules! edge {
+    () => {
+        "+---------------------------+\n"
+    };
+}
+macro_rules! rows {
+    () => {
+        "\
 | ・v玉 ・ ・ ・ ・ ・ ・v香|二
 | 歩 ・ ・ ・ ・ ・ ・ ・ ・|三
 | ・ ・ ・ ・ ・ ・ ・ ・ ・|四
@@ -19,20 +30,13 @@ const ROWS: &str = "\
 | ・ ・ ・ ・ ・ ・ と ・ ・|七
 | ・ ・ ・ ・ ・ ・ ・ ・ ・|八
 | ・ ・ ・ ・ ・ ・ ・ ・ 飛|九
-";
-const BOARD: &str = "  ９ ８ ７ ６ ５ ４ ３ ２ １
-+---------------------------+
-|v香 ・ ・ ・ ・ ・ ・ ・ ・|一
-| ・v玉 ・ ・ ・ ・ ・ ・v香|二
-| 歩 ・ ・ ・ ・ ・ ・ ・ ・|三
-| ・ ・ ・ ・ ・ ・ ・ ・ ・|四
-| ・ ・v成香 ・ ・ ・ ・ ・ ・|五
-| ・ ・ ・ ・ ・ ・ ・ ・ ・|六
-| ・ ・ ・ ・ ・ ・ と ・ ・|七
-| ・ ・ ・ ・ ・ ・ ・ ・ ・|八
-| ・ ・ ・ ・ ・ ・ ・ ・ 飛|九
-+---------------------------+
-";
+"
+    };
+}
+const EDGE: &str = edge!();
+const FILES: &str = files!();
+const ROWS: &str = rows!();
+const BOARD: &str = concat!(files!(), edge!(), "|v香 ・ ・ ・ ・ ・ ・ ・ ・|一\n", rows!(), edge!());
 
 const ALPHABETS: [Alphabet; 11] = [
     // What a break, a comment and a skip line are.
