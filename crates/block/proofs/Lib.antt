@@ -7,3 +7,7 @@ pub mod Looking
 pub mod Tabling
 pub mod Rows
 pub mod Lengths
+pub mod Fitting
+pub mod Pieces
+pub mod Spans
+pub mod Deciding

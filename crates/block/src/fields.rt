@@ -6,6 +6,14 @@ ghost use Rattle.lent.specs.Bytes.{le16};
 ghost use Rattle.block.specs.Decode.{headersIn, linesIn, movesIn, commentsIn, linePlace, movePlace, commentPlace, textPlace, keyOffset, keyLength, valueOffset, valueLength, startOf, firstEntry, entryCount, parentOf, commentCount, commentOffset, commentLength};
 ghost use Rattle.block.specs.Sound.{sum, entriesBefore, commentsBefore, headerBytes, commentBytes};
 
+// The number of two bytes at a place that has both.
+pub(crate) fn pair(b: &[u8], at: usize) -> usize
+    requires { ⌜ at + 1 < length (now b) ⌝ }
+    ensures { λ r. ⌜ (r ≡ le16 (now (b .entry)) at) × (r < 65536) ⌝ }
+{
+    lent::wide(b[at]) + 256 * lent::wide(b[at + 1])
+}
+
 pub(crate) fn headers(b: &[u8]) -> usize
     ensures { λ r. ⌜ (r ≡ headersIn (now (b .entry))) × (r < 65536) ⌝ }
 {

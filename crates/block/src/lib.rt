@@ -1,9 +1,11 @@
 // The block: whether one is sound, and its parts handed back.
+mod entries;
 mod fields;
 mod looks;
 mod places;
 mod tables;
 mod texts;
+mod views;
 
 pub use looks::comment;
 pub use looks::key;
@@ -11,6 +13,23 @@ pub use looks::line;
 pub use looks::lines;
 pub use looks::parent;
 pub use looks::value;
+pub use texts::is_same;
+pub use views::comment_count;
+pub use views::comment_of;
+pub use views::comments_in;
+pub use views::entry_count;
+pub use views::entry_of;
+pub use views::first_comment;
+pub use views::first_entry;
+pub use views::header_bytes;
+pub use views::headers_in;
+pub use views::key_of;
+pub use views::lines_in;
+pub use views::moves_in;
+pub use views::parent_of;
+pub use views::position_of;
+pub use views::start_of;
+pub use views::value_of;
 ghost use mathlib.Core.Path.{_≡_};
 ghost use Rattle.block.specs.Sound.{soundb};
 
@@ -24,20 +43,18 @@ pub fn sound(b: &[u8]) -> bool
     if !tables::parts_sound(b) {
         return false;
     }
-    if !tables::totals_sound(b) {
+    let headers = fields::header_total(b);
+    if !tables::totals_sound(b, headers) {
         return false;
     }
     if !places::position_sound(b) {
         return false;
     }
-    if !tables::headers_sound(b) {
+    if !tables::texts_sound(b, headers) {
         return false;
     }
     if !places::lines_sound(b) {
         return false;
     }
-    if !places::entries_sound(b) {
-        return false;
-    }
-    tables::comments_sound(b)
+    entries::entries_sound(b)
 }

@@ -1,18 +1,16 @@
-// The tests of a sound block's position, lines and entries.
+// The tests of a sound block's position and lines.
 use crate::fields;
 use crate::texts;
-use jkf::Entry;
 use jkf::Hang;
 use jkf::Position;
 ghost use mathlib.Core.Path.{_≡_};
 ghost use Prim.Native.Nat.{_+_, _<_};
-ghost use lib.ListN.{length, take, getD};
+ghost use lib.ListN.{length, getD};
 ghost use Rattle.lists.specs.Test.{equals, holds, each, flag};
-ghost use Rattle.jkf.specs.Entries.{entryBytes};
-ghost use Rattle.block.specs.Decode.{linesIn, movesIn, startOf, entryCount, parentOf};
-ghost use Rattle.block.specs.Sound.{same, isCell, diagramTest, fitsTest, positionTest, hangTest, lineTest, entriesBefore, kindTest, entryTest, commentsBefore};
+ghost use Rattle.block.specs.Decode.{linesIn, startOf, entryCount, parentOf};
+ghost use Rattle.block.specs.Sound.{isCell, diagramTest, fitsTest, positionTest, hangTest, lineTest, entriesBefore};
 
-fn all_zero(s: &[u8]) -> bool
+pub(crate) fn all_zero(s: &[u8]) -> bool
     ensures { λ r. ⌜ r ≡ flag (each (length (now (s .entry))) (λ i. equals (getD (now (s .entry)) i 0) 0)) ⌝ }
 {
     let mut i = 0;
@@ -142,73 +140,6 @@ pub(crate) fn lines_sound(b: &[u8]) -> bool
             return false;
         }
         at += fields::entry_count(b, k);
-        k += 1;
-    }
-    true
-}
-
-// The slot is the first entry and no other; a move's colour, kind and promotion are in range.
-fn kind_sound(k: usize, e: Entry) -> bool
-    ensures { λ r. ⌜ r ≡ flag (kindTest k e) ⌝ }
-{
-    match e {
-        Entry::Slot => k == 0,
-        Entry::Play(m) => {
-            if k < 1 {
-                return false;
-            }
-            if 1 < m.color {
-                return false;
-            }
-            if m.piece < 1 {
-                return false;
-            }
-            if 14 < m.piece {
-                return false;
-            }
-            m.promote <= 2
-        }
-        Entry::End(_, _) => 1 <= k,
-    }
-}
-
-// The first 20 bytes are those of an entry.
-fn is_entry(row: &[u8], e: Entry, first: usize, count: usize) -> bool
-    ensures { λ r. ⌜ r ≡ same (take 20 (now (row .entry))) (entryBytes e first count) ⌝ }
-{
-    let mut made = [0u8; 20];
-    jkf::put_entry(&mut made, e, first, count);
-    texts::is_same(texts::front(row, 20), &made)
-}
-
-// Entry k, whose comments begin with this one.
-fn entry_sound(b: &[u8], k: usize, next: usize) -> bool
-    requires { ⌜ (k < 65536) × (next ≡ commentsBefore (now b) k) ⌝ }
-    ensures { λ r. ⌜ r ≡ flag (entryTest (now (b .entry)) k) ⌝ }
-{
-    let row = texts::rest(b, fields::move_place(b, k));
-    let e = jkf::entry_in(row);
-    if !kind_sound(k, e) {
-        return false;
-    }
-    let n = fields::comment_count(b, k);
-    if n == 0 {
-        return is_entry(row, e, 0, 0);
-    }
-    is_entry(row, e, next, n)
-}
-
-pub(crate) fn entries_sound(b: &[u8]) -> bool
-    ensures { λ r. ⌜ r ≡ flag (each (movesIn (now (b .entry))) (entryTest (now (b .entry)))) ⌝ }
-{
-    let n = fields::moves(b);
-    let mut at = 0;
-    let mut k = 0;
-    while k < n {
-        if !entry_sound(b, k, at) {
-            return false;
-        }
-        at += fields::comment_count(b, k);
         k += 1;
     }
     true

@@ -2,9 +2,12 @@
 use crate::fields;
 use crate::texts;
 ghost use mathlib.Core.Path.{_≡_};
-ghost use Prim.Native.Nat.{_+_, _<_};
-ghost use Rattle.lists.specs.Test.{each, flag};
-ghost use Rattle.block.specs.Decode.{headersIn, commentsIn};
+ghost use mathlib.Core.Bool.{not};
+ghost use Prim.Native.Nat.{_+_, _*_, _≤_, _<_};
+ghost use lib.ListN.{length, getD};
+ghost use Rattle.lists.specs.Test.{equals, holds, both, each, flag};
+ghost use Rattle.text.specs.Utf8.{isNext};
+ghost use Rattle.block.specs.Decode.{headersIn, commentsIn, textPlace, keyOffset, keyLength, valueOffset, commentOffset};
 ghost use Rattle.block.specs.Sound.{headTest, partsTest, totalsTest, headerBytes, commentBytes, ascends, headerTest, commentTest};
 
 pub(crate) fn head_sound(b: &[u8]) -> bool
@@ -54,7 +57,8 @@ pub(crate) fn parts_sound(b: &[u8]) -> bool
 }
 
 // The counts of the head are those of the tables, and the texts end where the block does.
-pub(crate) fn totals_sound(b: &[u8]) -> bool
+pub(crate) fn totals_sound(b: &[u8], headers: usize) -> bool
+    requires { ⌜ (headers ≡ headerBytes (now b) (headersIn (now b))) × (headers < 8600000000) ⌝ }
     ensures { λ r. ⌜ r ≡ flag (totalsTest (now (b .entry))) ⌝ }
 {
     if fields::lines(b) < 1 {
@@ -66,81 +70,124 @@ pub(crate) fn totals_sound(b: &[u8]) -> bool
     if fields::comment_total(b) != fields::comments(b) {
         return false;
     }
-    fields::text_place(b) + fields::header_total(b) + fields::text_total(b) == b.len()
+    fields::text_place(b) + headers + fields::text_total(b) == b.len()
 }
 
-// The key of header entry k comes before the next one by bytes.
-fn key_ascends(b: &[u8], k: usize) -> bool
-    requires { ⌜ k < 65535 ⌝ }
-    ensures { λ r. ⌜ r ≡ flag (ascends (now (b .entry)) k) ⌝ }
+// Whether a character may begin at a place: past the end, or at a byte that continues none.
+fn starts(b: &[u8], at: usize) -> bool
+    ensures { λ r. ⌜ r ≡ not (isNext (getD (now (b .entry)) at 0)) ⌝ }
 {
-    if k + 1 < fields::headers(b) {
-        return texts::is_before(texts::key_of(b, k), texts::key_of(b, k + 1));
+    let c = lent::peek(b, at);
+    if c < 128 {
+        return true;
     }
-    true
+    192 <= c
 }
 
-// Header entry k, whose texts begin at a place of the text part.
-fn header_sound(b: &[u8], k: usize, at: usize) -> bool
-    requires { ⌜ (k < 65535) × (at ≡ headerBytes (now b) k) × (at < 1000000000000) ⌝ }
-    ensures { λ r. ⌜ r ≡ flag (headerTest (now (b .entry)) k) ⌝ }
+// Header entry k, whose texts begin at a place of the text part, which begins at t.
+fn header_stands(b: &[u8], t: usize, k: usize, at: usize) -> bool
+    requires { ⌜ (128 + 8 * k + 8 ≤ length (now b)) × (k < 65535) × (at ≡ headerBytes (now b) k) × (at < 1000000000000) × (t < 4000000) ⌝ }
+    ensures { λ r. ⌜ r ≡ flag (both (equals (keyOffset (now (b .entry)) k) (headerBytes (now (b .entry)) k)) (both (equals (valueOffset (now (b .entry)) k) (headerBytes (now (b .entry)) k + keyLength (now (b .entry)) k)) (both (holds (not (isNext (getD (now (b .entry)) (t + headerBytes (now (b .entry)) k) 0)))) (holds (not (isNext (getD (now (b .entry)) (t + (headerBytes (now (b .entry)) k + keyLength (now (b .entry)) k)) 0))))))) ⌝ }
 {
-    if fields::key_offset(b, k) != at {
+    if fields::pair(b, 128 + 8 * k) != at {
         return false;
     }
-    if fields::value_offset(b, k) != at + fields::key_length(b, k) {
+    let value = at + fields::pair(b, 128 + 8 * k + 2);
+    if fields::pair(b, 128 + 8 * k + 4) != value {
         return false;
     }
-    if !texts::is_valid(texts::key_of(b, k)) {
+    if !starts(b, t + at) {
         return false;
     }
-    if !texts::is_valid(texts::value_of(b, k)) {
-        return false;
-    }
-    key_ascends(b, k)
+    starts(b, t + value)
 }
 
-// The header table.
-pub(crate) fn headers_sound(b: &[u8]) -> bool
-    ensures { λ r. ⌜ r ≡ flag (each (headersIn (now (b .entry))) (headerTest (now (b .entry)))) ⌝ }
+// The header table: its texts stand one after the other, and each begins where a character may.
+fn headers_stand(b: &[u8], t: usize) -> bool
+    requires { ⌜ (128 + 8 * headersIn (now b) ≤ length (now b)) × (t < 4000000) ⌝ }
+    ensures { λ r. ⌜ r ≡ flag (each (headersIn (now (b .entry))) (λ k. both (equals (keyOffset (now (b .entry)) k) (headerBytes (now (b .entry)) k)) (both (equals (valueOffset (now (b .entry)) k) (headerBytes (now (b .entry)) k + keyLength (now (b .entry)) k)) (both (holds (not (isNext (getD (now (b .entry)) (t + headerBytes (now (b .entry)) k) 0)))) (holds (not (isNext (getD (now (b .entry)) (t + (headerBytes (now (b .entry)) k + keyLength (now (b .entry)) k)) 0)))))))) ⌝ }
 {
     let n = fields::headers(b);
     let mut at = 0;
     let mut k = 0;
     while k < n {
-        if !header_sound(b, k, at) {
+        if !header_stands(b, t, k, at) {
             return false;
         }
-        at += fields::key_length(b, k) + fields::value_length(b, k);
+        at += fields::pair(b, 128 + 8 * k + 2) + fields::pair(b, 128 + 8 * k + 6);
         k += 1;
     }
     true
 }
 
-// Comment k, whose text begins at a place of the text part.
-fn comment_sound(b: &[u8], k: usize, at: usize) -> bool
-    requires { ⌜ (k < 65535) × (at ≡ headerBytes (now b) (headersIn (now b)) + commentBytes (now b) k) ⌝ }
-    ensures { λ r. ⌜ r ≡ flag (commentTest (now (b .entry)) k) ⌝ }
+// Each key comes before the next one by bytes; where a key stands is read once.
+fn keys_ascend(b: &[u8], t: usize) -> bool
+    requires { ⌜ (128 + 8 * headersIn (now b) ≤ length (now b)) × (t ≡ textPlace (now b)) × (t < 4000000) ⌝ }
+    ensures { λ r. ⌜ r ≡ flag (each (headersIn (now (b .entry))) (ascends (now (b .entry)))) ⌝ }
+{
+    let n = fields::headers(b);
+    let mut offset = fields::key_offset(b, 0);
+    let mut len = fields::key_length(b, 0);
+    let mut k = 0;
+    while k + 1 < n {
+        let next = fields::pair(b, 128 + 8 * (k + 1));
+        let width = fields::pair(b, 128 + 8 * (k + 1) + 2);
+        if !texts::is_before(
+            texts::cut(b, t + offset, len),
+            texts::cut(b, t + next, width),
+        ) {
+            return false;
+        }
+        offset = next;
+        len = width;
+        k += 1;
+    }
+    true
+}
+
+// Comment k, whose text begins at a place of the text part, which begins at t.
+fn comment_stands(b: &[u8], t: usize, k: usize, at: usize) -> bool
+    requires { ⌜ (k < 65535) × (at ≡ headerBytes (now b) (headersIn (now b)) + commentBytes (now b) k) × (at < 1000000000000) × (t < 4000000) ⌝ }
+    ensures { λ r. ⌜ r ≡ flag (both (equals (commentOffset (now (b .entry)) k) (headerBytes (now (b .entry)) (headersIn (now (b .entry))) + commentBytes (now (b .entry)) k)) (holds (not (isNext (getD (now (b .entry)) (t + (headerBytes (now (b .entry)) (headersIn (now (b .entry))) + commentBytes (now (b .entry)) k)) 0))))) ⌝ }
 {
     if fields::comment_offset(b, k) != at {
         return false;
     }
-    texts::is_valid(texts::comment_of(b, k))
+    starts(b, t + at)
 }
 
-// The comments.
-pub(crate) fn comments_sound(b: &[u8]) -> bool
-    ensures { λ r. ⌜ r ≡ flag (each (commentsIn (now (b .entry))) (commentTest (now (b .entry)))) ⌝ }
+// The comments, whose texts begin after those of the header entries.
+fn comments_stand(b: &[u8], t: usize, headers: usize) -> bool
+    requires { ⌜ (headers ≡ headerBytes (now b) (headersIn (now b))) × (headers < 8600000000) × (t < 4000000) ⌝ }
+    ensures { λ r. ⌜ r ≡ flag (each (commentsIn (now (b .entry))) (λ k. both (equals (commentOffset (now (b .entry)) k) (headerBytes (now (b .entry)) (headersIn (now (b .entry))) + commentBytes (now (b .entry)) k)) (holds (not (isNext (getD (now (b .entry)) (t + (headerBytes (now (b .entry)) (headersIn (now (b .entry))) + commentBytes (now (b .entry)) k)) 0)))))) ⌝ }
 {
     let n = fields::comments(b);
-    let mut at = fields::header_total(b);
+    let mut at = headers;
     let mut k = 0;
     while k < n {
-        if !comment_sound(b, k, at) {
+        if !comment_stands(b, t, k, at) {
             return false;
         }
         at += fields::comment_length(b, k);
         k += 1;
     }
     true
+}
+
+// The header table and the comments. Their texts fill the text part, so all of them are valid where it is and each begins where a character may.
+pub(crate) fn texts_sound(b: &[u8], headers: usize) -> bool
+    requires { ⌜ (headers ≡ headerBytes (now b) (headersIn (now b))) × (headers < 8600000000) × (textPlace (now b) + headerBytes (now b) (headersIn (now b)) + commentBytes (now b) (commentsIn (now b)) ≡ length (now b)) ⌝ }
+    ensures { λ r. ⌜ r ≡ flag (both (each (headersIn (now (b .entry))) (headerTest (now (b .entry)))) (each (commentsIn (now (b .entry))) (commentTest (now (b .entry))))) ⌝ }
+{
+    let t = fields::text_place(b);
+    if !texts::is_valid(texts::rest(b, t)) {
+        return false;
+    }
+    if !headers_stand(b, t) {
+        return false;
+    }
+    if !keys_ascend(b, t) {
+        return false;
+    }
+    comments_stand(b, t, headers)
 }

@@ -22,6 +22,19 @@ pub(crate) fn text_of(b: &[u8], offset: usize, len: usize) -> &[u8]
     &b[at..at + len]
 }
 
+// The part of len bytes from a place on; what would lie past the end is left out.
+pub(crate) fn cut(b: &[u8], at: usize, len: usize) -> &[u8]
+    ensures { λ r. ⌜ now r ≡ take len (drop at (now (b .entry))) ⌝ }
+{
+    if b.len() <= at {
+        return &b[b.len()..];
+    }
+    if b.len() - at <= len {
+        return &b[at..];
+    }
+    &b[at..at + len]
+}
+
 // The key of header entry k.
 pub(crate) fn key_of(b: &[u8], k: usize) -> &[u8]
     requires { ⌜ k < 65536 ⌝ }
@@ -77,7 +90,7 @@ pub(crate) fn is_before(a: &[u8], b: &[u8]) -> bool
 }
 
 // Whether two texts have the same bytes.
-pub(crate) fn is_same(a: &[u8], b: &[u8]) -> bool
+pub fn is_same(a: &[u8], b: &[u8]) -> bool
     ensures { λ r. ⌜ r ≡ same (now (a .entry)) (now (b .entry)) ⌝ }
 {
     if a.len() != b.len() {

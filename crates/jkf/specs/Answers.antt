@@ -1,6 +1,7 @@
 -- What the calls answer: 01's number and two figures of each case.                                  (01, Numbers of refusal)
 -- Assumes nothing: these are definitions.
 use Prim.Native.Nat.{ℕ}
+use mathlib.Core.List.{List}
 use Rattle.jkf.specs.declared.Answer.{Answer}
 use Rattle.jkf.specs.declared.Answer.the-variants.{Done, TextTooLong, NotUtf8, HandLine, BlockTooLong, BufferShort, NoEntry, NotSound, HandCount, CannotWrite, NoSuchPart, NotOneVariation, OutsideLine, EntryTaken, ParentChanges}
 use Rattle.jkf.specs.declared.Figures.{Figures}
@@ -25,3 +26,12 @@ figures NotOneVariation = figured 11 0 0
 figures (OutsideLine line ply) = figured 12 line ply
 figures (EntryTaken line ply) = figured 13 line ply
 figures (ParentChanges line) = figured 14 line 0
+
+-- An answer, and the lent buffer after it.
+pub record Outcome : Type 0 where
+  pub answer : Answer
+  pub buffer : List ℕ
+
+-- A refusal that leaves the buffer as it was.
+abbrev pub refuse : Answer → List ℕ → Outcome
+refuse a o = record { answer = a; buffer = o }

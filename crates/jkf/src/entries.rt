@@ -28,7 +28,8 @@ struct Figure {
     s: u8,
 }
 
-fn number_of(s: Special) -> u8
+// An ending's number, in the Rust's order.
+pub fn number_of(s: Special) -> u8
     ensures { λ r. ⌜ r ≡ specialNumber s ⌝ }
 {
     match s {
@@ -151,7 +152,8 @@ fn put_head(out: &mut [u8], e: Entry) -> usize
     }
 }
 
-fn time_of(e: Entry) -> Time
+// The time of an entry; the slot has none.
+pub fn time_of(e: Entry) -> Time
     ensures { λ r. ⌜ r ≡ timeOf e ⌝ }
 {
     match e {

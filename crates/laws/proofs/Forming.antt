@@ -16,7 +16,7 @@ use Rattle.text.proofs.Widths.{char-within}
 use Rattle.jkf.specs.Attaching.{Hung, all, first}
 use Rattle.jkf.specs.declared.Answer.{Answer}
 use Rattle.jkf.specs.declared.Answer.the-variants.{Done, TextTooLong, NotUtf8, HandLine, BlockTooLong, BufferShort, NoEntry}
-use Rattle.jkf.specs.Answers.{figures}
+use Rattle.jkf.specs.Answers.{figures, Outcome, refuse}
 use Rattle.block.specs.Attach.{attach, allHung}
 use Rattle.block.specs.Encode.{encode, headBytes, entriesOf, commentsOf, headerText}
 use Rattle.block.specs.Formed.{Formed}
@@ -27,7 +27,7 @@ use Rattle.kakinoki.specs.declared.Fault.the-variants.{NoFault, At}
 use Rattle.kakinoki.proofs.Reach.{repeat-keeps}
 use Rattle.parser.specs.Plays.{playsAt}
 use Rattle.parser.specs.Parse.{headersOf, parse, recordOf, needed}
-use Rattle.parser.specs.Read.{onFault, onHung, Outcome, refuse, filledWith, storedOf, startedOf, readOf}
+use Rattle.parser.specs.Read.{onFault, onHung, filledWith, storedOf, startedOf, readOf}
 use Rattle.parser.proofs.Items.{on-more, no-more}
 use Rattle.laws.proofs.Playing.{entries-kind, comments-valid, some-lines, lines-fit}
 use Rattle.laws.proofs.Smalling.{lines-bytes, entries-bytes, remarks-bytes, comments-bytes}

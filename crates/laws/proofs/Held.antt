@@ -18,7 +18,7 @@ use Rattle.block.specs.Model.{Noted, Line}
 use Rattle.block.specs.Encode.{entriesOf, commentsOf}
 use Rattle.block.specs.Decode.{headersIn, linesIn, movesIn, commentsIn, movePlace, textPlace, keyOffset, keyLength, valueOffset, valueLength, firstEntry, entryCount, firstComment, commentCount, commentOffset, commentLength, keyOf, valueOf, commentOf, notedIn, lineIn, run}
 use Rattle.block.specs.Sound.{Sound, headerBytes, commentBytes, commentsBefore, entriesBefore}
-use Rattle.laws.proofs.Deciding.{same-is}
+use Rattle.block.proofs.Deciding.{same-is}
 use Rattle.block.proofs.Lining.{le16-drop}
 use Rattle.block.proofs.Sums.{sum-none, sum-suc, sum-rises, sum-within}
 use Rattle.block.proofs.Tabling.{run-none, run-add, concat-grows}

@@ -1,4 +1,3 @@
-pub mod Deciding
 pub mod Parts
 pub mod Positions
 pub mod Held

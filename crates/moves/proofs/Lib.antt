@@ -3,4 +3,5 @@ pub mod Answers
 pub mod Smalls
 pub mod Fits
 pub mod Goings
+pub mod Shortcuts
 pub mod Worded

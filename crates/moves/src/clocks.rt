@@ -7,7 +7,7 @@ use text::Cursor;
 use text::Number;
 use text::Place;
 ghost use mathlib.Core.Path.{_≡_};
-ghost use Rattle.moves.specs.Moves.{hmsAt, msAt, clockAt, spacedAt, clocksAt, timeAt, figureAt};
+ghost use Rattle.moves.specs.Moves.{clockAt, spacedAt, clocksAt, timeAt, figureAt};
 
 // A number up to 255 and the colon after it.
 fn figure(c: Cursor, s: &[u8]) -> Number
@@ -22,43 +22,23 @@ fn figure(c: Cursor, s: &[u8]) -> Number
     Number::Value(n, end)
 }
 
-// h:m:s
-fn hms(c: Cursor, s: &[u8]) -> Clocked
-    ensures { λ r. ⌜ r ≡ hmsAt (now (s .entry)) (c .at) ⌝ }
-{
-    let Number::Value(h, hours) = figure(c, s) else {
-        return Clocked::NoClock;
-    };
-    let Number::Value(m, minutes) = figure(hours, s) else {
-        return Clocked::NoClock;
-    };
-    let Number::Value(n, end) = minutes.digits(s, 255) else {
-        return Clocked::NoClock;
-    };
-    Clocked::Shows(Clock::Hms(h as u8, m as u8, n as u8), end)
-}
-
-// m:s
-fn ms(c: Cursor, s: &[u8]) -> Clocked
-    ensures { λ r. ⌜ r ≡ msAt (now (s .entry)) (c .at) ⌝ }
-{
-    let Number::Value(m, minutes) = figure(c, s) else {
-        return Clocked::NoClock;
-    };
-    let Number::Value(n, end) = minutes.digits(s, 255) else {
-        return Clocked::NoClock;
-    };
-    Clocked::Shows(Clock::Ms(m as u8, n as u8), end)
-}
-
-// h:m:s, or else m:s.   (the Rust's move_time_format)
+// h:m:s, or else m:s, with the figures before the last read once.   (the Rust's move_time_format)
 fn clock(c: Cursor, s: &[u8]) -> Clocked
     ensures { λ r. ⌜ r ≡ clockAt (now (s .entry)) (c .at) ⌝ }
 {
-    let Clocked::Shows(k, end) = hms(c, s) else {
-        return ms(c, s);
+    let Number::Value(a, first) = figure(c, s) else {
+        return Clocked::NoClock;
     };
-    Clocked::Shows(k, end)
+    let Number::Value(b, second) = first.digits(s, 255) else {
+        return Clocked::NoClock;
+    };
+    let Place::Past(third) = second.tag(s, b":") else {
+        return Clocked::Shows(Clock::Ms(a as u8, b as u8), second);
+    };
+    let Number::Value(n, end) = third.digits(s, 255) else {
+        return Clocked::Shows(Clock::Ms(a as u8, b as u8), second);
+    };
+    Clocked::Shows(Clock::Hms(a as u8, b as u8, n as u8), end)
 }
 
 // With blanks around it.

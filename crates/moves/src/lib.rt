@@ -18,6 +18,7 @@ use text::Number;
 use text::Place;
 ghost use mathlib.Core.Path.{_≡_};
 ghost use Prim.Native.Nat.{_≤_};
+ghost use Rattle.moves.specs.Endings.{moveLineEndAt};
 ghost use Rattle.moves.specs.Moves.{colorOf, finished, moveLineAt};
 
 // Where a move goes, and the place past it.
@@ -113,4 +114,17 @@ pub fn move_line(c: Cursor, s: &[u8]) -> MoveLine
     };
     let taken = timing.time;
     MoveLine::Numbered(ply, finish(color(ply), taken, entry), end)
+}
+
+// Past a move line. Its time, if it has one, is text, so that the tail may begin before it.
+pub fn move_line_end(c: Cursor, s: &[u8]) -> Place
+    ensures { λ r. ⌜ r ≡ moveLineEndAt (now (s .entry)) (c .at) ⌝ }
+{
+    let Number::Value(_, numbered) = c.blanks(s).digits(s, u64::MAX) else {
+        return Place::Absent;
+    };
+    let What::Is(_, played) = what(numbered.blanks(s), s) else {
+        return Place::Absent;
+    };
+    played.line_end(s)
 }

@@ -13,7 +13,8 @@ use text::Cursor;
 use text::Number;
 use text::Place;
 ghost use mathlib.Core.Path.{_≡_};
-ghost use Rattle.moves.specs.Moves.{squareAt, moveToAt, promoteAt, originAt, moveFromAt, pieceAt, moveAt, whatAt};
+ghost use Rattle.moves.specs.Moves.{squareAt, moveToAt, promoteAt, originAt, moveFromAt, pieceAt, whatAt};
+ghost use Rattle.moves.specs.Endings.{endingAt};
 
 // A file and a rank.
 fn square(c: Cursor, s: &[u8]) -> Aim
@@ -113,22 +114,22 @@ fn piece(to: Target, c: Cursor, s: &[u8]) -> What
     )
 }
 
-// A move.   (the Rust's move_move)
-fn move_move(c: Cursor, s: &[u8]) -> What
-    ensures { λ r. ⌜ r ≡ moveAt (now (s .entry)) (c .at) ⌝ }
+// A special.   (the Rust's move_special)
+fn ending(c: Cursor, s: &[u8]) -> What
+    ensures { λ r. ⌜ r ≡ endingAt (now (s .entry)) (c .at) ⌝ }
 {
-    let Aim::To(to, past) = move_to(c, s) else {
+    let Spelled::As(n, end) = spell::special(c, s) else {
         return What::Nothing;
     };
-    piece(to, past, s)
+    What::Is(Entry::End(jkf::special_of(n), Time::Untimed), end)
 }
 
-// A special or a move.   (the Rust's move_special)
+// A special or a move: what has a target is a move, since no special begins as a target does.   (the Rust's move_move)
 pub(crate) fn what(c: Cursor, s: &[u8]) -> What
     ensures { λ r. ⌜ r ≡ whatAt (now (s .entry)) (c .at) ⌝ }
 {
-    let Spelled::As(n, end) = spell::special(c, s) else {
-        return move_move(c, s);
+    let Aim::To(to, past) = move_to(c, s) else {
+        return ending(c, s);
     };
-    What::Is(Entry::End(jkf::special_of(n), Time::Untimed), end)
+    piece(to, past, s)
 }

@@ -7,7 +7,7 @@ use native.Mathlib.Omega.{arith}
 use mathlib.Core.Path.{_≡_, refl, sym, ap, _∙_}
 use mathlib.Core.List.{List, [], _∷_, _++_}
 use lib.ListN.{length, getD, take, drop, replicate, length-append, length-replicate}
-use lib.Seq.{sets, sets-eq, take-at, length-take-le}
+use lib.Seq.{sets, sets-eq, take-at, take-append-le, length-take-le}
 use borrow.Author.Tests.{le-ltb}
 use Rattle.sorted.specs.Sorted.{kept, Leads, keptCount, keptBuffer}
 use Rattle.kakinoki.specs.Informations.{low16}
@@ -42,6 +42,15 @@ kept-leads s ps o out r h g e f =
       fits = omega (arith, ap length m, length-append (kept s ps) z);
     }
 
+-- what leads a list leads it with more behind it
+leads-then : {l o : List ℕ} {r : ℕ} (q : List ℕ) → Leads l o r → Leads l (o ++ q) r
+leads-then {l} {o} {r} q w =
+    record {
+      count = w .count;
+      front = take-append-le r o q (w .fits) ∙ w .front;
+      fits = omega (arith, w .fits, length-append o q);
+    }
+
 -- ---- what was read before the moves
 
 abbrev pub Begun : List ℕ → Start → List ℕ → Type 0
@@ -68,19 +77,28 @@ module _ (s : List ℕ) (start : Start) (places : List ℕ) (b : Begun s start p
   pub taken-count : start .headers ≡ length (take (start .headers) places)
   taken-count = sym counted ∙ sym (ap length places-taken)
 
-  module _ (r : ℕ) (out : List ℕ) (e : (r ≡ keptCount s (take (start .headers) places) noPlaces) × (out ≡ keptBuffer s (take (start .headers) places) noPlaces)) where
-    sorted-leads : Leads (kept s (headerPlaces s)) out r
-    sorted-leads =
-        kept-leads s (headerPlaces s) noPlaces out r places-few room (e .0 ∙ ap (λ (ps : List ℕ). keptCount s ps noPlaces) places-taken)
-        (e .1 ∙ ap (λ (ps : List ℕ). keptBuffer s ps noPlaces) places-taken)
+  -- the buffer has room for them, so as much of it is lent
+  pub sorted-room : start .headers ≤ length noPlaces
+  sorted-room = omega (arith, counted, room)
 
-    pub sorted-within : r ≤ length out
+  pub room-count : start .headers ≡ length (take (start .headers) noPlaces)
+  room-count = sym (length-take-le (start .headers) noPlaces sorted-room)
+
+  -- as much of the buffer as there are places was lent, and q is the rest of it
+  module _ (r : ℕ) (out q : List ℕ) (e : (r ≡ keptCount s (take (start .headers) places) (take (start .headers) noPlaces)) × (out ≡ keptBuffer s (take (start .headers) places) (take (start .headers) noPlaces))) where
+    sorted-leads : Leads (kept s (headerPlaces s)) (out ++ q) r
+    sorted-leads =
+        let o = take (start .headers) noPlaces in
+        leads-then q (kept-leads s (headerPlaces s) o out r places-few (omega (arith, counted, room-count)) (e .0 ∙ ap (λ (ps : List ℕ). keptCount s ps o) places-taken)
+        (e .1 ∙ ap (λ (ps : List ℕ). keptBuffer s ps o) places-taken))
+
+    pub sorted-within : r ≤ length (out ++ q)
     sorted-within = sorted-leads .fits
 
-    pub sorted-count : r ≡ length (take r out)
-    sorted-count = sym (length-take-le r out sorted-within)
+    pub sorted-count : r ≡ length (take r (out ++ q))
+    sorted-count = sym (length-take-le r (out ++ q) sorted-within)
 
-    pub prepared : Prepared s (start .position) (start .next .at) (take r out)
+    pub prepared : Prepared s (start .position) (start .next .at) (take r (out ++ q))
     prepared =
         record {
           short = b .0;

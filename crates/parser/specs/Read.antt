@@ -8,7 +8,7 @@ use lib.Dec.{ltb}
 use Rattle.lists.specs.Pick.{pick}
 use Rattle.text.specs.Utf8.{wellFormed}
 use Rattle.jkf.specs.Attaching.{Hung, all, first}
-use Rattle.jkf.specs.declared.Answer.{Answer}
+use Rattle.jkf.specs.Answers.{Outcome, refuse}
 use Rattle.jkf.specs.declared.Answer.the-variants.{Done, TextTooLong, NotUtf8, HandLine, BlockTooLong, BufferShort, NoEntry}
 use Rattle.jkf.specs.Positions.{positionBytes}
 use Rattle.jkf.specs.declared.Position.{Position}
@@ -29,15 +29,6 @@ onFault NoFault f d = d
 abbrev pub onHung : {A : Type 0} → Hung → (ℕ → ℕ → A) → A → A
 onHung (first k ply) f d = f k ply
 onHung all f d = d
-
--- An answer, and the lent buffer after it.
-pub record Outcome : Type 0 where
-  pub answer : Answer
-  pub buffer : List ℕ
-
--- A refusal that leaves the buffer as it was.
-abbrev pub refuse : Answer → List ℕ → Outcome
-refuse a o = record { answer = a; buffer = o }
 
 -- Refusal 6 clears the whole buffer; success puts the block at its front and changes nothing past it.
 unfoldable pub filledWith : Parsed → List ℕ → Outcome

@@ -1,7 +1,6 @@
 // Lines of play, counted.
 use crate::Extent;
 use crate::Remarks;
-use moves::MoveLine;
 use moves::Remark;
 use text::Cursor;
 use text::Number;
@@ -46,7 +45,7 @@ pub fn count_moves(c: Cursor, s: &[u8]) -> Extent
     let mut bytes = 0;
     let mut next = c;
     loop {
-        let MoveLine::Numbered(_, _, past) = moves::move_line(next, s) else {
+        let Place::Past(past) = moves::move_line_end(next, s) else {
             return Extent {
                 start: ply(c, s),
                 entries,

@@ -20,7 +20,7 @@ fn read_start(s: &[u8], start: Start, places: &[u16], out: &mut [u8]) -> Answer
 {
     let mut sorted = [0u16; 13107];
     let n = start.headers;
-    let kept = sorted::sort_keys(s, &places[..n], &mut sorted);
+    let kept = sorted::sort_keys(s, &places[..n], &mut sorted[..n]);
     let position = start.position;
     store(s, position, start.next, &sorted[..kept], out)
 }

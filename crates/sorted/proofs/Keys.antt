@@ -1,11 +1,12 @@
 -- What the byte at a place says of the key there, and how two keys compare.
 -- Assumes nothing.
-use Prim.Native.Nat.{ℕ, _+_, _≤_, _<_}
+use Prim.Native.Nat.{ℕ, _+_, _*_, _≤_, _<_}
 use native.Mathlib.Nat.{not-suc-le-zero}
 use native.Mathlib.Omega.{arith}
 use native.Mathlib.Decide.{decLt}
 use mathlib.Core.Path.{_≡_, refl, sym, ap, _∙_}
-use mathlib.Core.List.{List, [], _∷_}
+use mathlib.Core.Logic.{_⊎_, inl, inr}
+use mathlib.Core.List.{List, [], _∷_, _++_}
 use mathlib.Core.Bool.{Bool, true, false, not, true≢false}
 use lib.ListN.{length, getD, drop, drop-of-length-le}
 use lib.Dec.{eqb}
@@ -14,9 +15,9 @@ use Rattle.lists.specs.Pick.{pick}
 use Rattle.lists.proofs.Laws.{drop-step, pick-both}
 use Rattle.text.specs.Text.{isText, prefixFrom, standsAt, wideColon, endsKey, keyFrom, keyAt}
 use Rattle.sorted.specs.declared.Order.the-variants.{Less, Equal, Greater}
-use Rattle.sorted.specs.Heads.{isPlain, headOf}
-use Rattle.sorted.specs.Sorted.{byBytes}
-use Rattle.sorted.proofs.Orders.{is-less, is-equal, is-greater}
+use Rattle.sorted.specs.Heads.{isPlain, headOf, digits, fourAt, Four}
+use Rattle.sorted.specs.Sorted.{byBytes, All}
+use Rattle.sorted.proofs.Orders.{flip, bytes-flip, is-less, is-equal, is-greater}
 
 -- ---- whether a key ends at a place
 
@@ -114,6 +115,64 @@ head-more s i j e h =
     let n = key-more s j (omega arith) in
     byte-same s i j m n (omega (arith, sym (ap headOf (m .parts)) ∙ e ∙ ap headOf (n .parts)))
 
-pub plain-same : (s : List ℕ) (i j : ℕ) → i < length s → j < length s → getD s i 0 ≡ getD s j 0 → isPlain (getD s i 0) ≡ true
-    → byBytes (keyAt s i) (keyAt s j) ≡ byBytes (keyAt s (i + 1)) (keyAt s (j + 1))
-plain-same s i j h g e p = byte-same s i j (key-on s i (plain-on s i h p)) (key-on s j (plain-on s j g (ap isPlain (sym e) ∙ p))) e
+-- a plain byte is of the key
+key-next : (s : List ℕ) (n m : ℕ) → n + 1 ≡ m → n < length s → isPlain (getD s n 0) ≡ true → keyAt s n ≡ getD s n 0 ∷ keyAt s m
+key-next s n m e h p = key-on s n (plain-on s n h p) .parts ∙ ap (λ (k : ℕ). getD s n 0 ∷ keyAt s k) e
+
+-- so are four, and their number is made of them digit by digit
+pub is-four : (s : List ℕ) (at w x y z : ℕ) → at + 4 ≤ length s → isPlain (getD s at 0) ≡ true → isPlain (getD s (at + 1) 0) ≡ true
+    → isPlain (getD s (at + 2) 0) ≡ true → isPlain (getD s (at + 3) 0) ≡ true → (w ≡ getD s at 0) × (w < 256) → (x ≡ getD s (at + 1) 0) × (x < 256)
+    → (y ≡ getD s (at + 2) 0) × (y < 256) → (z ≡ getD s (at + 3) 0) × (z < 256) → Four s at (((w * 256 + x) * 256 + y) * 256 + z)
+is-four s at w x y z h p q r t e f g k =
+    let a = key-next s at (at + 1) refl (omega arith) p in
+    let b = key-next s (at + 1) (at + 2) (omega arith) (omega arith) q in
+    let c = key-next s (at + 2) (at + 3) (omega arith) (omega arith) r in
+    let d = key-next s (at + 3) (at + 4) (omega arith) (omega arith) t in
+    record { parts = rw (a, b, c, d); value = omega arith; bytes = (omega arith, (omega arith, (omega arith, (omega arith, tt)))) }
+
+-- ---- bytes as the digits of a number
+
+-- of two lists that are as long, the one whose number is less comes first, whatever follows them,
+digits-less : (l m k n : List ℕ) (v w : ℕ) → length l ≡ length m → All (λ b. b < 256) l → All (λ b. b < 256) m → digits v l < digits w m
+    → (v < w) ⊎ ((v ≡ w) × (byBytes (l ++ k) (m ++ n) ≡ Less))
+unfolding byBytes
+digits-less [] [] k n v w e f g h = inl h
+digits-less [] (b ∷ m) k n v w e f g h = absurd (omega arith)
+digits-less (a ∷ l) [] k n v w e f g h = absurd (omega arith)
+digits-less (a ∷ l) (b ∷ m) k n v w e f g h = go (digits-less l m k n (v * 256 + a) (w * 256 + b) (omega arith) (f .1) (g .1) h) (decLt v w)
+  where
+    Goal : Type 0
+    Goal = (v < w) ⊎ ((v ≡ w) × (byBytes (a ∷ l ++ k) (b ∷ m ++ n) ≡ Less))
+
+    go : (v * 256 + a < w * 256 + b) ⊎ ((v * 256 + a ≡ w * 256 + b) × (byBytes (l ++ k) (m ++ n) ≡ Less)) → Dec (v < w) → Goal
+    go t (yes u) = inl u
+    go (inl t) (no u) = inr (omega (arith, f .0, g .0), rw (is-less a b (omega (arith, f .0, g .0))))
+    go (inr t) (no u) = inr (omega (arith, f .0, g .0, t .0), rw (is-equal a b (omega (arith, f .0, g .0, t .0))) (t .1))
+
+-- and where the numbers are equal, what follows them decides
+digits-same : (l m k n : List ℕ) (v w : ℕ) → length l ≡ length m → All (λ b. b < 256) l → All (λ b. b < 256) m → digits v l ≡ digits w m
+    → (v ≡ w) × (byBytes (l ++ k) (m ++ n) ≡ byBytes k n)
+unfolding byBytes
+digits-same [] [] k n v w e f g h = (h, refl)
+digits-same [] (b ∷ m) k n v w e f g h = absurd (omega arith)
+digits-same (a ∷ l) [] k n v w e f g h = absurd (omega arith)
+digits-same (a ∷ l) (b ∷ m) k n v w e f g h =
+    let t = digits-same l m k n (v * 256 + a) (w * 256 + b) (omega arith) (f .1) (g .1) h in
+    (omega (arith, f .0, g .0, t .0), rw (is-equal a b (omega (arith, f .0, g .0, t .0))) (t .1))
+
+-- two keys that begin with four bytes compare as the numbers of these,
+module _ {s : List ℕ} {i j x y : ℕ} (f : Four s i x) (g : Four s j y) where
+  pub four-less : x < y → byBytes (keyAt s i) (keyAt s j) ≡ Less
+  four-less h = rw (f .parts, g .parts) (go (digits-less (fourAt s i) (fourAt s j) (keyAt s (i + 4)) (keyAt s (j + 4)) 0 0 refl (f .bytes) (g .bytes) (omega (arith, f .value, g .value))))
+    where
+      go : {P : Type 0} → (0 < 0) ⊎ ((_≡_ {A = ℕ} 0 0) × P) → P
+      go (inl t) = absurd (not-suc-le-zero t)
+      go (inr t) = t .1
+
+  -- and as what follows where the numbers are equal
+  pub four-same : x ≡ y → byBytes (keyAt s i) (keyAt s j) ≡ byBytes (keyAt s (i + 4)) (keyAt s (j + 4))
+  four-same h = rw (f .parts, g .parts) (digits-same (fourAt s i) (fourAt s j) (keyAt s (i + 4)) (keyAt s (j + 4)) 0 0 refl (f .bytes) (g .bytes) (omega (arith, f .value, g .value)) .1)
+
+-- the other way round
+pub four-greater : {s : List ℕ} {i j x y : ℕ} → Four s i x → Four s j y → y < x → byBytes (keyAt s i) (keyAt s j) ≡ Greater
+four-greater {s} {i} {j} f g h = bytes-flip (keyAt s j) (keyAt s i) ∙ ap flip (four-less g f h)

@@ -6,32 +6,15 @@ use native.Mathlib.Nat.{add-zero}
 use mathlib.Core.Path.{_≡_, refl, sym, ap, _∙_}
 use mathlib.Core.List.{List, [], _∷_}
 use mathlib.Core.Bool.{Bool, true, false}
-use lib.ListN.{length, getD, drop, drop-of-length-le}
+use lib.ListN.{length, getD, drop}
 use lib.Dec.{eqb, ltb}
 use lib.Seq.{getD-drop}
 use borrow.Author.Tests.{eq-eqb, ne-eqb, eqb-true, eqb-false, ltb-true}
 use Rattle.lists.specs.Pick.{pick}
-use Rattle.lists.proofs.Laws.{drop-step, pick-both}
-use Rattle.text.specs.Text.{cursor, prefixFrom, standsAt}
+use Rattle.lists.proofs.Laws.{pick-both}
+use Rattle.text.specs.Text.{prefixFrom, standsAt}
 use Rattle.spell.specs.Tables.{Spelling}
-use Rattle.spell.specs.Spell.{firstOf, spelled, allBytes, key, keys, keyAt, placeFrom, digitsFrom}
-use Rattle.spell.specs.declared.Spelled.{Spelled}
-use Rattle.spell.specs.declared.Spelled.the-variants.{As, Not}
-
--- ---- where a number stands in a list
-
-module _ (x : ℕ) (ks : List ℕ) (i j : ℕ) where
-  pub place-none : length ks ≤ j → placeFrom i (drop j ks) x ≡ 0
-  unfolding placeFrom
-  place-none h = rw drop-of-length-le
-
-  pub place-here : j < length ks → getD ks j 0 ≡ x → placeFrom i (drop j ks) x ≡ i
-  unfolding placeFrom
-  place-here h e = rw (drop-step ks j h, eq-eqb x (getD ks j 0) (sym e))
-
-  pub place-more : j < length ks → (getD ks j 0 ≡ x → ⊥) → placeFrom i (drop j ks) x ≡ placeFrom (i + 1) (drop (j + 1) ks) x
-  unfolding placeFrom
-  place-more h e = rw (drop-step ks j h, ne-eqb x (getD ks j 0) (λ q. e (sym q)))
+use Rattle.spell.specs.Spell.{spelled, allBytes, key, keys, keyAt, digitsFrom}
 
 -- ---- a character of three bytes
 
@@ -98,11 +81,11 @@ module _ (a b c : ℕ) (t : allBytes (a ∷ b ∷ c ∷ []) ≡ true) where
           off false v w p q r = refl
 
 -- the same of a text and a place
-key-at : (s : List ℕ) (at : ℕ) → key (drop at s) ≡ keyAt s at
+pub key-at : (s : List ℕ) (at : ℕ) → key (drop at s) ≡ keyAt s at
 unfolding keyAt
 key-at s at = rw (getD-drop at s 0 0, getD-drop at s 1 0, getD-drop at s 2 0, add-zero at)
 
-stands-key : (t s : List ℕ) (at : ℕ) → length t ≡ 3 → allBytes t ≡ true → Near (drop at s) → standsAt t s at ≡ eqb (keyAt s at) (key t)
+pub stands-key : (t s : List ℕ) (at : ℕ) → length t ≡ 3 → allBytes t ≡ true → Near (drop at s) → standsAt t s at ≡ eqb (keyAt s at) (key t)
 unfolding standsAt
 stands-key [] s at h b n = absurd (omega arith)
 stands-key (x ∷ []) s at h b n = absurd (omega arith)
@@ -146,24 +129,6 @@ digit-head i e es h =
     let (q, h₂) = pick-both (eqb (length (e .bytes)) 3) _ h₁ in
     let (r, h₃) = pick-both (allBytes (e .bytes)) (digitsFrom (i + 1) es) h₂ in
     record { number = eqb-true _ _ p; size = eqb-true _ _ q; bytes = r; after = h₃ }
-
--- what a place in the list of keys says is read
-abbrev pub read : ℕ → ℕ → Spelled
-read n at = pick (eqb n 0) Not (As n (cursor (at + 3)))
-
-pub digit-first : (i : ℕ) (es : List Spelling) → digitsFrom i es ≡ true → 0 < i → (s : List ℕ) (at : ℕ) → Near (drop at s)
-    → firstOf es s at ≡ read (placeFrom i (keys es) (keyAt s at)) at
-unfolding firstOf placeFrom
-digit-first i [] h p s at n = refl
-digit-first i (e ∷ es) h p s at n = rw (stands-key (e .bytes) s at (d .size) (d .bytes) n, d .number, d .size) (go (eqb (keyAt s at) (key (e .bytes))) (digit-first (i + 1) es (d .after) (omega arith) s at n))
-  where
-    d : Digit i e es
-    d = digit-head i e es h
-
-    go : (u : Bool) → firstOf es s at ≡ read (placeFrom (i + 1) (keys es) (keyAt s at)) at
-        → pick u (As i (cursor (at + 3))) (firstOf es s at) ≡ read (pick u i (placeFrom (i + 1) (keys es) (keyAt s at))) at
-    go true ih = rw (ne-eqb i 0 (λ q. omega arith))
-    go false ih = ih
 
 -- a number of the table is written by its key
 pub digit-spelled : (i : ℕ) (es : List Spelling) → digitsFrom i es ≡ true → (n : ℕ) → i ≤ n → n < i + length es

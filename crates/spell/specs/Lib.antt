@@ -1,3 +1,4 @@
 pub mod Tables
 pub mod Spell
+pub mod Slots
 pub mod Count

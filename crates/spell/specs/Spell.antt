@@ -70,11 +70,6 @@ abbrev pub keys : List Spelling → List ℕ
 keys [] = []
 keys (e ∷ es) = key (e .bytes) ∷ keys es
 
--- Where a number stands in a list, counted from i; 0 where it does not.
-unfoldable pub placeFrom : ℕ → List ℕ → ℕ → ℕ
-placeFrom i [] x = 0
-placeFrom i (k ∷ ks) x = let r = placeFrom (i + 1) ks x in pick (eqb x k) i r
-
 -- The three bytes at a place, as one number.
 unfoldable pub keyAt : List ℕ → ℕ → ℕ
 keyAt s at = getD s at 0 * 65536 + getD s (at + 1) 0 * 256 + getD s (at + 2) 0

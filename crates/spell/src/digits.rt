@@ -3,11 +3,13 @@ use crate::Spelled;
 use text::Cursor;
 ghost use mathlib.Core.Path.{_≡_};
 ghost use mathlib.Core.List.{List};
-ghost use Prim.Native.Nat.{_<_};
+ghost use Prim.Native.Nat.{_+_, _≤_, _<_};
+ghost use lib.Dec.{ltb};
 ghost use lib.ListN.{length};
 ghost use Rattle.lent.specs.Bytes.{Wrote, fitting};
 ghost use Rattle.spell.specs.Tables.{Spelling, numerals, files};
-ghost use Rattle.spell.specs.Spell.{Digits, IsDigits, keyAt, placeFrom, firstOf, spelled};
+ghost use Rattle.spell.specs.Slots.{look, numeralSlots};
+ghost use Rattle.spell.specs.Spell.{Digits, IsDigits, keyAt, firstOf, spelled};
 
 // 一 to 九
 const NUMERALS: [u32; 9] = [
@@ -41,55 +43,75 @@ fn wide32(b: u8) -> u32
     b as u32
 }
 
+// Whether fewer than three bytes stand at a place.
+pub(crate) fn is_short(s: &[u8], at: usize) -> bool
+    ensures { λ r. ⌜ r ≡ ltb (length (now (s .entry))) (at + 3) ⌝ }
+{
+    if s.len() < 3 {
+        return true;
+    }
+    s.len() - 3 < at
+}
+
 // The three bytes at a place as one number.
-fn key_at(s: &[u8], at: usize) -> u32
+pub(crate) fn key_at(s: &[u8], at: usize) -> u32
+    requires { ⌜ at + 3 ≤ length (now s) ⌝ }
     ensures { λ r. ⌜ r ≡ keyAt (now (s .entry)) at ⌝ }
 {
-    if s.len() <= at {
-        return 0;
-    }
-    wide32(s[at]) * 65536 + wide32(lent::peek(s, at + 1)) * 256 + wide32(lent::peek(s, at + 2))
+    wide32(s[at]) * 65536 + wide32(s[at + 1]) * 256 + wide32(s[at + 2])
 }
 
-// Where a character stands in a list, counted from 1; 0 where it does not.
-fn place_in(x: u32, keys: &[u32]) -> u8
-    requires { ⌜ length (now keys) < 256 ⌝ }
-    ensures { λ r. ⌜ r ≡ placeFrom 1 (now (keys .entry)) x ⌝ }
+// The numerals in 17 slots: in the slot of a key, which is its remainder, the key and then its number in the last four bits.
+// No key is as large as what stands in an empty slot.
+fn numeral_row(h: u32) -> u32
+    ensures { λ r. ⌜ r ≡ look numeralSlots h ⌝ }
 {
-    let mut i = 0;
-    while i < keys.len() {
-        if keys[i] == x {
-            return (i + 1) as u8;
-        }
-        i += 1;
+    match h {
+        1 => 0xe4ba945,
+        5 => 0xe4b8893,
+        6 => 0xe585ab8,
+        8 => 0xe585ad6,
+        9 => 0xe4b99d9,
+        10 => 0xe4ba8c2,
+        12 => 0xe59b9b4,
+        13 => 0xe4b8801,
+        16 => 0xe4b8837,
+        _ => u32::MAX,
     }
-    0
-}
-
-fn digit(c: Cursor, s: &[u8], keys: &[u32]) -> Spelled
-    requires { ⌜ IsDigits (now keys) ⌝ }
-    ensures { λ r. ⌜ ((es : List Spelling) → Digits es (now (keys .entry)) → r ≡ firstOf es (now (s .entry)) (c .at)) ⌝ }
-{
-    let at = c.at;
-    let n = place_in(key_at(s, at), keys);
-    if n == 0 {
-        return Spelled::Not;
-    }
-    Spelled::As(n, Cursor { at: at + 3 })
 }
 
 // The rank, or digit of a count, that stands at a place.   (the Rust's kansuji_digit)
 pub fn numeral(c: Cursor, s: &[u8]) -> Spelled
     ensures { λ r. ⌜ r ≡ firstOf numerals (now (s .entry)) (c .at) ⌝ }
 {
-    digit(c, s, &NUMERALS)
+    let at = c.at;
+    if is_short(s, at) {
+        return Spelled::Not;
+    }
+    let x = key_at(s, at);
+    let row = numeral_row(x % 17);
+    if row / 16 != x {
+        return Spelled::Not;
+    }
+    Spelled::As((row % 16) as u8, Cursor { at: at + 3 })
 }
 
-// The file that stands at a place.   (the Rust's place_x)
+// The file that stands at a place: １ to ９ are one after another.   (the Rust's place_x)
 pub fn file(c: Cursor, s: &[u8]) -> Spelled
     ensures { λ r. ⌜ r ≡ firstOf files (now (s .entry)) (c .at) ⌝ }
 {
-    digit(c, s, &FILES)
+    let at = c.at;
+    if is_short(s, at) {
+        return Spelled::Not;
+    }
+    let x = key_at(s, at);
+    if x < 0xefbc91 {
+        return Spelled::Not;
+    }
+    if 0xefbc99 < x {
+        return Spelled::Not;
+    }
+    Spelled::As((x - 0xefbc90) as u8, Cursor { at: at + 3 })
 }
 
 fn put_digit(out: &mut [u8], n: u8, keys: &[u32]) -> usize

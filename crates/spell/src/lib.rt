@@ -13,6 +13,7 @@ ghost use mathlib.Core.Path.{_≡_};
 ghost use mathlib.Core.List.{List};
 ghost use Rattle.lent.specs.Bytes.{Wrote, fitting};
 ghost use Rattle.spell.specs.Tables.{Spelling, moveKinds, kinds, specials, writtenSpecials, presets, sides};
+ghost use Rattle.spell.specs.Slots.{look, kindSlots, promotedKinds};
 ghost use Rattle.spell.specs.Spell.{Rows, IsTable, firstOf, spelled};
 
 // What a table has at a place: its number and the place past it.
@@ -57,11 +58,57 @@ fn find(c: Cursor, s: &[u8], table: &[u8], w: usize) -> Spelled
     Spelled::Not
 }
 
+// The kinds of one character in 35 slots, each as a numeral stands in its.
+fn kind_row(h: u32) -> u32
+    ensures { λ r. ⌜ r ≡ look kindSlots h ⌝ }
+{
+    match h {
+        2 => 0xe9a6992,
+        3 => 0xe987915,
+        4 => 0xe381a89,
+        5 => 0xe78e898,
+        6 => 0xe9a39b7,
+        7 => 0xe78e8b8,
+        9 => 0xe9be8de,
+        10 => 0xe585a8c,
+        12 => 0xe6ada91,
+        16 => 0xe6a1823,
+        19 => 0xe98a804,
+        20 => 0xe69d8fa,
+        21 => 0xe9a6acd,
+        23 => 0xe59cadb,
+        25 => 0xe8a7926,
+        28 => 0xe7ab9ce,
+        _ => u32::MAX,
+    }
+}
+
+// 成香 成桂 成銀
+fn promoted(c: Cursor, s: &[u8]) -> Spelled
+    ensures { λ r. ⌜ r ≡ firstOf promotedKinds (now (s .entry)) (c .at) ⌝ }
+{
+    find(
+        c,
+        s,
+        b"\x06\x0a\xe6\x88\x90\xe9\xa6\x99\x06\x0b\xe6\x88\x90\xe6\xa1\x82\x06\x0c\xe6\x88\x90\xe9\x8a\x80",
+        8,
+    )
+}
+
 // The kind of piece that stands at a place, 1 to 14.   (the Rust's piece_kind)
 pub fn kind(c: Cursor, s: &[u8]) -> Spelled
     ensures { λ r. ⌜ r ≡ firstOf kinds (now (s .entry)) (c .at) ⌝ }
 {
-    find(c, s, &KINDS, 8)
+    let at = c.at;
+    if digits::is_short(s, at) {
+        return Spelled::Not;
+    }
+    let x = digits::key_at(s, at);
+    let row = kind_row(x % 35);
+    if row / 16 != x {
+        return promoted(c, s);
+    }
+    Spelled::As((row % 16) as u8, Cursor { at: at + 3 })
 }
 
 // The ending that stands at a place, 0 to 13.   (the Rust's move_special)
@@ -128,4 +175,11 @@ pub fn put_preset(out: &mut [u8], n: u8) -> usize
     ensures { λ r. ⌜ Wrote (fitting (spelled presets n) (now (out .entry))) (now (out .entry)) (now (out .exit)) r ⌝ }
 {
     put_spelled(out, n, &PRESETS, 17)
+}
+
+// A side.   (先手 and 後手 of the Rust's write_initial_data)
+pub fn put_side(out: &mut [u8], n: u8) -> usize
+    ensures { λ r. ⌜ Wrote (fitting (spelled sides n) (now (out .entry))) (now (out .entry)) (now (out .exit)) r ⌝ }
+{
+    put_spelled(out, n, &SIDES, 8)
 }

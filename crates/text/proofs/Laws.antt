@@ -214,3 +214,10 @@ line-end-after s at c e =
     let a = break-after s (d .at) c q in
     let f = a .past in
     record { past = omega arith; within = a .within }
+
+-- where an LF stands the tail is empty
+pub line-end-here : (s : List ℕ) (at : ℕ) → getD s at 0 ≡ 10 → lineEndAt s at ≡ Past (cursor (at + 1))
+unfolding lineEndAt tailAt breakAt
+line-end-here s at e =
+    let h : at < length s = in-list s at (omega arith) in
+    rw (span-off isText s at h (rw (eq-eqb (getD s at 0) 10 e)), ne-eqb (getD s at 0) 13 (λ q. omega arith), eq-eqb (getD s at 0) 10 e)

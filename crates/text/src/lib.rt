@@ -5,6 +5,7 @@ mod utf8;
 pub use utf8::well_formed;
 ghost use mathlib.Core.Path.{_≡_};
 ghost use Rattle.text.specs.Utf8.{characterAt};
+ghost use Rattle.text.specs.Runs.{Run, Reading};
 ghost use Rattle.text.specs.Text.{isBlank, isText, isDigit, blanksAt, textAt, padWidth, paddingAt, standsAt, tagAt, breakAt, tailAt, lineEndAt, digitsAt};
 
 pub struct Cursor {
@@ -83,6 +84,85 @@ fn pad_width(s: &[u8], at: usize) -> usize
     0
 }
 
+// Past those of eight bytes that are surely text, up to the first below 14; past none where fewer stand.
+fn text_of_eight(s: &[u8], at: usize) -> usize
+    ensures { λ r. ⌜ Run (textAt (now (s .entry))) (now (s .entry)) at r ⌝ }
+{
+    if s.len() < 8 {
+        return at;
+    }
+    if s.len() - 8 < at {
+        return at;
+    }
+    if s[at] < 14 {
+        return at;
+    }
+    if s[at + 1] < 14 {
+        return at + 1;
+    }
+    if s[at + 2] < 14 {
+        return at + 2;
+    }
+    if s[at + 3] < 14 {
+        return at + 3;
+    }
+    if s[at + 4] < 14 {
+        return at + 4;
+    }
+    if s[at + 5] < 14 {
+        return at + 5;
+    }
+    if s[at + 6] < 14 {
+        return at + 6;
+    }
+    if s[at + 7] < 14 {
+        return at + 7;
+    }
+    at + 8
+}
+
+// Past text, eight bytes at a time.
+fn plain_text(s: &[u8], from: usize) -> usize
+    ensures { λ r. ⌜ Run (textAt (now (s .entry))) (now (s .entry)) from r ⌝ }
+{
+    if s.len() < from {
+        return from;
+    }
+    let mut at = from;
+    loop {
+        let e = text_of_eight(s, at);
+        if e < at + 8 {
+            return e;
+        }
+        at = e;
+    }
+}
+
+// On from a place, where the digits from the start to it make the number first.
+fn digits_on(s: &[u8], largest: u64, start: usize, from: usize, first: u64) -> Number
+    requires { ⌜ Reading largest (now s) start from first ⌝ }
+    ensures { λ r. ⌜ r ≡ digitsAt largest (now (s .entry)) start ⌝ }
+{
+    let tens = largest / 10;
+    let mut at = from;
+    let mut n = first;
+    while is_digit(lent::peek(s, at)) {
+        let d = (lent::peek(s, at) - b'0') as u64;
+        if tens < n {
+            return Number::TooLarge;
+        }
+        if largest - n * 10 < d {
+            return Number::TooLarge;
+        }
+        n = n * 10 + d;
+        at += 1;
+    }
+    if at == start {
+        return Number::NoDigit;
+    }
+    Number::Value(n, Cursor { at })
+}
+
 impl Cursor {
     // Past the spaces and tabs.   (nom's space0)
     pub fn blanks(self, s: &[u8]) -> Cursor
@@ -113,7 +193,7 @@ impl Cursor {
     fn text(self, s: &[u8]) -> Cursor
         ensures { λ r. ⌜ r .at ≡ textAt (now (s .entry)) (self .at) ⌝ }
     {
-        let mut at = self.at;
+        let mut at = plain_text(s, self.at);
         while at < s.len() {
             if !is_text(s[at]) {
                 return Cursor { at };
@@ -154,10 +234,14 @@ impl Cursor {
         Place::Absent
     }
 
-    // Past a tail and its break.
+    // Past a tail and its break, of which the tail is empty where an LF stands here.
     pub fn line_end(self, s: &[u8]) -> Place
         ensures { λ r. ⌜ r ≡ lineEndAt (now (s .entry)) (self .at) ⌝ }
     {
+        let at = self.at;
+        if lent::peek(s, at) == b'\n' {
+            return Place::Past(Cursor { at: at + 1 });
+        }
         let Place::Past(end) = self.tail(s) else {
             return Place::Absent;
         };
@@ -187,28 +271,27 @@ impl Cursor {
         Place::Past(Cursor { at: at + n })
     }
 
-    // Past one or more digits, with the number that they make, if it is at most the largest allowed.   (nom's digit1, and str::parse)
+    // Past one or more digits, with the number that they make, if it is at most the largest allowed: one or two without a loop.
+    // (nom's digit1, and str::parse)
     pub fn digits(self, s: &[u8], largest: u64) -> Number
         ensures { λ r. ⌜ r ≡ digitsAt largest (now (s .entry)) (self .at) ⌝ }
     {
         let start = self.at;
-        let tens = largest / 10;
-        let mut at = start;
-        let mut n: u64 = 0;
-        while is_digit(lent::peek(s, at)) {
-            let d = (lent::peek(s, at) - b'0') as u64;
-            if tens < n {
-                return Number::TooLarge;
-            }
-            if largest - n * 10 < d {
-                return Number::TooLarge;
-            }
-            n = n * 10 + d;
-            at += 1;
+        if largest < 99 {
+            return digits_on(s, largest, start, start, 0);
         }
-        if at == start {
+        let a = lent::peek(s, start);
+        if !is_digit(a) {
             return Number::NoDigit;
         }
-        Number::Value(n, Cursor { at })
+        let b = lent::peek(s, start + 1);
+        if !is_digit(b) {
+            return Number::Value((a - b'0') as u64, Cursor { at: start + 1 });
+        }
+        let n = ((a - b'0') * 10 + (b - b'0')) as u64;
+        if is_digit(lent::peek(s, start + 2)) {
+            return digits_on(s, largest, start, start + 2, n);
+        }
+        Number::Value(n, Cursor { at: start + 2 })
     }
 }

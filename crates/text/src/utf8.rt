@@ -1,5 +1,8 @@
 // UTF-8: how much of a text is well formed.
 ghost use mathlib.Core.Path.{_≡_};
+ghost use mathlib.Core.Bool.{true};
+ghost use Rattle.text.specs.Runs.{Run};
+ghost use Rattle.text.specs.Text.{pastAll};
 ghost use Rattle.text.specs.Utf8.{sizeOf, lowestOf, highestOf, secondOf, isNext, charWidth, wellFormed};
 
 // How many bytes a character that starts with b has; 0 where none does.
@@ -98,16 +101,118 @@ pub(crate) fn char_width(s: &[u8], at: usize) -> usize
     4
 }
 
+// Past those of eight bytes that are ASCII, up to the first that is not; past none where fewer stand.
+fn ascii_of_eight(s: &[u8], at: usize) -> usize
+    ensures { λ r. ⌜ Run (pastAll charWidth (now (s .entry))) (now (s .entry)) at r ⌝ }
+{
+    if s.len() < 8 {
+        return at;
+    }
+    if s.len() - 8 < at {
+        return at;
+    }
+    if 128 <= s[at] {
+        return at;
+    }
+    if 128 <= s[at + 1] {
+        return at + 1;
+    }
+    if 128 <= s[at + 2] {
+        return at + 2;
+    }
+    if 128 <= s[at + 3] {
+        return at + 3;
+    }
+    if 128 <= s[at + 4] {
+        return at + 4;
+    }
+    if 128 <= s[at + 5] {
+        return at + 5;
+    }
+    if 128 <= s[at + 6] {
+        return at + 6;
+    }
+    if 128 <= s[at + 7] {
+        return at + 7;
+    }
+    at + 8
+}
+
+// Past ASCII, eight bytes at a time.
+fn ascii(s: &[u8], from: usize) -> usize
+    ensures { λ r. ⌜ Run (pastAll charWidth (now (s .entry))) (now (s .entry)) from r ⌝ }
+{
+    if s.len() < from {
+        return from;
+    }
+    let mut at = from;
+    loop {
+        let e = ascii_of_eight(s, at);
+        if e < at + 8 {
+            return e;
+        }
+        at = e;
+    }
+}
+
+// Whether a character of three bytes surely stands at a place: those after E0 and ED are left to char_width.
+fn is_three(s: &[u8], at: usize) -> bool
+    ensures { λ r. ⌜ (r ≡ true → charWidth (now (s .entry)) at ≡ 3) ⌝ }
+{
+    if s.len() < 3 {
+        return false;
+    }
+    if s.len() - 3 < at {
+        return false;
+    }
+    let b = s[at];
+    if b < 225 {
+        return false;
+    }
+    if 239 < b {
+        return false;
+    }
+    if b == 237 {
+        return false;
+    }
+    if !is_next(s[at + 1]) {
+        return false;
+    }
+    is_next(s[at + 2])
+}
+
+// Past characters of three bytes.
+fn threes(s: &[u8], from: usize) -> usize
+    ensures { λ r. ⌜ Run (pastAll charWidth (now (s .entry))) (now (s .entry)) from r ⌝ }
+{
+    let mut at = from;
+    while is_three(s, at) {
+        at += 3;
+    }
+    at
+}
+
+// Past some characters, if one stands here: ASCII and characters of three bytes many at a time.
+fn characters(s: &[u8], at: usize) -> usize
+    ensures { λ r. ⌜ Run (pastAll charWidth (now (s .entry))) (now (s .entry)) at r × (r ≡ at → charWidth (now (s .entry)) at ≡ 0) ⌝ }
+{
+    let e = threes(s, ascii(s, at));
+    if e != at {
+        return e;
+    }
+    at + char_width(s, at)
+}
+
 // How many bytes are well formed before the first fault.   (the Rust takes a &str)
 pub fn well_formed(s: &[u8]) -> usize
     ensures { λ r. ⌜ r ≡ wellFormed (now (s .entry)) ⌝ }
 {
     let mut at = 0;
     loop {
-        let n = char_width(s, at);
-        if n == 0 {
+        let e = characters(s, at);
+        if e == at {
             return at;
         }
-        at += n;
+        at = e;
     }
 }

@@ -1,4 +1,4 @@
--- Two plain bytes that are equal are passed, so the keys compare as what is left of them, and that is compared slowly.
+-- Four bytes that are equal are passed, so the keys compare as what is left of them; where four differ their numbers tell, and the rest is compared slowly.
 -- Assumes nothing.
 use Prim.Native.Nat.{_+_, _≤_}
 use native.Mathlib.Omega.{arith}
@@ -6,10 +6,9 @@ use mathlib.Core.Path.{_≡_, refl, sym, _∙_}
 use lib.ListN.{length}
 use denote.Ref.{now}
 use borrow.Author.Needs.{needs}
-use borrow.Author.Tests.{not-false}
 use Rattle.text.specs.Text.{keyAt}
 use Rattle.sorted.specs.Sorted.{byBytes}
-use Rattle.sorted.proofs.Keys.{plain-same}
+use Rattle.sorted.proofs.Keys.{four-less, four-same, four-greater}
 use Rattle.sorted.proofs.compare_keys.Statement.{statement}
 use Rattle.sorted.proofs.compare_keys.Tie as tie
 
@@ -34,26 +33,33 @@ sub-left c = search needs
 loop-holds : tie.Need-loop-holds Inv-loop μ-loop
 loop-holds c = (omega arith, omega arith, refl)
 
-shared-slice-read-b : tie.Need-shared-slice-read-b Inv-loop μ-loop
-shared-slice-read-b c = search needs
-
-shared-slice-read-if2 : tie.Need-shared-slice-read-if2 Inv-loop μ-loop
-shared-slice-read-if2 c = search needs
+four-requires : tie.Need-four-requires Inv-loop μ-loop
+four-requires c κs = search needs
 
 compare-slowly-requires-2 : tie.Need-compare-slowly-requires-2 Inv-loop μ-loop
 compare-slowly-requires-2 c κs = search needs
 
 returns-2 : tie.Need-returns-2 Inv-loop μ-loop
-returns-2 c = c .compare-slowly2 .ensures ∙ sym (c .before .before .before .before .before .loop .inv .2)
+returns-2 c = c .compare-slowly2 .ensures ∙ sym (c .before .before .before .before .loop .inv .2)
 
-plain-requires : tie.Need-plain-requires Inv-loop μ-loop
-plain-requires c κs = search needs
+four-requires-2 : tie.Need-four-requires-2 Inv-loop μ-loop
+four-requires-2 c κs = search needs
 
 compare-slowly-requires-3 : tie.Need-compare-slowly-requires-3 Inv-loop μ-loop
 compare-slowly-requires-3 c κs = search needs
 
 returns-3 : tie.Need-returns-3 Inv-loop μ-loop
-returns-3 c = c .compare-slowly3 .ensures ∙ sym (c .before .before .before .before .before .before .before .loop .inv .2)
+returns-3 c = c .compare-slowly3 .ensures ∙ sym (c .before .before .before .before .before .before .loop .inv .2)
+
+returns-4 : tie.Need-returns-4 Inv-loop μ-loop
+returns-4 c =
+    let l = c .before .before .before .before .before .before in
+    sym (l .loop .inv .2 ∙ four-less (c .before .before .before .before .four .ensures (omega arith)) (c .before .before .four2 .ensures (omega arith)) (c .if4 .taken))
+
+returns-5 : tie.Need-returns-5 Inv-loop μ-loop
+returns-5 c =
+    let l = c .before .before .before .before .before .before .before in
+    sym (l .loop .inv .2 ∙ four-greater (c .before .before .before .before .before .four .ensures (omega arith)) (c .before .before .before .four2 .ensures (omega arith)) (c .if5 .taken))
 
 add-i : tie.Need-add-i Inv-loop μ-loop
 add-i c = search needs
@@ -61,24 +67,19 @@ add-i c = search needs
 add-j : tie.Need-add-j Inv-loop μ-loop
 add-j c = search needs
 
-sub-left-2 : tie.Need-sub-left-2 Inv-loop μ-loop
-sub-left-2 c = search needs
-
 loop-less : tie.Need-loop-less Inv-loop μ-loop
 loop-less c = search needs
 
 loop-again : tie.Need-loop-again Inv-loop μ-loop
 loop-again c =
-    let l = c .before .before .before .before .before .before in
-    let s = now (l .before .before .before .before .args .s) in
-    let p = sym (c .before .plain .ensures) ∙ not-false _ (c .if3 .left) in
-    (omega arith, omega arith, l .loop .inv .2 ∙ plain-same s (l .loop .i) (l .loop .j) (omega arith) (omega arith) (c .before .before .if2 .left) p)
+    let l = c .before .before .before .before .before .before .before in
+    (omega arith, omega arith, l .loop .inv .2 ∙ four-same (c .before .before .before .before .before .four .ensures (omega arith)) (c .before .before .before .four2 .ensures (omega arith)) (omega arith))
 
 compare-slowly-requires-4 : tie.Need-compare-slowly-requires-4 Inv-loop μ-loop
 compare-slowly-requires-4 c κs = search needs
 
-returns-4 : tie.Need-returns-4 Inv-loop μ-loop
-returns-4 c = c .compare-slowly4 .ensures ∙ sym (c .before .before .loop .inv .2)
+returns-6 : tie.Need-returns-6 Inv-loop μ-loop
+returns-6 c = c .compare-slowly4 .ensures ∙ sym (c .before .before .loop .inv .2)
 
 pub compare-keys-spec : {M : Type 1} → statement M
 compare-keys-spec =
@@ -91,17 +92,17 @@ compare-keys-spec =
     returns
     sub-left
     loop-holds
-    shared-slice-read-b
-    shared-slice-read-if2
+    four-requires
     compare-slowly-requires-2
     returns-2
-    plain-requires
+    four-requires-2
     compare-slowly-requires-3
     returns-3
+    returns-4
+    returns-5
     add-i
     add-j
-    sub-left-2
     loop-less
     loop-again
     compare-slowly-requires-4
-    returns-4)
+    returns-6)

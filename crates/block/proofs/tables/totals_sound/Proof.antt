@@ -48,9 +48,6 @@ returns-3 c =
 text-place-requires : tie.Need-text-place-requires
 text-place-requires c κs = search needs
 
-header-total-requires : tie.Need-header-total-requires
-header-total-requires c κs = search needs
-
 add-result : tie.Need-add-result
 add-result c = search needs
 
@@ -62,12 +59,12 @@ add-result-2 c = search needs
 
 returns-4 : tie.Need-returns-4
 returns-4 c =
-    let b = now (c .before .before .before .before .before .before .before .before .before .before .before .before .args .b) in
-    let e : c .before .before .text-place .result + c .before .header-total .result + c .text-total .result ≡ textPlace b + headerBytes b (headersIn b) + commentBytes b (commentsIn b) = omega (arith, c .before .before .text-place .ensures .0, c .before .header-total .ensures .0, c .text-total .ensures .0) in
+    let b = now (c .before .before .before .before .before .before .before .before .before .before .before .args .b) in
+    let e : c .before .text-place .result + c .before .before .before .before .before .before .before .before .before .before .before .args .headers + c .text-total .result ≡ textPlace b + headerBytes b (headersIn b) + commentBytes b (commentsIn b) = omega (arith, c .before .text-place .ensures .0, c .before .before .before .before .before .before .before .before .before .before .before .pre .0, c .text-total .ensures .0) in
     rw (
       le-leb 1 (linesIn b) (omega arith),
-      eq-eqb (entriesBefore b (linesIn b)) (movesIn b) (sym (c .before .before .before .before .before .before .before .before .entry-total .ensures .0) ∙ c .before .before .before .before .before .before .if2 .left ∙ c .before .before .before .before .before .before .before .moves .ensures .0),
-      eq-eqb (commentsBefore b (movesIn b)) (commentsIn b) (sym (c .before .before .before .before .before .comment-total .ensures .0) ∙ c .before .before .before .if3 .left ∙ c .before .before .before .before .comments .ensures .0),
+      eq-eqb (entriesBefore b (linesIn b)) (movesIn b) (sym (c .before .before .before .before .before .before .before .entry-total .ensures .0) ∙ c .before .before .before .before .before .if2 .left ∙ c .before .before .before .before .before .before .moves .ensures .0),
+      eq-eqb (commentsBefore b (movesIn b)) (commentsIn b) (sym (c .before .before .before .before .comment-total .ensures .0) ∙ c .before .before .if3 .left ∙ c .before .before .before .comments .ensures .0),
     )
     (ap (λ (n : ℕ). eqb n (length b)) e)
 
@@ -84,7 +81,6 @@ totals-sound-spec =
     comments-requires
     returns-3
     text-place-requires
-    header-total-requires
     add-result
     text-total-requires
     add-result-2

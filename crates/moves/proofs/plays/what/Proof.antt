@@ -1,41 +1,40 @@
--- The answers of the steps, handed on as the definition hands them on.
+-- What has a target is a move, and what has none can only be a special (`what-move`, `what-ending`).
 -- Assumes nothing.
+use mathlib.Core.Path.{sym, _∙_}
+use Rattle.moves.proofs.Shortcuts.{what-move, what-ending}
 use borrow.Author.Needs.{needs}
-use Rattle.moves.specs.Moves.{whatAt}
 use Rattle.moves.proofs.plays.what.Statement.{statement}
 use Rattle.moves.proofs.plays.what.Tie as tie
 
-special-requires : tie.Need-special-requires
-special-requires c κs = search needs
+move-to-requires : tie.Need-move-to-requires
+move-to-requires c κs = search needs
 
-enum-known-n : tie.Need-enum-known-n
-enum-known-n c = search needs
+enum-known-to : tie.Need-enum-known-to
+enum-known-to c = search needs
 
 enum-told : tie.Need-enum-told
 enum-told c = search needs
 
-move-move-requires : tie.Need-move-move-requires
-move-move-requires c κs = search needs
+ending-requires : tie.Need-ending-requires
+ending-requires c κs = search needs
 
 returns : tie.Need-returns
-unfolding whatAt
-returns c = rw (← c .before .before .before .special .ensures, c .before .enum-told .given .1, ← c .move-move .ensures)
+returns c = c .ending .ensures ∙ sym (what-ending _ _ (sym (c .before .before .before .move-to .ensures) ∙ c .before .enum-told .given .1))
 
-special-of-requires : tie.Need-special-of-requires
-special-of-requires c κs = search needs
+piece-requires : tie.Need-piece-requires
+piece-requires c κs = search needs
 
 returns-2 : tie.Need-returns-2
-unfolding whatAt
-returns-2 c = rw (← c .before .before .before .before .special .ensures, c .before .before .n .given .1, ← c .special-of .ensures)
+returns-2 c = c .piece .ensures ∙ sym (what-move _ _ _ _ (sym (c .before .before .before .before .move-to .ensures) ∙ c .before .before .to .given .1))
 
 pub what-spec : {M : Type 1} → statement M
 what-spec =
     tie.close
     (tie.spec
-    special-requires
-    enum-known-n
+    move-to-requires
+    enum-known-to
     enum-told
-    move-move-requires
+    ending-requires
     returns
-    special-of-requires
+    piece-requires
     returns-2)

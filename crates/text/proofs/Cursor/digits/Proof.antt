@@ -1,124 +1,125 @@
--- The digits from the start make the number that those from here make after n (`Reading`). Past the largest value no further digit helps.
+-- One digit and two make their number (`one-digit`, `two-digits`); from a third one on, or up to a small number, `digits_on` goes on.
 -- Assumes nothing.
-use Prim.Native.Nat.{ℕ, _-_, _≤_, _<_}
 use native.Mathlib.Omega.{arith}
-use mathlib.Core.List.{List}
-use mathlib.Core.Path.{_≡_, refl, sym, _∙_, ap}
+use mathlib.Core.Path.{_≡_, sym, _∙_}
 use mathlib.Core.Bool.{true}
-use lib.ListN.{length}
 use denote.Ref.{now}
+use borrow.Author.Needs.{needs}
+use borrow.Author.Tests.{not-true, not-false}
 use Rattle.text.specs.Text.{isDigit}
-use Rattle.lists.proofs.Laws.{class-in}
 use Rattle.text.proofs.Laws.{digit-bounds}
-use Rattle.text.proofs.Readings.{Reading, reading-start, reading-more, reading-large, reading-done, reading-none}
+use Rattle.text.proofs.Readings.{reading-start, no-digit, one-digit, two, two-digits, digit-in}
 use Rattle.text.proofs.Cursor.digits.Statement.{statement}
 use Rattle.text.proofs.Cursor.digits.Tie as tie
 
-abbrev Inv-loop : tie.InvT-loop
-Inv-loop s largest start tens at₀ n₀ at n = Reading largest s start at n
+-- the first byte is a digit, and the second
+first : (c : tie.Else2) → isDigit (c .before .before .peek .result) ≡ true
+first c = sym (c .before .is-digit .ensures) ∙ not-false _ (c .if2 .left)
 
-abbrev μ-loop : tie.MeasureT-loop
-μ-loop s largest start tens at₀ n₀ at n = length s - at
+second : (c : tie.Else3) → isDigit (c .before .before .peek2 .result) ≡ true
+second c = sym (c .before .is-digit2 .ensures) ∙ not-false _ (c .if3 .left)
 
--- in a turn, once the byte was read again: what was read, that it is a digit, and that it stands in the text
-abbrev At : Type 0
-At = tie.After-peek2 Inv-loop μ-loop
+digits-on-requires : tie.Need-digits-on-requires
+digits-on-requires c κs = reading-start _ _ _
 
-abbrev S : At → List ℕ
-S c = now (c .before .before .before .before .before .before .args .s)
+returns : tie.Need-returns
+returns c = c .digits-on .ensures
 
-abbrev I : At → ℕ
-I c = c .before .before .before .before .loop .at
+peek-requires : tie.Need-peek-requires
+peek-requires c κs = search needs
 
-abbrev inv : (c : At) → Reading (c .before .before .before .before .before .before .args .largest) (S c) (c .before .before .before .before .before .before .args .self .at) (I c) (c .before .before .before .before .loop .n)
-inv c = c .before .before .before .before .loop .inv
+is-digit-requires : tie.Need-is-digit-requires
+is-digit-requires c κs = search needs
 
-digit : (c : At) → isDigit (c .peek2 .result) ≡ true
-digit c =
-    let p = c .before .before .before in
-    ap isDigit (c .peek2 .ensures ∙ sym (p .peek .ensures)) ∙ sym (c .before .before .is-digit .ensures) ∙ c .before .if1 .taken
+returns-2 : tie.Need-returns-2
+returns-2 c = sym (no-digit _ _ _ _ (c .before .before .peek .ensures) (sym (c .before .is-digit .ensures) ∙ not-true _ (c .if2 .taken)))
 
-bounds : (c : At) → (48 ≤ c .peek2 .result) × (c .peek2 .result < 58)
-bounds c = digit-bounds _ (digit c)
+add-peek : tie.Need-add-peek
+add-peek c = omega (arith, digit-in (now (c .before .before .before .before .before .args .s)) (c .before .before .before .before .before .args .self .at) _ (c .before .before .peek .ensures) (first c))
 
-inside : (c : At) → I c < length (S c)
-inside c = class-in isDigit (S c) (I c) refl (ap isDigit (sym (c .peek2 .ensures)) ∙ digit c)
+peek-requires-2 : tie.Need-peek-requires-2
+peek-requires-2 c κs = search needs
 
-loop-holds : tie.Need-loop-holds Inv-loop μ-loop
-loop-holds c = reading-start _ _ _
+is-digit-requires-2 : tie.Need-is-digit-requires-2
+is-digit-requires-2 c κs = search needs
 
-peek-requires : tie.Need-peek-requires Inv-loop μ-loop
-peek-requires c κs = tt
+sub-t11 : tie.Need-sub-t11
+sub-t11 c = omega (arith, digit-bounds (c .before .before .before .before .before .peek .result) (first (c .before .before .before)))
 
-is-digit-requires : tie.Need-is-digit-requires Inv-loop μ-loop
-is-digit-requires c κs = tt
+cast-t12 : tie.Need-cast-t12
+cast-t12 c = omega (arith, digit-bounds (c .before .before .before .before .before .peek .result) (first (c .before .before .before)))
 
-peek-requires-2 : tie.Need-peek-requires-2 Inv-loop μ-loop
-peek-requires-2 c κs = tt
+add-t13 : tie.Need-add-t13
+add-t13 c = omega (arith, digit-in (now (c .before .before .before .before .before .before .before .before .args .s)) (c .before .before .before .before .before .before .before .before .args .self .at) _ (c .before .before .before .before .before .peek .ensures) (first (c .before .before .before)))
 
-sub-d : tie.Need-sub-d Inv-loop μ-loop
-sub-d c = bounds c .0
+returns-3 : tie.Need-returns-3
+returns-3 c = sym (one-digit (c .before .before .before .before .before .before .before .before .args .largest) (now (c .before .before .before .before .before .before .before .before .args .s)) (c .before .before .before .before .before .before .before .before .args .self .at) _ _ (omega arith) (c .before .before .before .before .before .peek .ensures) (first (c .before .before .before)) (c .before .before .peek2 .ensures) (sym (c .before .is-digit2 .ensures) ∙ not-true _ (c .if3 .taken)))
 
-cast-d : tie.Need-cast-d Inv-loop μ-loop
-cast-d c = omega (arith, bounds c)
+sub-n : tie.Need-sub-n
+sub-n c = omega (arith, digit-bounds (c .before .before .before .before .before .peek .result) (first (c .before .before .before)))
 
-returns : tie.Need-returns Inv-loop μ-loop
-returns c = sym (reading-large (inv (c .before)) (c .before .peek2 .ensures) (digit (c .before)) (omega arith))
+mul-n : tie.Need-mul-n
+mul-n c = omega (arith, digit-bounds (c .before .before .before .before .before .peek .result) (first (c .before .before .before)))
 
-mul-if3 : tie.Need-mul-if3 Inv-loop μ-loop
-mul-if3 c = omega arith
+sub-n-2 : tie.Need-sub-n-2
+sub-n-2 c = omega (arith, digit-bounds (c .before .before .peek2 .result) (second c))
 
-sub-if3 : tie.Need-sub-if3 Inv-loop μ-loop
-sub-if3 c = omega (arith, bounds (c .before))
+add-n : tie.Need-add-n
+add-n c = omega (arith, digit-bounds (c .before .before .before .before .before .peek .result) (first (c .before .before .before)), digit-bounds (c .before .before .peek2 .result) (second c))
 
-returns-2 : tie.Need-returns-2 Inv-loop μ-loop
-returns-2 c = sym (reading-large (inv (c .before .before)) (c .before .before .peek2 .ensures) (digit (c .before .before)) (omega (arith, bounds (c .before .before))))
+cast-n : tie.Need-cast-n
+cast-n c = omega (arith, digit-bounds (c .before .before .before .before .before .peek .result) (first (c .before .before .before)), digit-bounds (c .before .before .peek2 .result) (second c))
 
-mul-n : tie.Need-mul-n Inv-loop μ-loop
-mul-n c = omega arith
+add-peek-2 : tie.Need-add-peek-2
+add-peek-2 c = omega (arith, digit-in (now (c .before .before .before .before .before .before .before .before .args .s)) (c .before .before .before .before .before .before .before .before .args .self .at) _ (c .before .before .before .before .before .peek .ensures) (first (c .before .before .before)))
 
-add-n : tie.Need-add-n Inv-loop μ-loop
-add-n c = omega (arith, bounds (c .before .before))
+peek-requires-3 : tie.Need-peek-requires-3
+peek-requires-3 c κs = search needs
 
-add-at : tie.Need-add-at Inv-loop μ-loop
-add-at c = omega (arith, inside (c .before .before))
+is-digit-requires-3 : tie.Need-is-digit-requires-3
+is-digit-requires-3 c κs = search needs
 
-loop-less : tie.Need-loop-less Inv-loop μ-loop
-loop-less c = omega (arith, inside (c .before .before))
+add-digits-on : tie.Need-add-digits-on
+add-digits-on c = omega (arith, digit-in (now (c .before .before .before .before .before .before .before .before .before .before .before .args .s)) (c .before .before .before .before .before .before .before .before .before .before .before .args .self .at) _ (c .before .before .before .before .before .before .before .before .peek .ensures) (first (c .before .before .before .before .before .before)))
 
-loop-again : tie.Need-loop-again Inv-loop μ-loop
-loop-again c = reading-more (inv (c .before .before)) (c .before .before .peek2 .ensures) (digit (c .before .before)) (omega (arith, bounds (c .before .before)))
+digits-on-requires-2 : tie.Need-digits-on-requires-2
+digits-on-requires-2 c κs = two (c .before .before .before .before .before .before .before .before .before .before .before .args .largest) (now (c .before .before .before .before .before .before .before .before .before .before .before .args .s)) (c .before .before .before .before .before .before .before .before .before .before .before .args .self .at) _ _ (omega arith) (c .before .before .before .before .before .before .before .before .peek .ensures) (first (c .before .before .before .before .before .before)) (c .before .before .before .before .before .peek2 .ensures) (second (c .before .before .before))
 
-returns-3 : tie.Need-returns-3 Inv-loop μ-loop
-returns-3 c =
-    let p = c .before .before .before in
-    sym (reading-none (p .before .loop .inv) (p .peek .ensures) (sym (c .before .before .is-digit .ensures) ∙ c .before .if1 .left) (c .if4 .taken))
+returns-4 : tie.Need-returns-4
+returns-4 c = c .digits-on2 .ensures
 
-returns-4 : tie.Need-returns-4 Inv-loop μ-loop
-returns-4 c =
-    let p = c .before .before .before in
-    sym (reading-done (p .before .loop .inv) (p .peek .ensures) (sym (c .before .before .is-digit .ensures) ∙ c .before .if1 .left) (c .if4 .left))
+add-t10 : tie.Need-add-t10
+add-t10 c = omega (arith, digit-in (now (c .before .before .before .before .before .before .before .before .before .before .before .args .s)) (c .before .before .before .before .before .before .before .before .before .before .before .args .self .at) _ (c .before .before .before .before .before .before .before .before .peek .ensures) (first (c .before .before .before .before .before .before)))
+
+returns-5 : tie.Need-returns-5
+returns-5 c = sym (two-digits (c .before .before .before .before .before .before .before .before .before .before .before .args .largest) (now (c .before .before .before .before .before .before .before .before .before .before .before .args .s)) (c .before .before .before .before .before .before .before .before .before .before .before .args .self .at) _ _ (omega arith) (c .before .before .before .before .before .before .before .before .peek .ensures) (first (c .before .before .before .before .before .before)) (c .before .before .before .before .before .peek2 .ensures) (second (c .before .before .before)) _ (c .before .before .peek3 .ensures) (sym (c .before .is-digit3 .ensures) ∙ c .if4 .left))
 
 pub digits-spec : {M : Type 1} → statement M
 digits-spec =
     tie.close
     (tie.spec
-    Inv-loop
-    μ-loop
-    loop-holds
+    digits-on-requires
+    returns
     peek-requires
     is-digit-requires
-    peek-requires-2
-    sub-d
-    cast-d
-    returns
-    mul-if3
-    sub-if3
     returns-2
-    mul-n
-    add-n
-    add-at
-    loop-less
-    loop-again
+    add-peek
+    peek-requires-2
+    is-digit-requires-2
+    sub-t11
+    cast-t12
+    add-t13
     returns-3
-    returns-4)
+    sub-n
+    mul-n
+    sub-n-2
+    add-n
+    cast-n
+    add-peek-2
+    peek-requires-3
+    is-digit-requires-3
+    add-digits-on
+    digits-on-requires-2
+    returns-4
+    add-t10
+    returns-5)

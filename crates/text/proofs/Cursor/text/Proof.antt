@@ -1,4 +1,4 @@
--- The span from the start is the span from here.
+-- The span from the start is the span from past the bytes that were passed eight at a time, and that is the span from here.
 -- Assumes nothing.
 use Prim.Native.Nat.{_-_}
 use native.Mathlib.Omega.{arith}
@@ -23,13 +23,16 @@ loop-holds c = refl
 shared-slice-read-is-text : tie.Need-shared-slice-read-is-text Inv-loop μ-loop
 shared-slice-read-is-text c = omega arith
 
+plain-text-requires : tie.Need-plain-text-requires Inv-loop μ-loop
+plain-text-requires c κs = search needs
+
 is-text-requires : tie.Need-is-text-requires Inv-loop μ-loop
 is-text-requires c κs = search needs
 
 returns : tie.Need-returns Inv-loop μ-loop
 returns c =
     let l = c .before .before .before .before in
-    sym (l .loop .inv ∙ span-off _ _ _ (omega arith) (sym (c .before .is-text .ensures) ∙ not-true _ (c .if1 .taken)))
+    sym (l .before .plain-text .ensures .same ∙ l .loop .inv ∙ span-off _ _ _ (omega arith) (sym (c .before .is-text .ensures) ∙ not-true _ (c .if1 .taken)))
 
 add-at : tie.Need-add-at Inv-loop μ-loop
 add-at c = omega arith
@@ -43,7 +46,7 @@ loop-again c =
     l .loop .inv ∙ span-on _ _ _ (omega arith) (sym (c .before .is-text .ensures) ∙ not-false _ (c .if1 .left))
 
 returns-2 : tie.Need-returns-2 Inv-loop μ-loop
-returns-2 c = sym (c .before .loop .inv ∙ span-end _ _ _ (c .loop-test .left))
+returns-2 c = sym (c .before .before .plain-text .ensures .same ∙ c .before .loop .inv ∙ span-end _ _ _ (c .loop-test .left))
 
 pub text-spec : {M : Type 1} → statement M
 text-spec =
@@ -51,6 +54,7 @@ text-spec =
     (tie.spec
     Inv-loop
     μ-loop
+    plain-text-requires
     loop-holds
     shared-slice-read-is-text
     is-text-requires

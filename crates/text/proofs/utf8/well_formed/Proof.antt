@@ -1,13 +1,14 @@
--- What is passed from the start is what is passed from here.
+-- What is passed from the start is what is passed from here, and a turn passes a run.
 -- Assumes nothing.
 use Prim.Native.Nat.{_-_}
 use native.Mathlib.Omega.{arith}
 use mathlib.Core.Path.{_≡_, refl, sym, _∙_}
 use lib.ListN.{length}
 use denote.Ref.{now}
+use borrow.Author.Needs.{needs}
 use Rattle.text.specs.Text.{pastAll}
 use Rattle.text.specs.Utf8.{charWidth}
-use Rattle.text.proofs.Widths.{Turn, turn, past-stop, char-within}
+use Rattle.text.proofs.Widths.{past-stop}
 use Rattle.text.proofs.utf8.well_formed.Statement.{statement}
 use Rattle.text.proofs.utf8.well_formed.Tie as tie
 
@@ -17,30 +18,22 @@ Inv-loop s at₀ at = pastAll charWidth s at₀ ≡ pastAll charWidth s at
 abbrev μ-loop : tie.MeasureT-loop
 μ-loop s at₀ at = length s - at
 
-turns : (c : tie.Else1 Inv-loop μ-loop) → Turn charWidth (now (c .before .before .before .before .args .s)) (c .before .before .loop .at) (c .before .char-width .result)
-turns c = turn charWidth char-within _ _ _ (c .before .char-width .ensures) (c .if1 .left)
-
 loop-holds : tie.Need-loop-holds Inv-loop μ-loop
 loop-holds c = refl
 
-char-width-requires : tie.Need-char-width-requires Inv-loop μ-loop
-char-width-requires c κs = tt
+characters-requires : tie.Need-characters-requires Inv-loop μ-loop
+characters-requires c κs = search needs
 
 returns : tie.Need-returns Inv-loop μ-loop
-returns c =
-    let l = c .before .before in
-    sym (l .loop .inv ∙ past-stop charWidth (now (l .before .before .args .s)) (l .loop .at) (sym (c .before .char-width .ensures) ∙ c .if1 .taken))
-
-add-at : tie.Need-add-at Inv-loop μ-loop
-add-at c = omega (arith, turns c .within)
+returns c = let l = c .before .before in sym (l .loop .inv ∙ past-stop charWidth (now (l .before .before .args .s)) (l .loop .at) (c .before .characters .ensures .1 (c .if1 .taken)))
 
 loop-less : tie.Need-loop-less Inv-loop μ-loop
-loop-less c = omega (arith, turns c .on, turns c .within)
+loop-less c = omega (arith, c .before .characters .ensures .0 .from, c .before .characters .ensures .0 .within)
 
 loop-again : tie.Need-loop-again Inv-loop μ-loop
-loop-again c = c .before .before .loop .inv ∙ turns c .same
+loop-again c = c .before .before .loop .inv ∙ c .before .characters .ensures .0 .same
 
 pub well-formed-spec : {M : Type 1} → statement M
 well-formed-spec =
     tie.close
-    (tie.spec Inv-loop μ-loop loop-holds char-width-requires returns add-at loop-less loop-again)
+    (tie.spec Inv-loop μ-loop loop-holds characters-requires returns loop-less loop-again)

@@ -1,0 +1,124 @@
+// The rows of a block by their numbers, for who knows that the block is sound; of any other slice they say what stands there, or 0.
+use crate::fields;
+use crate::texts;
+use jkf::Entry;
+use jkf::Position;
+ghost use mathlib.Core.Path.{_≡_};
+ghost use Prim.Native.Nat.{_<_};
+ghost use lib.ListN.{drop};
+ghost use Rattle.jkf.specs.Entries.{entryIn};
+ghost use Rattle.jkf.specs.Positions.{positionIn};
+ghost use Rattle.block.specs.Decode.{headersIn, linesIn, movesIn, commentsIn, movePlace, startOf, firstEntry, entryCount, parentOf, firstComment, commentCount, keyOf, valueOf, commentOf};
+ghost use Rattle.block.specs.Sound.{headerBytes};
+
+// How many header entries there are.
+pub fn headers_in(b: &[u8]) -> usize
+    ensures { λ r. ⌜ (r ≡ headersIn (now (b .entry))) × (r < 65536) ⌝ }
+{
+    fields::headers(b)
+}
+
+// How many bytes their keys and values have.
+pub fn header_bytes(b: &[u8]) -> usize
+    ensures { λ r. ⌜ (r ≡ headerBytes (now (b .entry)) (headersIn (now (b .entry)))) × (r < 8600000000) ⌝ }
+{
+    fields::header_total(b)
+}
+
+// How many lines.
+pub fn lines_in(b: &[u8]) -> usize
+    ensures { λ r. ⌜ (r ≡ linesIn (now (b .entry))) × (r < 65536) ⌝ }
+{
+    fields::lines(b)
+}
+
+// How many entries.
+pub fn moves_in(b: &[u8]) -> usize
+    ensures { λ r. ⌜ (r ≡ movesIn (now (b .entry))) × (r < 65536) ⌝ }
+{
+    fields::moves(b)
+}
+
+// How many comments.
+pub fn comments_in(b: &[u8]) -> usize
+    ensures { λ r. ⌜ (r ≡ commentsIn (now (b .entry))) × (r < 65536) ⌝ }
+{
+    fields::comments(b)
+}
+
+// The ply that line k starts at.
+pub fn start_of(b: &[u8], k: u16) -> usize
+    ensures { λ r. ⌜ (r ≡ startOf (now (b .entry)) k) × (r < 65536) ⌝ }
+{
+    fields::start_of(b, k as usize)
+}
+
+// The number of its first entry.
+pub fn first_entry(b: &[u8], k: u16) -> usize
+    ensures { λ r. ⌜ (r ≡ firstEntry (now (b .entry)) k) × (r < 65536) ⌝ }
+{
+    fields::first_entry(b, k as usize)
+}
+
+// How many entries it has.
+pub fn entry_count(b: &[u8], k: u16) -> usize
+    ensures { λ r. ⌜ (r ≡ entryCount (now (b .entry)) k) × (r < 65536) ⌝ }
+{
+    fields::entry_count(b, k as usize)
+}
+
+// The line that it hangs on.
+pub fn parent_of(b: &[u8], k: u16) -> usize
+    ensures { λ r. ⌜ (r ≡ parentOf (now (b .entry)) k) × (r < 65536) ⌝ }
+{
+    fields::parent_of(b, k as usize)
+}
+
+// What entry k is.
+pub fn entry_of(b: &[u8], k: u16) -> Entry
+    ensures { λ r. ⌜ r ≡ entryIn (drop (movePlace (now (b .entry)) k) (now (b .entry))) ⌝ }
+{
+    jkf::entry_in(texts::rest(b, fields::move_place(b, k as usize)))
+}
+
+// The number of its first comment.
+pub fn first_comment(b: &[u8], k: u16) -> usize
+    ensures { λ r. ⌜ (r ≡ firstComment (now (b .entry)) k) × (r < 65536) ⌝ }
+{
+    lent::get16(b, fields::move_place(b, k as usize) + 16)
+}
+
+// How many comments it has.
+pub fn comment_count(b: &[u8], k: u16) -> usize
+    ensures { λ r. ⌜ (r ≡ commentCount (now (b .entry)) k) × (r < 65536) ⌝ }
+{
+    fields::comment_count(b, k as usize)
+}
+
+// The key of header entry k.
+pub fn key_of(b: &[u8], k: u16) -> &[u8]
+    ensures { λ r. ⌜ now r ≡ keyOf (now (b .entry)) k ⌝ }
+{
+    texts::key_of(b, k as usize)
+}
+
+// Its value.
+pub fn value_of(b: &[u8], k: u16) -> &[u8]
+    ensures { λ r. ⌜ now r ≡ valueOf (now (b .entry)) k ⌝ }
+{
+    texts::value_of(b, k as usize)
+}
+
+// Comment k.
+pub fn comment_of(b: &[u8], k: u16) -> &[u8]
+    ensures { λ r. ⌜ now r ≡ commentOf (now (b .entry)) k ⌝ }
+{
+    texts::comment_of(b, k as usize)
+}
+
+// The position that the record starts from.
+pub fn position_of(b: &[u8]) -> Position
+    ensures { λ r. ⌜ r ≡ positionIn (drop 28 (now (b .entry))) ⌝ }
+{
+    jkf::position_in(texts::rest(b, 28))
+}

@@ -1,0 +1,57 @@
+-- The answers of the steps, handed on as the line's end goes without its time (`line-end-is`).
+-- Assumes nothing.
+use mathlib.Core.Path.{sym}
+use Rattle.text.proofs.Answers.{number-else}
+use Rattle.moves.proofs.Shortcuts.{line-end-is}
+use borrow.Author.Needs.{needs}
+use Rattle.moves.proofs.move_line_end.Statement.{statement}
+use Rattle.moves.proofs.move_line_end.Tie as tie
+
+blanks-requires : tie.Need-blanks-requires
+blanks-requires c κs = search needs
+
+digits-requires : tie.Need-digits-requires
+digits-requires c κs = search needs
+
+enum-known-numbered : tie.Need-enum-known-numbered
+enum-known-numbered c = search needs
+
+returns : tie.Need-returns
+returns c = rw (line-end-is, ← c .before .before .blanks .ensures, ← c .before .digits .ensures) (sym (number-else (c .before .digits .result) _ _ (c .match .keys2)))
+
+blanks-requires-2 : tie.Need-blanks-requires-2
+blanks-requires-2 c κs = search needs
+
+what-requires : tie.Need-what-requires
+what-requires c κs = search needs
+
+enum-known-played : tie.Need-enum-known-played
+enum-known-played c = search needs
+
+enum-told : tie.Need-enum-told
+enum-told c = search needs
+
+returns-2 : tie.Need-returns-2
+returns-2 c = rw (line-end-is, ← c .before .before .before .before .before .before .before .before .blanks .ensures, ← c .before .before .before .before .before .before .before .digits .ensures, c .before .before .before .before .before .numbered .given .1, ← c .before .before .before .blanks2 .ensures, ← c .before .before .what .ensures, c .enum-told .given .1)
+
+line-end-requires : tie.Need-line-end-requires
+line-end-requires c κs = search needs
+
+returns-3 : tie.Need-returns-3
+returns-3 c = rw (line-end-is, ← c .before .before .before .before .before .before .before .before .before .before .blanks .ensures, ← c .before .before .before .before .before .before .before .before .before .digits .ensures, c .before .before .before .before .before .before .before .numbered .given .1, ← c .before .before .before .before .before .blanks2 .ensures, ← c .before .before .before .before .what .ensures, c .before .before .played .given .1, ← c .line-end .ensures)
+
+pub move-line-end-spec : {M : Type 1} → statement M
+move-line-end-spec =
+    tie.close
+    (tie.spec
+    blanks-requires
+    digits-requires
+    enum-known-numbered
+    returns
+    blanks-requires-2
+    what-requires
+    enum-known-played
+    enum-told
+    returns-2
+    line-end-requires
+    returns-3)

@@ -1,0 +1,294 @@
+-- A character of three bytes is found at once by the slot of its key.
+-- Assumes nothing.
+use Prim.Native.Nat.{ℕ, zero, suc, _+_, _-_, _/_, _%_, _≤_, _<_}
+use native.Mathlib.Omega.{arith}
+use mathlib.Core.Path.{_≡_, refl, sym, ap, _∙_}
+use mathlib.Core.List.{List, [], _∷_}
+use mathlib.Core.Bool.{Bool, true, false, false≢true}
+use lib.ListN.{length, drop}
+use lib.Dec.{eqb, ltb, leb}
+use borrow.Author.Tests.{ne-eqb, eqb-true, eqb-false, lt-ltb, le-ltb, ltb-true, ltb-false, leb-true}
+use Rattle.lists.specs.Pick.{pick}
+use Rattle.lists.proofs.Laws.{pick-both}
+use Rattle.text.specs.Text.{cursor, prefixFrom, standsAt}
+use Rattle.text.specs.declared.Cursor.{Cursor}
+use Rattle.text.proofs.Laws.{stands-fits}
+use Rattle.spell.specs.Tables.{Spelling, files}
+use Rattle.spell.specs.Spell.{firstOf, allBytes, key, keyAt}
+use Rattle.spell.specs.Slots.{look}
+use Rattle.spell.specs.declared.Spelled.{Spelled}
+use Rattle.spell.specs.declared.Spelled.the-variants.{As, Not}
+use Rattle.spell.proofs.Keys.{Near, key-at, stands-key}
+
+-- ---- what stands at a place has its key
+
+prefix-key : (t l : List ℕ) → 3 ≤ length t → prefixFrom t l ≡ true → key l ≡ key t
+unfolding prefixFrom
+prefix-key [] l h e = absurd (omega arith)
+prefix-key (a ∷ []) l h e = absurd (omega arith)
+prefix-key (a ∷ b ∷ []) l h e = absurd (omega arith)
+prefix-key (a ∷ b ∷ c ∷ t) [] h e = absurd (false≢true e)
+prefix-key (a ∷ b ∷ c ∷ t) (x ∷ []) h e = let (_, e₁) = pick-both (eqb x a) _ e in absurd (false≢true e₁)
+prefix-key (a ∷ b ∷ c ∷ t) (x ∷ y ∷ []) h e =
+    let (_, e₁) = pick-both (eqb x a) _ e in
+    let (_, e₂) = pick-both (eqb y b) _ e₁ in
+    absurd (false≢true e₂)
+prefix-key (a ∷ b ∷ c ∷ t) (x ∷ y ∷ z ∷ l) h e =
+    let (p, e₁) = pick-both (eqb x a) _ e in
+    let (q, e₂) = pick-both (eqb y b) _ e₁ in
+    let (r, _) = pick-both (eqb z c) (prefixFrom t l) e₂ in
+    omega (arith, eqb-true x a p, eqb-true y b q, eqb-true z c r)
+
+stands-has : (t s : List ℕ) (at : ℕ) → 3 ≤ length t → standsAt t s at ≡ true → keyAt s at ≡ key t
+unfolding standsAt
+stands-has t s at h e = sym (key-at s at) ∙ prefix-key t (drop at s) h e
+
+-- every spelling has three bytes or more: a test that antt computes
+abbrev pub wide : List Spelling → Bool
+wide [] = true
+wide (e ∷ es) = pick (leb 3 (length (e .bytes))) (wide es) false
+
+-- none stands where fewer than three bytes do
+pub short-first : (es : List Spelling) → wide es ≡ true → (s : List ℕ) (at : ℕ) → length s < at + 3 → firstOf es s at ≡ Not
+unfolding firstOf
+short-first [] h s at k = refl
+short-first (e ∷ es) h s at k = go (standsAt (e .bytes) s at) refl (short-first es (w .1) s at k)
+  where
+    w : (3 ≤ length (e .bytes)) × (wide es ≡ true)
+    w = let (p, q) = pick-both (leb 3 (length (e .bytes))) (wide es) h in (leb-true _ _ p, q)
+
+    go : (u : Bool) → standsAt (e .bytes) s at ≡ u → firstOf es s at ≡ Not → pick u (As (e .number) (cursor (at + length (e .bytes)))) (firstOf es s at) ≡ Not
+    go true t ih = absurd (omega (arith, stands-fits (e .bytes) s at t, w .0))
+    go false t ih = ih
+
+-- ---- two tables of which no spelling of one begins as one of the other
+
+abbrev apartFrom : ℕ → List Spelling → Bool
+apartFrom x [] = true
+apartFrom x (e ∷ es) = pick (eqb x (key (e .bytes))) false (apartFrom x es)
+
+abbrev pub apart : List Spelling → List Spelling → Bool
+apart [] fs = true
+apart (e ∷ es) fs = pick (apartFrom (key (e .bytes)) fs) (apart es fs) false
+
+not-apart : (x : ℕ) (fs : List Spelling) → wide fs ≡ true → apartFrom x fs ≡ true → (s : List ℕ) (at : ℕ) → keyAt s at ≡ x → firstOf fs s at ≡ Not
+unfolding firstOf
+not-apart x [] w h s at k = refl
+not-apart x (f ∷ fs) w h s at k = go (λ a. not-apart x fs (v .1) a s at k) (standsAt (f .bytes) s at) refl (eqb x (key (f .bytes))) refl h
+  where
+    v : (3 ≤ length (f .bytes)) × (wide fs ≡ true)
+    v = let (p, q) = pick-both (leb 3 (length (f .bytes))) (wide fs) w in (leb-true _ _ p, q)
+
+    go : (apartFrom x fs ≡ true → firstOf fs s at ≡ Not) → (u : Bool) → standsAt (f .bytes) s at ≡ u → (t : Bool) → eqb x (key (f .bytes)) ≡ t → pick t false (apartFrom x fs) ≡ true
+        → pick u (As (f .number) (cursor (at + length (f .bytes)))) (firstOf fs s at) ≡ Not
+    go ih u e true q a = absurd (false≢true a)
+    go ih true e false q a = absurd (eqb-false x (key (f .bytes)) q (sym k ∙ stands-has (f .bytes) s at (v .0) e))
+    go ih false e false q a = ih a
+
+-- where a spelling of the first stands, none of the second does
+pub apart-first : (es fs : List Spelling) → wide es ≡ true → wide fs ≡ true → apart es fs ≡ true → (s : List ℕ) (at n : ℕ) (c : Cursor) → firstOf es s at ≡ As n c → firstOf fs s at ≡ Not
+unfolding firstOf
+apart-first [] fs w v h s at n c q = let z : _≡_ {A = ℕ} 0 1 = cc in absurd (omega arith)
+apart-first (e ∷ es) fs w v h s at n c q = go (λ r. apart-first es fs (w₁ .1) v (h₁ .1) s at n c r) (standsAt (e .bytes) s at) refl q
+  where
+    w₁ : (3 ≤ length (e .bytes)) × (wide es ≡ true)
+    w₁ = let (p, r) = pick-both (leb 3 (length (e .bytes))) (wide es) w in (leb-true _ _ p, r)
+
+    h₁ : (apartFrom (key (e .bytes)) fs ≡ true) × (apart es fs ≡ true)
+    h₁ = pick-both (apartFrom (key (e .bytes)) fs) (apart es fs) h
+
+    go : (firstOf es s at ≡ As n c → firstOf fs s at ≡ Not) → (u : Bool) → standsAt (e .bytes) s at ≡ u
+        → pick u (As (e .number) (cursor (at + length (e .bytes)))) (firstOf es s at) ≡ As n c → firstOf fs s at ≡ Not
+    go ih true t r = not-apart (key (e .bytes)) fs v (h₁ .0) s at (stands-has (e .bytes) s at (w₁ .0) t)
+    go ih false t r = ih r
+
+-- ---- characters of three bytes by their keys
+
+-- the number of the first spelling of three bytes with a key; 0 where there is none
+abbrev pub numberIn : List Spelling → ℕ → ℕ
+numberIn [] x = 0
+numberIn (e ∷ es) x =
+    let r = numberIn es x in pick (eqb (length (e .bytes)) 3) (pick (eqb x (key (e .bytes))) (e .number) r) r
+
+-- the spellings of more bytes
+abbrev pub longer : List Spelling → List Spelling
+longer [] = []
+longer (e ∷ es) = pick (eqb (length (e .bytes)) 3) (longer es) (e ∷ longer es)
+
+-- Every spelling has three bytes, of which none is 0, and a number that is not 0, or more bytes that begin as no such spelling of all.
+abbrev pub keyed : List Spelling → List Spelling → Bool
+keyed all [] = true
+keyed all (e ∷ es) =
+    pick (eqb (length (e .bytes)) 3)
+    (pick (allBytes (e .bytes)) (pick (ltb 0 (e .number)) (keyed all es) false) false)
+    (pick (leb 3 (length (e .bytes))) (pick (eqb (numberIn all (key (e .bytes))) 0) (keyed all es) false) false)
+
+module _ (all : List Spelling) (s : List ℕ) (at : ℕ) (near : Near (drop at s)) where
+  -- a number that is found by the key is found in the table
+  first-three : (es : List Spelling) → keyed all es ≡ true → (n : ℕ) → 0 < n → numberIn all (keyAt s at) ≡ n → numberIn es (keyAt s at) ≡ n
+      → firstOf es s at ≡ As n (cursor (at + 3))
+  unfolding firstOf
+  first-three [] h n p a q = absurd (omega arith)
+  first-three (e ∷ es) h n p a q = go (λ k r. first-three es k n p a r) (eqb (length (e .bytes)) 3) refl h q
+    where
+      Rest : Type 0
+      Rest = keyed all es ≡ true → numberIn es (keyAt s at) ≡ n → firstOf es s at ≡ As n (cursor (at + 3))
+
+      here : Rest → length (e .bytes) ≡ 3 → (u : Bool) → standsAt (e .bytes) s at ≡ u → pick u (e .number) (numberIn es (keyAt s at)) ≡ n → keyed all es ≡ true
+          → pick u (As (e .number) (cursor (at + length (e .bytes)))) (firstOf es s at) ≡ As n (cursor (at + 3))
+      here ih z true t q k = ap (λ (m : ℕ). As m (cursor (at + length (e .bytes)))) q ∙ ap (λ (m : ℕ). As n (cursor (at + m))) z
+      here ih z false t q k = ih k q
+
+      there : Rest → 3 ≤ length (e .bytes) → numberIn all (key (e .bytes)) ≡ 0 → (u : Bool) → standsAt (e .bytes) s at ≡ u → numberIn es (keyAt s at) ≡ n → keyed all es ≡ true
+          → pick u (As (e .number) (cursor (at + length (e .bytes)))) (firstOf es s at) ≡ As n (cursor (at + 3))
+      there ih w z true t q k =
+          let y : n ≡ 0 = sym a ∙ ap (numberIn all) (stands-has (e .bytes) s at w t) ∙ z in
+          absurd (omega arith)
+      there ih w z false t q k = ih k q
+
+      go : Rest → (u : Bool) → eqb (length (e .bytes)) 3 ≡ u
+          → pick u (pick (allBytes (e .bytes)) (pick (ltb 0 (e .number)) (keyed all es) false) false)
+          (pick (leb 3 (length (e .bytes))) (pick (eqb (numberIn all (key (e .bytes))) 0) (keyed all es) false) false) ≡ true
+          → pick u (pick (eqb (keyAt s at) (key (e .bytes))) (e .number) (numberIn es (keyAt s at))) (numberIn es (keyAt s at)) ≡ n
+          → pick (standsAt (e .bytes) s at) (As (e .number) (cursor (at + length (e .bytes)))) (firstOf es s at) ≡ As n (cursor (at + 3))
+      go ih true z h q =
+          let (b, h₁) = pick-both (allBytes (e .bytes)) _ h in
+          let (_, k) = pick-both (ltb 0 (e .number)) (keyed all es) h₁ in
+          let z₁ = eqb-true (length (e .bytes)) 3 z in
+          here ih z₁ (standsAt (e .bytes) s at) refl (ap (λ (u : Bool). pick u (e .number) (numberIn es (keyAt s at))) (stands-key (e .bytes) s at z₁ b near) ∙ q) k
+      go ih false z h q =
+          let (w, h₁) = pick-both (leb 3 (length (e .bytes))) _ h in
+          let (m, k) = pick-both (eqb (numberIn all (key (e .bytes))) 0) (keyed all es) h₁ in
+          there ih (leb-true _ _ w) (eqb-true _ _ m) (standsAt (e .bytes) s at) refl q k
+
+  -- where none is, the longer ones are left
+  first-longer : (es : List Spelling) → keyed all es ≡ true → numberIn es (keyAt s at) ≡ 0 → firstOf es s at ≡ firstOf (longer es) s at
+  unfolding firstOf
+  first-longer [] h q = refl
+  first-longer (e ∷ es) h q = go (λ k r. first-longer es k r) (eqb (length (e .bytes)) 3) refl h q
+    where
+      Rest : Type 0
+      Rest = keyed all es ≡ true → numberIn es (keyAt s at) ≡ 0 → firstOf es s at ≡ firstOf (longer es) s at
+
+      here : Rest → 0 < e .number → (u : Bool) → pick u (e .number) (numberIn es (keyAt s at)) ≡ 0 → keyed all es ≡ true
+          → pick u (As (e .number) (cursor (at + length (e .bytes)))) (firstOf es s at) ≡ firstOf (longer es) s at
+      here ih p true q k = absurd (omega arith)
+      here ih p false q k = ih k q
+
+      go : Rest → (u : Bool) → eqb (length (e .bytes)) 3 ≡ u
+          → pick u (pick (allBytes (e .bytes)) (pick (ltb 0 (e .number)) (keyed all es) false) false)
+          (pick (leb 3 (length (e .bytes))) (pick (eqb (numberIn all (key (e .bytes))) 0) (keyed all es) false) false) ≡ true
+          → pick u (pick (eqb (keyAt s at) (key (e .bytes))) (e .number) (numberIn es (keyAt s at))) (numberIn es (keyAt s at)) ≡ 0
+          → pick (standsAt (e .bytes) s at) (As (e .number) (cursor (at + length (e .bytes)))) (firstOf es s at) ≡ firstOf (pick u (longer es) (e ∷ longer es)) s at
+      go ih true z h q =
+          let (b, h₁) = pick-both (allBytes (e .bytes)) _ h in
+          let (p, k) = pick-both (ltb 0 (e .number)) (keyed all es) h₁ in
+          let z₁ = eqb-true (length (e .bytes)) 3 z in
+          here ih (ltb-true _ _ p) (standsAt (e .bytes) s at) (ap (λ (u : Bool). pick u (e .number) (numberIn es (keyAt s at))) (stands-key (e .bytes) s at z₁ b near) ∙ q) k
+      go ih false z h q =
+          let (w, h₁) = pick-both (leb 3 (length (e .bytes))) _ h in
+          let (m, k) = pick-both (eqb (numberIn all (key (e .bytes))) 0) (keyed all es) h₁ in
+          ap (λ (r : Spelled). pick (standsAt (e .bytes) s at) (As (e .number) (cursor (at + length (e .bytes)))) r) (ih k q)
+
+-- ---- slots
+
+-- every slot has a key and its number
+abbrev pub sound : List Spelling → List (ℕ × ℕ) → Bool
+sound all [] = true
+sound all ((k, v) ∷ l) = pick (eqb (numberIn all (v / 16)) (v % 16)) (pick (ltb 0 (v % 16)) (sound all l) false) false
+
+sound-look : (all : List Spelling) (l : List (ℕ × ℕ)) → sound all l ≡ true → (h x : ℕ) → x < 16777216 → look l h / 16 ≡ x
+    → (numberIn all x ≡ look l h % 16) × (0 < look l h % 16)
+sound-look all [] t h x p q = absurd (omega arith)
+sound-look all ((k, v) ∷ l) t h x p q = go (λ t₂ r. sound-look all l t₂ h x p r) (eqb h k) q
+  where
+    go : (sound all l ≡ true → look l h / 16 ≡ x → (numberIn all x ≡ look l h % 16) × (0 < look l h % 16)) → (u : Bool) → pick u v (look l h) / 16 ≡ x → (numberIn all x ≡ pick u v (look l h) % 16) × (0 < pick u v (look l h) % 16)
+    go ih true q =
+        let (m, t₁) = pick-both (eqb (numberIn all (v / 16)) (v % 16)) _ t in
+        let (n, _) = pick-both (ltb 0 (v % 16)) (sound all l) t₁ in
+        (ap (numberIn all) (sym q) ∙ eqb-true _ _ m, ltb-true _ _ n)
+    go ih false q =
+        let (_, t₁) = pick-both (eqb (numberIn all (v / 16)) (v % 16)) _ t in
+        let (_, t₂) = pick-both (ltb 0 (v % 16)) (sound all l) t₁ in
+        ih t₂ q
+
+-- and every key of three bytes is in its slot
+abbrev pub complete : List (ℕ × ℕ) → ℕ → List Spelling → Bool
+complete l m [] = true
+complete l m (e ∷ es) =
+    pick (eqb (length (e .bytes)) 3) (pick (eqb (look l (key (e .bytes) % m) / 16) (key (e .bytes))) (complete l m es) false) (complete l m es)
+
+complete-look : (l : List (ℕ × ℕ)) (m : ℕ) (es : List Spelling) → complete l m es ≡ true → (x : ℕ) → (look l (x % m) / 16 ≡ x → ⊥) → numberIn es x ≡ 0
+complete-look l m [] t x q = refl
+complete-look l m (e ∷ es) t x q = go (λ k. complete-look l m es k x q) (eqb (length (e .bytes)) 3) t (eqb x (key (e .bytes))) refl
+  where
+    go : (complete l m es ≡ true → numberIn es x ≡ 0) → (u : Bool) → pick u (pick (eqb (look l (key (e .bytes) % m) / 16) (key (e .bytes))) (complete l m es) false) (complete l m es) ≡ true
+        → (v : Bool) → eqb x (key (e .bytes)) ≡ v → pick u (pick v (e .number) (numberIn es x)) (numberIn es x) ≡ 0
+    go ih true t true w =
+        let (r, _) = pick-both (eqb (look l (key (e .bytes) % m) / 16) (key (e .bytes))) (complete l m es) t in
+        let y : x ≡ key (e .bytes) = eqb-true x (key (e .bytes)) w in
+        absurd (q (ap (λ (k : ℕ). look l (k % m) / 16) y ∙ eqb-true _ _ r ∙ sym y))
+    go ih true t false w =
+        let (_, k) = pick-both (eqb (look l (key (e .bytes) % m) / 16) (key (e .bytes))) (complete l m es) t in
+        ih k
+    go ih false t v w = ih t
+
+-- a key is below 2^24
+pub key-small : (s : List ℕ) (at : ℕ) → Near (drop at s) → keyAt s at < 16777216
+key-small s at n = let a = n .first in let b = n .second in let c = n .third in omega (arith, key-at s at)
+
+-- row is what the code found in the slot of the key at a place
+module _ (es : List Spelling) (l : List (ℕ × ℕ)) (m : ℕ) (k : keyed es es ≡ true) (t : sound es l ≡ true) (u : complete l m es ≡ true)
+    (s : List ℕ) (at : ℕ) (near : Near (drop at s)) (row : ℕ) (e : row ≡ look l (keyAt s at % m)) where
+  -- it has the key
+  pub row-first : row / 16 ≡ keyAt s at → firstOf es s at ≡ As (row % 16) (cursor (at + 3))
+  row-first q =
+      let (n, p) = sound-look es l t (keyAt s at % m) (keyAt s at) (key-small s at near) (ap (λ (r : ℕ). r / 16) (sym e) ∙ q) in
+      let n₁ : numberIn es (keyAt s at) ≡ row % 16 = n ∙ ap (λ (r : ℕ). r % 16) (sym e) in
+      first-three es s at near es k (row % 16) (omega arith) n₁ n₁
+
+  -- it has not
+  pub row-longer : (row / 16 ≡ keyAt s at → ⊥) → firstOf es s at ≡ firstOf (longer es) s at
+  row-longer q = first-longer es s at near es k (complete-look l m es u (keyAt s at) (λ z. q (ap (λ (r : ℕ). r / 16) e ∙ z)))
+
+  -- nor is any longer
+  pub row-not : longer es ≡ [] → (row / 16 ≡ keyAt s at → ⊥) → firstOf es s at ≡ Not
+  unfolding firstOf
+  row-not z q = row-longer q ∙ ap (λ (fs : List Spelling). firstOf fs s at) z
+
+-- whether fewer than three bytes stand at a place, as the code asks it
+pub short-test : (n at : ℕ) → 3 ≤ n → ltb (n - 3) at ≡ ltb n (at + 3)
+short-test n at h = go (ltb (n - 3) at) refl
+  where
+    go : (u : Bool) → ltb (n - 3) at ≡ u → u ≡ ltb n (at + 3)
+    go true e = sym (lt-ltb n (at + 3) (omega (arith, ltb-true (n - 3) at e)))
+    go false e = sym (le-ltb n (at + 3) (omega (arith, ltb-false (n - 3) at e)))
+
+-- ---- files, whose keys are one after another
+
+file-number : (d : ℕ) → d < 9 → numberIn files (15711377 + d) ≡ d + 1
+file-number zero h = refl
+file-number (suc zero) h = refl
+file-number (suc (suc zero)) h = refl
+file-number (suc (suc (suc zero))) h = refl
+file-number (suc (suc (suc (suc zero)))) h = refl
+file-number (suc (suc (suc (suc (suc zero))))) h = refl
+file-number (suc (suc (suc (suc (suc (suc zero)))))) h = refl
+file-number (suc (suc (suc (suc (suc (suc (suc zero))))))) h = refl
+file-number (suc (suc (suc (suc (suc (suc (suc (suc zero)))))))) h = refl
+file-number (suc (suc (suc (suc (suc (suc (suc (suc (suc d))))))))) h = absurd (omega arith)
+
+file-none : (x : ℕ) → (15711377 ≤ x → x ≤ 15711385 → ⊥) → numberIn files x ≡ 0
+file-none x h = rw (ne-eqb x 15711377 (λ e. h (omega arith) (omega arith)), ne-eqb x 15711378 (λ e. h (omega arith) (omega arith)), ne-eqb x 15711379 (λ e. h (omega arith) (omega arith)), ne-eqb x 15711380 (λ e. h (omega arith) (omega arith)), ne-eqb x 15711381 (λ e. h (omega arith) (omega arith)), ne-eqb x 15711382 (λ e. h (omega arith) (omega arith)), ne-eqb x 15711383 (λ e. h (omega arith) (omega arith)), ne-eqb x 15711384 (λ e. h (omega arith) (omega arith)), ne-eqb x 15711385 (λ e. h (omega arith) (omega arith)))
+
+module _ (s : List ℕ) (at : ℕ) (near : Near (drop at s)) (x : ℕ) (e : x ≡ keyAt s at) where
+  pub file-first : 15711377 ≤ x → x ≤ 15711385 → firstOf files s at ≡ As (x - 15711376) (cursor (at + 3))
+  file-first l u =
+      let y : 15711377 + (x - 15711377) ≡ x = omega arith in
+      let z : x - 15711377 + 1 ≡ x - 15711376 = omega arith in
+      let n : numberIn files (keyAt s at) ≡ x - 15711376 = ap (numberIn files) (sym (y ∙ e)) ∙ file-number (x - 15711377) (omega arith) ∙ z in
+      first-three files s at near files refl (x - 15711376) (omega arith) n n
+
+  pub file-not : (15711377 ≤ x → x ≤ 15711385 → ⊥) → firstOf files s at ≡ Not
+  unfolding firstOf
+  file-not h = first-longer files s at near files refl (ap (numberIn files) (sym e) ∙ file-none x h)

@@ -1,0 +1,23 @@
+-- The constant is the table `sides`: antt computes it.
+-- Assumes nothing.
+use mathlib.Core.Path.{refl}
+use borrow.Author.Needs.{needs}
+use Rattle.spell.specs.Tables.{sides}
+use Rattle.spell.proofs.put_side.Statement.{statement}
+use Rattle.spell.proofs.put_side.Tie as tie
+
+slice-aggregate-put-spelled : tie.Need-slice-aggregate-put-spelled
+slice-aggregate-put-spelled c = search needs
+
+put-spelled-requires : tie.Need-put-spelled-requires
+put-spelled-requires c κs = (sides, record { whole = refl; fits = refl })
+
+same-length : tie.Need-same-length
+same-length c = search needs
+
+returns : tie.Need-returns
+returns c = c .before .before .put-spelled .ensures sides (record { whole = refl; fits = refl })
+
+pub put-side-spec : {M : Type 1} → statement M
+put-side-spec =
+    tie.close (tie.spec slice-aggregate-put-spelled put-spelled-requires same-length returns)

@@ -1,0 +1,52 @@
+-- Characters of three bytes in slots: how the code finds the number of one at once.
+-- Assumes nothing: these are definitions.
+use Prim.Native.Nat.{ℕ}
+use mathlib.Core.List.{List, [], _∷_}
+use lib.Dec.{eqb}
+use Rattle.lists.specs.Pick.{pick}
+use Rattle.spell.specs.Tables.{Spelling, spelling}
+
+-- What stands in slot h; where nothing does, a number that is larger than any key.
+abbrev pub look : List (ℕ × ℕ) → ℕ → ℕ
+look [] h = 4294967295
+look ((k, v) ∷ l) h = pick (eqb h k) v (look l h)
+
+-- 一 to 九: in the slot of a key, which is its remainder by 17, the key times 16 and the number.
+abbrev pub numeralSlots : List (ℕ × ℕ)
+numeralSlots =
+    (1, 239839557) ∷
+    (5, 239831187) ∷
+    (6, 240671416) ∷
+    (8, 240671446) ∷
+    (9, 239835609) ∷
+    (10, 239839426) ∷
+    (12, 240761268) ∷
+    (13, 239831041) ∷
+    (16, 239831095) ∷ []
+
+-- The kinds of one character, by the remainder by 35.
+abbrev pub kindSlots : List (ℕ × ℕ)
+kindSlots =
+    (2, 245000594) ∷
+    (3, 244873493) ∷
+    (4, 238557833) ∷
+    (5, 242804888) ∷
+    (6, 244988343) ∷
+    (7, 242804920) ∷
+    (9, 245098718) ∷
+    (10, 240671372) ∷
+    (12, 241883793) ∷
+    (16, 241834019) ∷
+    (19, 244885508) ∷
+    (20, 241817850) ∷
+    (21, 245000909) ∷
+    (23, 240765659) ∷
+    (25, 243956006) ∷
+    (28, 242923982) ∷ []
+
+-- The kinds of two characters: 成香 成桂 成銀.
+abbrev pub promotedKinds : List Spelling
+promotedKinds =
+    spelling 10 (230 ∷ 136 ∷ 144 ∷ 233 ∷ 166 ∷ 153 ∷ []) ∷
+    spelling 11 (230 ∷ 136 ∷ 144 ∷ 230 ∷ 161 ∷ 130 ∷ []) ∷
+    spelling 12 (230 ∷ 136 ∷ 144 ∷ 233 ∷ 138 ∷ 128 ∷ []) ∷ []

@@ -1,0 +1,70 @@
+-- Laws of bytes that are passed many at a time.
+-- Assumes nothing.
+use Prim.Native.Nat.{ℕ, zero, suc, _+_, _≤_, _<_}
+use native.Mathlib.Nat.{add-zero}
+use native.Mathlib.Omega.{arith}
+use mathlib.Core.Path.{_≡_, refl, sym, ap, _∙_}
+use mathlib.Core.List.{List}
+use mathlib.Core.Bool.{true}
+use lib.ListN.{length, getD}
+use borrow.Author.Tests.{lt-ltb, le-ltb, ne-eqb}
+use Rattle.text.specs.Runs.{Run}
+use Rattle.text.specs.Text.{isText, textAt, pastAll}
+use Rattle.text.specs.Utf8.{sizeOf, lowestOf, highestOf, secondOf, isNext, charWidth}
+use Rattle.text.proofs.Laws.{span-on}
+use Rattle.text.proofs.Widths.{past-more, char-within}
+
+-- nothing is passed
+pub run-none : (f : ℕ → ℕ) (s : List ℕ) (at : ℕ) → Run f s at at
+run-none f s at = record { from = omega arith; within = omega arith; same = refl }
+
+-- one run after another
+pub run-on : {f : ℕ → ℕ} {s : List ℕ} {a b c : ℕ} → Run f s a b → Run f s b c → Run f s a c
+run-on p q =
+    let p₁ = p .from in
+    let p₂ = p .within in
+    let q₁ = q .from in
+    let q₂ = q .within in
+    record { from = omega arith; within = omega arith; same = p .same ∙ q .same }
+
+-- one step more, after k
+pub step-on : (f : ℕ → ℕ) (at k : ℕ) → f at ≡ f (at + k) → f (at + k) ≡ f (at + k + 1) → f at ≡ f (at + (k + 1))
+step-on f at k p q = let e : at + k + 1 ≡ at + (k + 1) = omega arith in p ∙ q ∙ ap f e
+
+-- a byte from 14 on is text
+pub text-on : (s : List ℕ) (at : ℕ) → at < length s → 14 ≤ getD s at 0 → textAt s at ≡ textAt s (at + 1)
+text-on s at h b = span-on isText s at h (rw (ne-eqb (getD s at 0) 10 (λ e. omega arith), ne-eqb (getD s at 0) 13 (λ e. omega arith)))
+
+-- a character of n bytes is passed
+pub width-on : (s : List ℕ) (at n : ℕ) → 0 < n → charWidth s at ≡ n → pastAll charWidth s at ≡ pastAll charWidth s (at + n)
+width-on s at n p e = past-more charWidth s at char-within (λ z. omega arith) ∙ ap (λ (w : ℕ). pastAll charWidth s (at + w)) e
+
+ascii-width : (s : List ℕ) (at : ℕ) → at < length s → getD s at 0 < 128 → charWidth s at ≡ 1
+unfolding charWidth sizeOf
+ascii-width s at h b = rw (lt-ltb at (length s) h, lt-ltb (getD s at 0) 128 b)
+
+-- an ASCII byte is a character
+pub ascii-on : (s : List ℕ) (at : ℕ) → at < length s → getD s at 0 < 128 → pastAll charWidth s at ≡ pastAll charWidth s (at + 1)
+ascii-on s at h b = width-on s at 1 (omega arith) (ascii-width s at h b)
+
+-- after such a first byte any later byte may follow
+second : (b d : ℕ) → 225 ≤ b → b ≤ 239 → (b ≡ 237 → ⊥) → secondOf b d ≡ isNext d
+unfolding secondOf lowestOf highestOf isNext
+second b d l u n = rw (ne-eqb b 224 (λ e. omega arith), ne-eqb b 240 (λ e. omega arith), ne-eqb b 237 n, ne-eqb b 244 (λ e. omega arith))
+
+-- the same of three bytes, of which the first is neither E0 nor ED
+pub three-width : (s : List ℕ) (at : ℕ) → at < length s → 225 ≤ getD s at 0 → getD s at 0 ≤ 239 → (getD s at 0 ≡ 237 → ⊥)
+    → isNext (getD s (at + 1) 0) ≡ true → isNext (getD s (at + 2) 0) ≡ true → charWidth s at ≡ 3
+unfolding charWidth sizeOf
+three-width s at h l u n e f =
+    rw (lt-ltb at (length s) h, le-ltb (getD s at 0) 128 (omega arith), le-ltb (getD s at 0) 194 (omega arith), le-ltb (getD s at 0) 224 (omega arith), lt-ltb (getD s at 0) 240 (omega arith), second (getD s at 0) (getD s (at + 1) 0) l u n, e, f)
+
+-- a character of three bytes is passed
+pub three-run : (s : List ℕ) (at : ℕ) → charWidth s at ≡ 3 → Run (pastAll charWidth s) s at (at + 3)
+three-run s at e = record { from = omega arith; within = omega (arith, char-within s at); same = width-on s at 3 (omega arith) e }
+
+-- one character or none: n is the width that the code measured
+pub char-run : (s : List ℕ) (at n : ℕ) → n ≡ charWidth s at → Run (pastAll charWidth s) s at (at + n) × (at + n ≡ at → charWidth s at ≡ 0)
+char-run s at zero e = (record { from = omega arith; within = omega arith; same = ap (pastAll charWidth s) (sym (add-zero at)) }, λ q. sym e)
+char-run s at (suc n) e =
+    (record { from = omega arith; within = omega (arith, char-within s at); same = width-on s at (suc n) (omega arith) (sym e) }, λ q. absurd (omega arith))
