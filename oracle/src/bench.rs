@@ -3,18 +3,53 @@
 mod reading;
 mod slow;
 mod usual;
+#[cfg(feature = "kif_write")]
+mod writing;
 
+use crate::call::Call;
+use crate::judge::Answer;
+use crate::port;
 use std::hint::black_box;
 use std::time::{Duration, Instant};
 
 /// How often each side does each work, in turns; the best time counts.
 const ROUNDS: usize = 300;
+/// And how often the port does what is made to be slow.
+const SLOW_ROUNDS: usize = 20;
 
 /// Every call that both sides have.
 pub fn bench() {
     println!("Best of {ROUNDS} rounds. The port is lent one buffer, which is not cleared between calls; what the");
-    println!("original makes (for reading its JsonKifuFormat) is freed outside the time. MB are 1,000,000 bytes.");
+    println!("original makes (a JsonKifuFormat, a String) is freed outside the time. MB are 1,000,000 bytes.");
     reading::bench();
+    #[cfg(feature = "kif_write")]
+    writing::bench();
+}
+
+/// A call, once port and judge were seen to give the same: else there is nothing to time.
+fn confirmed(call: Call, out: &mut [u8]) -> Call {
+    let outcome = call.judged();
+    assert_eq!(port::answer(&call, out), outcome.answer_in(out.len()));
+    let front = outcome.front_in(out.len());
+    assert!(out[..front.len()] == *front, "the port's bytes are not the judge's");
+    call
+}
+
+fn port_time(call: &Call, out: &mut [u8]) -> Duration {
+    timed(|| port::answer(call, out))
+}
+
+/// The port on calls made to be slow, each with its name and how many bytes it is given.
+fn made_slow(calls: Vec<(&str, usize, Call)>, out: &mut [u8]) {
+    let mut slowest = (Duration::ZERO, "");
+    for (name, given, call) in calls {
+        let call = confirmed(call, out);
+        let [took] = best(SLOW_ROUNDS, || [port_time(&call, out)]);
+        let Answer { number, first, second } = port::answer(&call, out);
+        println!("{name:44} {given:6} bytes  {number} {first:6} {second:5}  {:8.3} ms", millis(took));
+        slowest = slowest.max((took, name));
+    }
+    println!("slowest: {}, {:.3} ms", slowest.1, millis(slowest.0));
 }
 
 /// How long something takes, its result's end apart.

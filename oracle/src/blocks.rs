@@ -4,11 +4,16 @@ use crate::attach;
 use crate::judge::{self, Outcome};
 use crate::record::{encode, Clock, Diagram, Entry, Line, Move, Position, Record, Time, What, LIMIT};
 use crate::rng::Rng;
+use crate::sound::sound;
 use crate::texts;
+use std::iter;
 
 /// Texts as a reader never gives them among those it does.
-const TEXTS: [&str; 16] =
+pub const TEXTS: [&str; 16] =
     ["", "a", "b", "ab", "先手", "後手", "開始日時", "a：b", "#c", "a\rb", "a\nb", "&x", "*", "手合割", "🀄", "\0"];
+/// The keys that are written before all others.
+pub const LEADING: [&str; 12] =
+    ["開始日時", "終了日時", "表題", "棋戦", "戦型", "持ち時間", "秒読み", "場所", "先手", "下手", "後手", "上手"];
 const BYTES: [u8; 8] = [0, 1, 9, 10, 25, 99, 100, 255];
 
 /// Any slice at all: mostly a sound block.
@@ -20,12 +25,15 @@ pub fn block(r: &mut Rng) -> Vec<u8> {
 }
 
 pub fn sound_block(r: &mut Rng) -> Vec<u8> {
-    match r.below(300) {
+    let block = match r.below(300) {
         0 => encode(&most_lines(r)),
         1 => encode(&filled(r)),
-        2..=150 => read_block(r),
+        2 => encode(&most_moves(r)),
+        3..=150 => read_block(r),
         _ => encode(&record(r)),
-    }
+    };
+    assert!(sound(&block), "not as sound as it should be");
+    block
 }
 
 /// A block that the reader answered, and so one that can be written and read back.
@@ -39,7 +47,8 @@ pub fn read_block(r: &mut Rng) -> Vec<u8> {
 
 /// A well-formed record.
 fn record(r: &mut Rng) -> Record {
-    let mut header: Vec<_> = (0..r.below(6)).map(|_| (text(r), text(r))).collect();
+    let keys = [r.below(6), r.below(24)][usize::from(r.one_in(8))];
+    let mut header: Vec<_> = (0..keys).map(|_| (key(r), text(r))).collect();
     header.sort();
     header.dedup_by(|later, earlier| later.0 == earlier.0);
     let mut lines = vec![Line { start: 0, parent: 0, entries: entries(r, What::Slot) }];
@@ -104,6 +113,15 @@ fn number(r: &mut Rng) -> u8 {
     [BYTES[r.below(8)], usual, usual][r.below(3)]
 }
 
+/// One that leads, one that only begins so, or any text.
+fn key(r: &mut Rng) -> String {
+    match r.below(4) {
+        0 => text(r),
+        1 => [r.pick(&LEADING), r.pick(&TEXTS)].concat(),
+        _ => r.pick(&LEADING).into(),
+    }
+}
+
 fn text(r: &mut Rng) -> String {
     (0..1 + r.below(2)).map(|_| r.pick(&TEXTS)).collect()
 }
@@ -122,18 +140,56 @@ fn position(r: &mut Rng) -> Position {
     Position { preset: 16, diagram: Some(diagram) }
 }
 
-/// As many lines as a block can hold, or one fewer, each on the one before it; written only if they start at 1.
+/// As many lines as a block can hold, or one fewer: each a ply higher than the one before it and on it; or each a ply
+/// lower and on line 0; or all at one ply, each on the one before it, and from some line on at 0, if not all of them.
 fn most_lines(r: &mut Rng) -> Record {
-    let (start, spare) = (r.below(2) as u64, r.below(2));
-    let play = || Entry { what: What::Special(0), time: None, comments: vec![] };
-    let slot = Entry { what: What::Slot, ..play() };
-    let main = Line { start: 0, parent: 0, entries: vec![slot, play()] };
-    let mut record = Record { header: vec![], position: Position { preset: 0, diagram: None }, lines: vec![main] };
-    while record.length() + 28 * (1 + spare) <= LIMIT {
-        let parent = record.lines.len() - 1;
-        record.lines.push(Line { start, parent, entries: vec![play()] });
+    let zeros = [usize::MAX, 1, 1 + r.below(2_333)][r.below(3)];
+    match r.below(4) {
+        0 => many_lines(r, 1, 2, |k| (k, k - 1)),
+        1 => many_lines(r, 1_362, 1, |k| (1_363 - k, 0)),
+        _ => many_lines(r, 1, 1, |k| (usize::from(k < zeros), if k == zeros { 0 } else { k - 1 })),
+    }
+}
+
+/// So many plies in line 0 and so many in each of the others, whose starts and parents are given.
+fn many_lines(r: &mut Rng, plies: usize, each: usize, place: impl Fn(usize) -> (usize, usize)) -> Record {
+    let mut record = bare(writable_entries(r, plies));
+    let lines = (LIMIT - record.length()) / (8 + 20 * each) - r.below(2);
+    for k in 1..=lines {
+        let (start, parent) = place(k);
+        record.lines.push(Line { start: start as u64, parent, entries: writable_entries(r, each) });
     }
     record
+}
+
+/// As many moves in line 0 as a block can hold, or fewer, and variations at its last plies.
+fn most_moves(r: &mut Rng) -> Record {
+    let plies = [98 + r.below(4), 998 + r.below(4), 3_263][r.below(3)];
+    let mut record = bare(writable_entries(r, plies));
+    for start in (plies - r.below(3)..=plies).rev() {
+        record.lines.push(Line { start: start as u64, parent: 0, entries: writable_entries(r, 1) });
+    }
+    if r.one_in(4) {
+        let entries = record.lines[0].entries.len();
+        record.lines[0].entries[1 + r.below(entries - 1)].what = what(r);
+    }
+    record
+}
+
+/// A record of line 0 alone, with these entries behind its slot.
+fn bare(entries: Vec<Entry>) -> Record {
+    let slot = Entry { what: What::Slot, time: None, comments: vec![] };
+    let main = Line { start: 0, parent: 0, entries: [vec![slot], entries].concat() };
+    Record { header: vec![], position: Position { preset: 0, diagram: None }, lines: vec![main] }
+}
+
+/// Entries without comments, none of which keeps a block from being written.
+fn writable_entries(r: &mut Rng, count: usize) -> Vec<Entry> {
+    let drawn = iter::repeat_with(|| {
+        let what = what(r);
+        Entry { comments: vec![], ..entry(r, what) }
+    });
+    drawn.filter(|entry| !judge::is_unwritable(entry)).take(count).collect()
 }
 
 /// A record whose block is as long as a block can be, or nearly so.

@@ -5,6 +5,7 @@ use crate::call::Call;
 use crate::record::{decode, u16_at};
 use crate::rng::Rng;
 use crate::short;
+use crate::small;
 use crate::texts;
 
 pub fn short_text(seed: u64) -> Call {
@@ -23,6 +24,10 @@ pub fn altered_block(seed: u64) -> Call {
 pub fn any_block(seed: u64) -> Call {
     let r = &mut Rng::new(seed);
     Call::Sound { block: if r.one_in(2) { blocks::spoiled(r) } else { blocks::sound_block(r) } }
+}
+
+pub fn small_block(seed: u64) -> Call {
+    Call::Write { block: small::small(seed) }
 }
 
 pub fn to_write(seed: u64) -> Call {

@@ -8,13 +8,15 @@ use crate::known;
 use crate::record::{decode, encode, Clock, Record, What, LIMIT};
 use crate::runner::{caught, run, Kind};
 use crate::short::SHORT;
+use crate::small::SMALL;
 use crate::sound::sound;
 
-const KINDS: [Kind; 11] = [
+const KINDS: [Kind; 12] = [
     Kind { name: "short texts", share: 17, all: Some(SHORT), make: cases::short_text, test: reading },
-    Kind { name: "texts", share: 22, all: None, make: cases::any_text, test: reading },
+    Kind { name: "texts", share: 20, all: None, make: cases::any_text, test: reading },
     Kind { name: "bytes", share: 13, all: None, make: cases::altered_block, test: soundness },
     Kind { name: "blocks", share: 10, all: None, make: cases::any_block, test: soundness },
+    Kind { name: "small blocks", share: 2, all: Some(SMALL), make: cases::small_block, test: writing },
     Kind { name: "writing", share: 8, all: None, make: cases::to_write, test: writing },
     Kind { name: "put-ins", share: 10, all: None, make: cases::to_put_in, test: putting_in },
     Kind { name: "cuts", share: 8, all: None, make: cases::to_cut, test: cutting },

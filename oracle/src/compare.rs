@@ -20,25 +20,27 @@ thread_local! {
 
 const KINDS: &[Kind] = &[
     #[cfg(feature = "kif_sound")]
-    Kind { name: "bytes", share: 13, all: None, make: cases::altered_block, test: compared },
+    Kind { name: "bytes", share: 7, all: None, make: cases::altered_block, test: compared },
     #[cfg(feature = "kif_sound")]
-    Kind { name: "sound", share: 6, all: None, make: cases::any_block, test: compared },
+    Kind { name: "sound", share: 5, all: None, make: cases::any_block, test: compared },
     #[cfg(feature = "kif_comment")]
-    Kind { name: "comment", share: 3, all: None, make: cases::a_comment, test: compared },
+    Kind { name: "comment", share: 1, all: None, make: cases::a_comment, test: compared },
     #[cfg(feature = "kif_key")]
-    Kind { name: "key", share: 3, all: None, make: cases::a_key, test: compared },
+    Kind { name: "key", share: 1, all: None, make: cases::a_key, test: compared },
     #[cfg(feature = "kif_value")]
-    Kind { name: "value", share: 3, all: None, make: cases::a_value, test: compared },
+    Kind { name: "value", share: 1, all: None, make: cases::a_value, test: compared },
     #[cfg(feature = "kif_read")]
     Kind { name: "short texts", share: 31, all: Some(crate::short::SHORT), make: cases::short_text, test: compared },
     #[cfg(feature = "kif_read")]
     Kind { name: "read", share: 20, all: None, make: cases::any_text, test: compared },
     #[cfg(feature = "kif_write")]
-    Kind { name: "write", share: 8, all: None, make: cases::to_write, test: compared },
+    Kind { name: "small blocks", share: 6, all: Some(crate::small::SMALL), make: cases::small_block, test: compared },
+    #[cfg(feature = "kif_write")]
+    Kind { name: "write", share: 20, all: None, make: cases::to_write, test: compared },
     #[cfg(feature = "kif_put_in")]
-    Kind { name: "put_in", share: 7, all: None, make: cases::to_put_in, test: compared },
+    Kind { name: "put_in", share: 5, all: None, make: cases::to_put_in, test: compared },
     #[cfg(feature = "kif_cut")]
-    Kind { name: "cut", share: 6, all: None, make: cases::to_cut, test: compared },
+    Kind { name: "cut", share: 3, all: None, make: cases::to_cut, test: compared },
 ];
 
 /// Whether the port answers every case as the judge does.

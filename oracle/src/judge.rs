@@ -166,7 +166,8 @@ fn unwritable(lines: &[Line]) -> Option<(u64, u64)> {
     lines.iter().enumerate().find_map(|(k, line)| Some((k as u64, in_line(line)? as u64)))
 }
 
-fn is_unwritable(entry: &Entry) -> bool {
+/// A target off the board, or a time with no room before it.
+pub fn is_unwritable(entry: &Entry) -> bool {
     let What::Move(m) = &entry.what else {
         return false;
     };

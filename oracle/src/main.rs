@@ -25,7 +25,9 @@ mod recorder;
 mod rng;
 mod runner;
 mod short;
+mod small;
 mod sound;
+mod text;
 mod texts;
 mod translate;
 
@@ -43,7 +45,7 @@ fn main() -> ExitCode {
     match running.join() {
         Ok(Some(true)) => ExitCode::SUCCESS,
         Ok(None) => {
-            eprintln!("usage: oracle/run [check [CASES] [SEED] | compare [CASES] [SEED] | bench | record FILE | listing FILE]");
+            eprintln!("usage: oracle/run [check [CASES] [SEED] | compare [CASES] [SEED] | bench | record FILE | listing FILE | text FILE]");
             ExitCode::from(2)
         }
         _ => ExitCode::FAILURE,
@@ -69,6 +71,7 @@ fn obey(words: &[String]) -> Option<bool> {
         }
         ["record", file] => Some(reported(file, recorder::record(file))),
         ["listing", file] => Some(reported(file, fs::read(file).map(|input| print!("{}", listing::listing(&input))))),
+        ["text", file] => Some(reported(file, fs::read(file).map(|input| print!("{}", text::text(&input))))),
         _ => None,
     }
 }

@@ -9,18 +9,22 @@ mod reads;
 mod remarks;
 mod slices;
 mod spellings;
+mod writes;
 
+use crate::judge::Outcome;
 use crate::rng::Rng;
 use nom::error::VerboseError;
 use nom::IResult;
 use std::{fs, io};
 
 const SEED: u64 = 1;
+/// What a lent buffer holds before.
+const UNTOUCHED: u8 = 165;
 
 /// A kind's letter, what it is, and its recorder.
 type Recorder = (u8, &'static str, fn(&mut Sample));
 
-const RECORDERS: [Recorder; 15] = [
+const RECORDERS: [Recorder; 16] = [
     (b'u', "UTF-8: bytes; count of well-formed ones from the start", leaves::utf8),
     (b't', "blanks, padding, tail, break: which, place, text; found, place after", leaves::steps),
     (b'd', "digits: largest, place, text; 0 none 1 value 2 too large, value, place after", leaves::digits),
@@ -36,6 +40,7 @@ const RECORDERS: [Recorder; 15] = [
     (b'k', "comments: place, text; found, its text's first place and the one after it, place after", remarks::comments),
     (b'x', "skip lines: place, text; found, place after", remarks::skips),
     (b'r', "reads: buffer's length, text; number, two figures, the buffer (165 in each byte before)", reads::reads),
+    (b'b', "writes: buffer's length, slice; number, two figures, the buffer (165 in each byte before)", writes::writes),
 ];
 
 /// Writes the sample to this file, and beside it how it was made.
@@ -75,6 +80,31 @@ impl Sample {
     /// A parser at a place of a text: what is asked, place and text; `answer` makes the numbers of what it finds.
     fn add_at(&mut self, asked: &[u64], place: u64, text: &str, answer: impl Fn(&str) -> Vec<u64>) {
         self.add(&[numbers(asked), numbers(&[place]), text.into()].concat(), &numbers(&answer(rest_at(place, text))));
+    }
+
+    /// What a call came to, with a buffer of this length lent: the length and what it was given; its answer and what
+    /// became of the buffer.
+    fn add_lent(&mut self, room: usize, given: &[u8], outcome: &Outcome) {
+        let mut out = vec![UNTOUCHED; room];
+        let answer = outcome.deliver(&mut out);
+        let figures = numbers(&[answer.number, answer.first, answer.second]);
+        self.add(&[&numbers(&[room as u64])[..], given].concat(), &[figures, out].concat());
+    }
+
+    /// The same with no buffer, one that is short by a byte, one that is just long enough, and a longer one.
+    fn add_lent_all(&mut self, given: &[u8], outcome: &Outcome) {
+        let needed = outcome.needed().unwrap_or(20);
+        for room in [0, needed.saturating_sub(1), needed, needed + 9] {
+            self.add_lent(room, given, outcome);
+        }
+    }
+
+    /// The same with one buffer, mostly one that is long enough.
+    fn add_lent_once(&mut self, given: &[u8], outcome: &Outcome) {
+        let needed = outcome.needed().unwrap_or(5);
+        let others = [needed - 1, needed + 1, needed + 5, 7];
+        let room = *others.get(self.r.below(12)).unwrap_or(&needed);
+        self.add_lent(room, given, outcome);
     }
 }
 

@@ -4,6 +4,7 @@ ghost use Rattle.block.specs.Decode.{headersIn, commentsIn, keyOffset, keyLengt
 ghost use Rattle.block.specs.Sound.{soundb};
 ghost use Rattle.block.specs.Look.{lookAnswer, Told};
 ghost use Rattle.parser.specs.Read.{readOf};
+ghost use Rattle.converter.specs.Writing.{writeOf};
 
 // Whether a slice is just a sound block.
 #[no_mangle]
@@ -62,6 +63,24 @@ pub extern "C" fn kif_read(
     ensures { λ _. ⌜ now (out .exit) ≡ readOf (now (text .entry)) (now (out .entry)) .buffer ⌝ }
 {
     let f = jkf::figures_of(parser::read(text, out));
+    *number = f.number;
+    *first = f.first;
+    *second = f.second;
+}
+
+// Writes a block's text into the front of a lent buffer.
+#[no_mangle]
+pub extern "C" fn kif_write(
+    block: &[u8],
+    out: &mut [u8],
+    number: &mut u64,
+    first: &mut u64,
+    second: &mut u64,
+)
+    ensures { λ _. ⌜ Told (writeOf (now (block .entry)) (now (out .entry)) .answer) (now (number .exit)) (now (first .exit)) (now (second .exit)) ⌝ }
+    ensures { λ _. ⌜ now (out .exit) ≡ writeOf (now (block .entry)) (now (out .entry)) .buffer ⌝ }
+{
+    let f = jkf::figures_of(converter::write(block, out));
     *number = f.number;
     *first = f.first;
     *second = f.second;

@@ -5,6 +5,7 @@ mod leaves;
 mod lines;
 mod reads;
 mod request;
+mod writes;
 
 use libc::STDOUT_FILENO;
 ghost use Prim.Native.Nat.{_≤_};
@@ -12,8 +13,8 @@ ghost use lib.ListN.{length};
 
 // How many records of each kind there were, and in how many the answers agreed. The last place is for unknown kinds.
 pub struct Tally {
-    pub asked: [u64; 16],
-    pub agreed: [u64; 16],
+    pub asked: [u64; 17],
+    pub agreed: [u64; 17],
 }
 
 // Whether to go on, and the tally so far.
@@ -24,7 +25,7 @@ pub struct Turn {
 
 impl Tally {
     fn counted(mut self, kind: usize, agrees: bool) -> Tally {
-        if 15 < kind {
+        if 16 < kind {
             return self;
         }
         self.asked[kind] = std::num::wrapping_add_u64(self.asked[kind], 1);
@@ -53,7 +54,8 @@ fn place_of(kind: u8) -> usize {
         b'k' => 12,
         b'x' => 13,
         b'r' => 14,
-        _ => 15,
+        b'b' => 15,
+        _ => 16,
     }
 }
 
@@ -75,6 +77,7 @@ fn print_name(place: usize) {
         12 => io::write_all(STDOUT_FILENO, b"comments"),
         13 => io::write_all(STDOUT_FILENO, b"skip lines"),
         14 => io::write_all(STDOUT_FILENO, b"texts read"),
+        15 => io::write_all(STDOUT_FILENO, b"blocks written"),
         _ => io::write_all(STDOUT_FILENO, b"of unknown kind"),
     }
     ;
@@ -91,6 +94,7 @@ fn respond(kind: u8, request: &[u8], out: &mut [u8]) -> usize
         b'k' => lines::comment_line(request, out),
         b'x' => lines::skip_line(request, out),
         b'r' => reads::read(request, out),
+        b'b' => writes::write(request, out),
         _ => leaves::answer(kind, request, out),
     }
 }
@@ -148,8 +152,8 @@ fn replay_next(fd: i32, tally: Tally) -> Turn {
 // A proved loop has to end, and nothing says that a file does: the turns are counted down from a number that no run uses up.
 fn replay_all(fd: i32) -> Tally {
     let mut tally = Tally {
-        asked: [0u64; 16],
-        agreed: [0u64; 16],
+        asked: [0u64; 17],
+        agreed: [0u64; 17],
     };
     let mut turns = u64::MAX;
     while turns > 0 {
@@ -174,7 +178,7 @@ fn print_line(place: usize, agreed: u64, asked: u64) {
 }
 
 fn print_tally(tally: Tally) {
-    for i in 0..16 {
+    for i in 0..17 {
         print_line(i, tally.agreed[i], tally.asked[i]);
     }
 }

@@ -6,7 +6,7 @@ use crate::record::LIMIT;
 pub fn texts() -> Vec<(&'static str, String)> {
     vec![
         ("10,922 keys of two bytes, descending", descending_keys(10_922)),
-        ("6,537 of them, which a block can hold", descending_keys(6_537)),
+        ("6,537 such keys, which a block can hold", descending_keys(6_537)),
         ("13,107 lines of one key", "a：\n".repeat(13_107)),
         ("long keys that differ in their last byte", long_keys()),
         ("one comment", filled("手数\n*", "x", "\n")),

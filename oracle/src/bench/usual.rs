@@ -105,7 +105,9 @@ impl Maker {
     fn play(&mut self, ply: u64) {
         let [file, rank, from_file, from_rank] = [0; 4].map(|_| self.r.below(9));
         let to = if self.r.one_in(8) { "同　".into() } else { [FILES[file], RANKS[rank]].concat() };
-        let (kind, promoted) = (self.r.pick(&KINDS), if self.r.one_in(12) { "成" } else { "" });
+        let (kind, promotes) = (self.r.pick(&KINDS), self.r.one_in(12));
+        // 成銀 with 成 and a time is a move that can be read and not written.
+        let promoted = if promotes && kind != "成銀" { "成" } else { "" };
         let (minutes, seconds) = (self.r.below(9), self.r.below(60));
         let origin = format!("({}{})", 1 + from_file, 1 + from_rank);
         let total = format!("{:02}:{:02}:{seconds:02}", ply / 60, ply % 60);

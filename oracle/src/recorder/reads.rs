@@ -1,12 +1,10 @@
 //! Whole texts, read into a lent buffer.
 
-use super::{numbers, Sample};
+use super::Sample;
 use crate::judge::{self, Outcome};
 use crate::short::{short, SHORT};
 use crate::texts;
 
-/// What the lent buffer holds before.
-const UNTOUCHED: u8 = 165;
 /// The most bytes of a drawn text and of its block, so that the sample stays small.
 const TEXT: usize = 240;
 const BLOCK: usize = 420;
@@ -66,20 +64,22 @@ const KNOWN: [&str; 48] = [
 ];
 
 pub(super) fn reads(sample: &mut Sample) {
-    for text in KNOWN {
-        let needed = judge::read(text.as_bytes()).needed().unwrap_or(20);
-        for room in [0, needed.saturating_sub(1), needed, needed + 9] {
-            read(sample, room, text.as_bytes());
-        }
+    for text in KNOWN.map(str::as_bytes) {
+        sample.add_lent_all(text, &judge::read(text));
     }
     let some = (0..SHORT).step_by(487).map(short).filter(|text| says_much(text));
     let (plain, boards): (Vec<_>, Vec<_>) = some.partition(|text| text.len() <= PLAIN);
-    plain.iter().take(1_000).chain(boards.iter().take(100)).for_each(|text| read_once(sample, text));
+    plain
+        .iter()
+        .take(1_000)
+        .chain(boards.iter().take(100))
+        .for_each(|text| sample.add_lent_once(text, &judge::read(text)));
     for _ in 0..900 {
         let text = drawn(sample);
-        read_once(sample, &text);
+        sample.add_lent_once(&text, &judge::read(&text));
     }
-    read(sample, 9, too_much().as_bytes());
+    let text = too_much().into_bytes();
+    sample.add_lent(9, &text, &judge::read(&text));
 }
 
 /// One that is refused, or taken at least in part.
@@ -101,19 +101,4 @@ fn drawn(sample: &mut Sample) -> Vec<u8> {
 /// The shortest text whose block is over the limit.
 fn too_much() -> String {
     format!("手数\n1同歩打\n{}", "x\n0投了\n".repeat(2_335))
-}
-
-/// With one buffer, mostly one that is long enough.
-fn read_once(sample: &mut Sample, text: &[u8]) {
-    let needed = judge::read(text).needed().unwrap_or(5);
-    let others = [needed - 1, needed + 1, needed + 5, 7];
-    let room = *others.get(sample.r.below(12)).unwrap_or(&needed);
-    read(sample, room, text);
-}
-
-fn read(sample: &mut Sample, room: usize, text: &[u8]) {
-    let mut out = vec![UNTOUCHED; room];
-    let answer = judge::read(text).deliver(&mut out);
-    let figures = numbers(&[answer.number, answer.first, answer.second]);
-    sample.add(&[&numbers(&[room as u64])[..], text].concat(), &[figures, out].concat());
 }

@@ -1,0 +1,130 @@
+-- What stands in the way, one hand count, entry or line after the other; and which lines are shown.
+--     ..-more     the next one, and those after it
+--     ..-none     there is none left
+-- Assumes nothing.
+use Prim.Native.Nat.{ℕ, suc, _+_, _-_, _/_, _%_, _≤_, _<_}
+use native.Mathlib.Omega.{arith}
+use mathlib.Core.Path.{_≡_, refl, sym, ap, _∙_}
+use mathlib.Core.List.{List, [], _∷_, _++_, append-assoc, append-nil}
+use lib.ListN.{length, getD}
+use lib.Dec.{ltb}
+use borrow.Author.Tests.{eq-eqb, ne-eqb}
+use Rattle.lists.specs.Pick.{pick}
+use Rattle.block.specs.Model.{Noted, Line}
+use Rattle.block.specs.Decode.{run, linesIn, firstEntry, entryCount, notedIn, lineIn, decode}
+use Rattle.block.proofs.Tabling.{length-run}
+use Rattle.converter.specs.Entries.{canWrite}
+use Rattle.converter.specs.Show.{leftOut, onObstacle, handObstacle, entryObstacle, lineObstacle, linesObstacle, shown, ShownLines}
+use Rattle.converter.specs.declared.Obstacle.the-variants.{At, Clear}
+use Rattle.converter.proofs.Runs.{run-first, run-more}
+
+-- ---- hands
+
+module _ (hands : List ℕ) (i : ℕ) where
+  pub hand-more : i < 14
+      → handObstacle hands i (14 - i) ≡ pick (ltb 99 (getD hands i 0)) (At (i / 7) (i % 7)) (handObstacle hands (i + 1) (14 - (i + 1)))
+  unfolding handObstacle
+  hand-more h = let e : 14 - i ≡ suc (14 - (i + 1)) = omega arith in ap (handObstacle hands i) e
+
+  pub hand-none : 14 ≤ i → handObstacle hands i (14 - i) ≡ Clear
+  unfolding handObstacle
+  hand-none h = let e : 14 - i ≡ 0 = omega arith in ap (handObstacle hands i) e
+
+-- ---- entries
+
+module _ (line : ℕ) (f : ℕ → Noted) (first count i : ℕ) where
+  pub entry-more : i < count
+      → entryObstacle line i (run f (first + i) (count - i))
+      ≡ pick (canWrite (f (first + i) .what)) (entryObstacle line (i + 1) (run f (first + (i + 1)) (count - (i + 1)))) (At line i)
+  unfolding entryObstacle
+  entry-more h =
+      let e : first + i + 1 ≡ first + (i + 1) = omega arith in
+      let g : count - i - 1 ≡ count - (i + 1) = omega arith in
+      ap (entryObstacle line i) (run-first f (first + i) (count - i) (omega arith) ∙ ap (λ (j : ℕ). f (first + i) ∷ run f j (count - i - 1)) e ∙ ap (λ (n : ℕ). f (first + i) ∷ run f (first + (i + 1)) n) g)
+
+  pub entry-first : entryObstacle line 0 (run f first count) ≡ entryObstacle line 0 (run f (first + 0) (count - 0))
+  entry-first =
+      let e : first ≡ first + 0 = omega arith in
+      let d : count ≡ count - 0 = omega arith in
+      ap (λ (j : ℕ). entryObstacle line 0 (run f j count)) e ∙ ap (λ (n : ℕ). entryObstacle line 0 (run f (first + 0) n)) d
+
+  pub entry-none : count ≤ i → entryObstacle line i (run f (first + i) (count - i)) ≡ Clear
+  unfolding entryObstacle run
+  entry-none h = let e : count - i ≡ 0 = omega arith in ap (λ (n : ℕ). entryObstacle line i (run f (first + i) n)) e
+
+-- ---- lines
+
+module _ (g : ℕ → Line) (n k : ℕ) where
+  next : k < n → run g k (n - k) ≡ g k ∷ run g (k + 1) (n - (k + 1))
+  next h =
+      let e : n - k - 1 ≡ n - (k + 1) = omega arith in
+      run-first g k (n - k) (omega arith) ∙ ap (λ (j : ℕ). g k ∷ run g (k + 1) j) e
+
+  none : n ≤ k → run g k (n - k) ≡ []
+  unfolding run
+  none h = let e : n - k ≡ 0 = omega arith in ap (run g k) e
+
+  pub line-more : k < n
+      → lineObstacle k (run g k (n - k)) ≡ onObstacle (entryObstacle k 0 (g k .entries)) (λ a b. At a b) (lineObstacle (k + 1) (run g (k + 1) (n - (k + 1))))
+  unfolding lineObstacle
+  line-more h = ap (lineObstacle k) (next h)
+
+  pub line-none : n ≤ k → lineObstacle k (run g k (n - k)) ≡ Clear
+  unfolding lineObstacle
+  line-none h = ap (lineObstacle k) (none h)
+
+  -- a variation that is shown, and one that ends what is shown
+  pub shown-more : k < n → 1 ≤ k → (g k .start ≡ 0 → ⊥)
+      → run g 1 (k - 1) ++ shown (run g k (n - k)) ≡ run g 1 (k + 1 - 1) ++ shown (run g (k + 1) (n - (k + 1)))
+  unfolding shown
+  shown-more h l ne =
+      let e : k - 1 + 1 ≡ k + 1 - 1 = omega arith in
+      let d : 1 + (k - 1) ≡ k = omega arith in
+      let m : run g 1 (k + 1 - 1) ≡ run g 1 (k - 1) ++ (g k ∷ []) =
+      ap (run g 1) (sym e) ∙ run-more g 1 (k - 1) ∙ ap (λ (j : ℕ). run g 1 (k - 1) ++ (g j ∷ [])) d in
+      let s : shown (run g k (n - k)) ≡ g k ∷ shown (run g (k + 1) (n - (k + 1))) = ap shown (next h) ∙ rw (ne-eqb (g k .start) 0 ne) in
+      ap (λ (ls : List Line). run g 1 (k - 1) ++ ls) s ∙ sym (ap (λ (ls : List Line). ls ++ shown (run g (k + 1) (n - (k + 1)))) m ∙ append-assoc (run g 1 (k - 1)) (g k ∷ []) (shown (run g (k + 1) (n - (k + 1)))))
+
+  pub shown-stop : k < n → g k .start ≡ 0 → run g 1 (k - 1) ++ shown (run g k (n - k)) ≡ run g 1 (k - 1)
+  unfolding shown
+  shown-stop h z =
+      let s : shown (run g k (n - k)) ≡ [] = ap shown (next h) ∙ rw (eq-eqb (g k .start) 0 z) in
+      ap (λ (ls : List Line). run g 1 (k - 1) ++ ls) s ∙ append-nil (run g 1 (k - 1))
+
+  pub shown-none : n ≤ k → run g 1 (k - 1) ++ shown (run g k (n - k)) ≡ run g 1 (k - 1)
+  unfolding shown
+  shown-none h = ap (λ (ls : List Line). run g 1 (k - 1) ++ ls) (ap shown (none h)) ∙ append-nil (run g 1 (k - 1))
+
+-- what is found in a line's entries, once its row is read
+pub found-is : (b : List ℕ) (k f n : ℕ) → f ≡ firstEntry b k → n ≡ entryCount b k
+    → entryObstacle k 0 (run (notedIn b) f n) ≡ entryObstacle k 0 (lineIn b k .entries)
+found-is b k f n e d =
+    ap (λ (j : ℕ). entryObstacle k 0 (run (notedIn b) j n)) e ∙ ap (λ (m : ℕ). entryObstacle k 0 (run (notedIn b) (firstEntry b k) m)) d
+
+-- before the first variation nothing is shown yet
+pub shown-first : (g : ℕ → Line) (n : ℕ) → shown (run g 1 (n - 1)) ≡ run g 1 (1 - 1) ++ shown (run g 1 (n - 1))
+unfolding run
+shown-first g n = refl
+
+-- ---- the block's lines
+
+module _ {b : List ℕ} {n : ℕ} (v : ShownLines b n) where
+  lines-are : decode b .lines ≡ lineIn b 0 ∷ run (lineIn b) 1 (linesIn b - 1)
+  unfolding decode
+  lines-are = run-first (lineIn b) 0 (linesIn b) (omega (arith, v .some, v .most))
+
+  pub lines-obstacle-is : linesObstacle (decode b .lines) ≡ lineObstacle 0 (run (lineIn b) 0 (n - 0))
+  unfolding linesObstacle
+  lines-obstacle-is =
+      let z : n ≡ n - 0 = omega arith in
+      ap linesObstacle lines-are
+      ∙ ap (λ (ls : List Line). lineObstacle 0 (lineIn b 0 ∷ ls)) (v .later)
+      ∙ ap (lineObstacle 0) (sym (run-first (lineIn b) 0 n (v .some)))
+      ∙ ap (λ (m : ℕ). lineObstacle 0 (run (lineIn b) 0 m)) z
+
+  -- the lines after the n that are shown are left out
+  pub left-out-is : leftOut (decode b .lines) ≡ linesIn b - n
+  unfolding leftOut
+  left-out-is =
+      let e = ap length (v .later) ∙ length-run (lineIn b) 1 (n - 1) in
+      ap leftOut lines-are ∙ omega (arith, e, length-run (lineIn b) 1 (linesIn b - 1), v .some, v .most)

@@ -1,0 +1,16 @@
+pub mod Room
+pub mod Runs
+pub mod Ranged
+pub mod Keyed
+pub mod Ascending
+pub mod Heading
+pub mod Measuring
+pub mod Cased
+pub mod Bounded
+pub mod Worded
+pub mod Within
+pub mod Playing
+pub mod Lengthy
+pub mod Counted
+pub mod Blocked
+pub mod Showing

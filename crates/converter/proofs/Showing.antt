@@ -1,0 +1,90 @@
+-- What `write` answers, case by case, and the text of a block in its three parts.
+-- Assumes nothing.
+use mathlib.Core.Path.{_≡_, refl, sym, ap}
+use mathlib.Core.List.{List, _++_}
+use mathlib.Core.Bool.{true, false}
+use Prim.Native.Nat.{ℕ, _≤_, _<_}
+use lib.ListN.{length, drop}
+use borrow.Author.Tests.{lt-ltb, le-ltb}
+use Rattle.jkf.specs.Answers.{Outcome, refuse}
+use Rattle.jkf.specs.Positions.{positionIn}
+use Rattle.jkf.specs.declared.Answer.{Answer}
+use Rattle.jkf.specs.declared.Answer.the-variants.{Done, BufferShort, NotSound, HandCount, CannotWrite}
+use Rattle.block.specs.Model.{Record}
+use Rattle.block.specs.Decode.{decode}
+use Rattle.block.specs.Sound.{soundb}
+use Rattle.converter.specs.Headers.{headersOf, headersText}
+use Rattle.converter.specs.Diagrams.{positionText}
+use Rattle.converter.specs.Show.{text, refused, onObstacle, handsObstacle, linesObstacle, linesText, recordText, leftOut, showLines, show}
+use Rattle.converter.specs.Writing.{filledWith, shownOf, writeOf}
+use Rattle.converter.specs.declared.Obstacle.{Obstacle}
+use Rattle.converter.specs.declared.Obstacle.the-variants.{At, Clear}
+use Rattle.converter.proofs.Room.{room-as, room-front}
+
+-- an outcome under another name
+pub told : {x y : Outcome} {a : Answer} {o : List ℕ} → y ≡ x → (a ≡ x .answer) × (o ≡ x .buffer) → (a ≡ y .answer) × (o ≡ y .buffer)
+told e p = rw e p
+
+-- ---- refusals in their order
+
+module _ (b o : List ℕ) where
+  pub not-sound : soundb b ≡ false → writeOf b o ≡ refuse NotSound o
+  unfolding writeOf
+  not-sound h = rw h
+
+  pub is-sound : soundb b ≡ true → writeOf b o ≡ shownOf (show (decode b)) o
+  unfolding writeOf
+  is-sound h = rw h
+
+module _ (r : Record) (o : List ℕ) where
+  pub hands-refused : (side kind : ℕ) → handsObstacle (r .position) ≡ At side kind → shownOf (show r) o ≡ refuse (HandCount side kind) o
+  unfolding show shownOf
+  hands-refused side kind e =
+      ap (λ (h : Obstacle). shownOf (onObstacle h (λ s k. refused (HandCount s k)) (showLines r)) o) e
+
+  pub hands-clear : handsObstacle (r .position) ≡ Clear → shownOf (show r) o ≡ shownOf (showLines r) o
+  unfolding show
+  hands-clear e =
+      ap (λ (h : Obstacle). shownOf (onObstacle h (λ s k. refused (HandCount s k)) (showLines r)) o) e
+
+  pub lines-refused : (line entry : ℕ) → linesObstacle (r .lines) ≡ At line entry → shownOf (showLines r) o ≡ refuse (CannotWrite line entry) o
+  unfolding showLines shownOf
+  lines-refused line entry e =
+      ap (λ (h : Obstacle). shownOf (onObstacle h (λ l n. refused (CannotWrite l n)) (text (recordText r) (leftOut (r .lines)))) o) e
+
+  pub lines-clear : linesObstacle (r .lines) ≡ Clear → shownOf (showLines r) o ≡ filledWith (recordText r) (leftOut (r .lines)) o
+  unfolding showLines shownOf
+  lines-clear e =
+      ap (λ (h : Obstacle). shownOf (onObstacle h (λ l n. refused (CannotWrite l n)) (text (recordText r) (leftOut (r .lines)))) o) e
+
+-- ---- a text that is written, or does not fit
+
+module _ (t : List ℕ) (left : ℕ) (o : List ℕ) where
+  pub too-short : length o < length t → filledWith t left o ≡ refuse (BufferShort (length t)) o
+  unfolding filledWith
+  too-short h = rw (lt-ltb _ _ h)
+
+  pub has-room : length t ≤ length o → filledWith t left o ≡ record { answer = Done (length t) left; buffer = t ++ drop (length t) o }
+  unfolding filledWith
+  has-room h = rw (le-ltb _ _ h)
+
+-- ---- the text
+
+pub record-is : (b : List ℕ)
+    → recordText (decode b) ≡ (headersText (headersOf b) ++ positionText (positionIn (drop 28 b))) ++ linesText (decode b .lines)
+unfolding recordText decode
+record-is b = refl
+
+pub position-is : (b : List ℕ) → decode b .position ≡ positionIn (drop 28 b)
+unfolding decode
+position-is b = refl
+
+-- room for the text is room for its header, for the position after it, and for the lines after both
+pub record-room : (b : List ℕ) {n : ℕ} → length (recordText (decode b)) ≤ n
+    → (length (headersText (headersOf b)) ≤ n) × (length (headersText (headersOf b) ++ positionText (positionIn (drop 28 b))) ≤ n) × (length ((headersText (headersOf b) ++ positionText (positionIn (drop 28 b))) ++ linesText (decode b .lines)) ≤ n)
+record-room b {n} r =
+    let h = headersText (headersOf b) in
+    let p = positionText (positionIn (drop 28 b)) in
+    let all = room-as (sym (record-is b)) r in
+    let two = room-front (h ++ p) (linesText (decode b .lines)) all in
+    (room-front h p two, two, all)

@@ -1,0 +1,80 @@
+-- What stands in the way from entry i on is what stands in the way of the line.
+-- Assumes nothing.
+use Prim.Native.Nat.{_+_, _-_, _≤_}
+use native.Mathlib.Omega.{arith}
+use mathlib.Core.Path.{_≡_, sym, ap, _∙_}
+use mathlib.Core.Bool.{true, false}
+use denote.Ref.{now}
+use borrow.Author.Needs.{needs}
+use borrow.Author.Tests.{not-true, not-false}
+use Rattle.block.specs.Decode.{run, notedIn}
+use Rattle.converter.specs.Entries.{canWrite}
+use Rattle.converter.specs.Show.{entryObstacle}
+use Rattle.converter.proofs.Blocked.{entry-first, entry-more, entry-none}
+use Rattle.converter.proofs.checks.entry_obstacle.Statement.{statement}
+use Rattle.converter.proofs.checks.entry_obstacle.Tie as tie
+
+abbrev Inv-loop : tie.InvT-loop
+Inv-loop b line first count i₀ i = (i ≤ count) × (entryObstacle line 0 (run (notedIn b) first count) ≡ entryObstacle line i (run (notedIn b) (first + i) (count - i)))
+
+abbrev μ-loop : tie.MeasureT-loop
+μ-loop b line first count i₀ i = count - i
+
+loop-holds : tie.Need-loop-holds Inv-loop μ-loop
+loop-holds c = (omega arith, entry-first (c .before .args .line) (notedIn (now (c .before .args .b))) (c .before .args .first) (c .before .args .count) 0)
+
+add-entry-of : tie.Need-add-entry-of Inv-loop μ-loop
+add-entry-of c = omega (arith, c .before .before .before .pre)
+
+cast-entry-of : tie.Need-cast-entry-of Inv-loop μ-loop
+cast-entry-of c = omega (arith, c .before .before .before .pre)
+
+entry-of-requires : tie.Need-entry-of-requires Inv-loop μ-loop
+entry-of-requires c κs = search needs
+
+can-write-requires : tie.Need-can-write-requires Inv-loop μ-loop
+can-write-requires c κs = search needs
+
+returns : tie.Need-returns Inv-loop μ-loop
+returns c =
+    let l = c .before .before .before .before .loop in
+    let a = c .before .before .before .before .before .before .args in
+    let b = now (a .b) in
+    let w : canWrite (notedIn b (a .first + l .i) .what) ≡ false = ap canWrite (sym (c .before .before .entry-of .ensures)) ∙ sym (c .before .can-write .ensures) ∙ not-true _ (c .if1 .taken) in
+    sym (l .inv .1 ∙ entry-more (a .line) (notedIn b) (a .first) (a .count) (l .i) (c .before .before .before .loop-test .taken) ∙ rw w)
+
+add-i : tie.Need-add-i Inv-loop μ-loop
+add-i c = omega arith
+
+loop-less : tie.Need-loop-less Inv-loop μ-loop
+loop-less c = omega arith
+
+loop-again : tie.Need-loop-again Inv-loop μ-loop
+loop-again c =
+    let l = c .before .before .before .before .loop in
+    let a = c .before .before .before .before .before .before .args in
+    let b = now (a .b) in
+    let w : canWrite (notedIn b (a .first + l .i) .what) ≡ true = ap canWrite (sym (c .before .before .entry-of .ensures)) ∙ sym (c .before .can-write .ensures) ∙ not-false _ (c .if1 .left) in
+    (omega arith, l .inv .1 ∙ entry-more (a .line) (notedIn b) (a .first) (a .count) (l .i) (c .before .before .before .loop-test .taken) ∙ rw w)
+
+returns-2 : tie.Need-returns-2 Inv-loop μ-loop
+returns-2 c =
+    let a = c .before .before .before .args in
+    sym (c .before .loop .inv .1 ∙ entry-none (a .line) (notedIn (now (a .b))) (a .first) (a .count) (c .before .loop .i) (c .loop-test .left))
+
+pub entry-obstacle-spec : {M : Type 1} → statement M
+entry-obstacle-spec =
+    tie.close
+    (tie.spec
+    Inv-loop
+    μ-loop
+    loop-holds
+    add-entry-of
+    cast-entry-of
+    entry-of-requires
+    can-write-requires
+    returns
+    add-i
+    loop-less
+    loop-again
+    returns-2)

@@ -1,0 +1,98 @@
+-- The loop has written the entries passed; one more is the text so far with one entry more, and a front of the whole fits where the whole does.
+-- Assumes nothing.
+use Prim.Native.Nat.{_+_, _-_, _≤_, zero-le}
+use native.Mathlib.Omega.{arith}
+use mathlib.Core.Path.{_≡_, sym}
+use lib.ListN.{length}
+use denote.Ref.{now}
+use borrow.Author.Needs.{needs}
+use Rattle.lent.proofs.Writes.{as-text, nothing, wrote-length, rest-length}
+use Rattle.lent.specs.Bytes.{Wrote}
+use Rattle.block.specs.Decode.{run, notedIn}
+use Rattle.converter.specs.Entries.{notedText, entriesText}
+use Rattle.converter.proofs.Runs.{entries-none, entries-front, entries-step}
+use Rattle.converter.proofs.Room.{room-left}
+use Rattle.converter.proofs.kif.put_entries.Statement.{statement}
+use Rattle.converter.proofs.kif.put_entries.Tie as tie
+
+abbrev Inv-loop : tie.InvT-loop
+Inv-loop out₀ b ply first count at₀ i₀ out at i = (i ≤ count) × Wrote (entriesText ply (run (notedIn b) first i)) out₀ out at
+
+abbrev μ-loop : tie.MeasureT-loop
+μ-loop out₀ b ply first count at₀ i₀ out at i = count - i
+
+loop-holds : tie.Need-loop-holds Inv-loop μ-loop
+loop-holds c =
+    let a = c .before .before .args in
+    (zero-le, as-text (sym (entries-none (a .ply) (notedIn (now (a .b))) (a .first))) (nothing _))
+
+sub-put-noted : tie.Need-sub-put-noted Inv-loop μ-loop
+sub-put-noted c =
+    omega (arith, wrote-length (c .before .loop .inv .1))
+
+part-put-noted-start : tie.Need-part-put-noted-start Inv-loop μ-loop
+part-put-noted-start c =
+    let h = wrote-length (c .before .loop .inv .1) in
+    search needs
+
+part-put-noted-end : tie.Need-part-put-noted-end Inv-loop μ-loop
+part-put-noted-end c = search needs
+
+add-put-noted : tie.Need-add-put-noted Inv-loop μ-loop
+add-put-noted c = search needs
+
+add-put-noted-2 : tie.Need-add-put-noted-2 Inv-loop μ-loop
+add-put-noted-2 c = search needs
+
+put-noted-requires : tie.Need-put-noted-requires Inv-loop μ-loop
+put-noted-requires c κs =
+    let a = c .before .before .before .before .before .args in
+    let l = c .before .before .loop in
+    let h = entries-front (a .ply) (notedIn (now (a .b))) (a .first) (l .i) (a .count) (omega arith) in
+    (c .before .before .before .before .before .pre .0, omega arith, room-left (length (notedText (a .ply + l .i) (notedIn (now (a .b)) (a .first + l .i)))) (l .inv .1) (omega (arith, l .inv .1 .count, c .before .before .before .before .before .pre .3)))
+
+add-at : tie.Need-add-at Inv-loop μ-loop
+add-at c =
+    let l = c .before .before .before .before .before .loop in
+    omega (arith, wrote-length (l .inv .1), rest-length (l .out) (l .at))
+
+add-i : tie.Need-add-i Inv-loop μ-loop
+add-i c = search needs
+
+loop-less : tie.Need-loop-less Inv-loop μ-loop
+loop-less c = search needs
+
+loop-again : tie.Need-loop-again Inv-loop μ-loop
+loop-again c =
+    let a = c .before .before .before .before .before .before .before .before .args in
+    let l = c .before .before .before .before .before .loop in
+    (omega arith, entries-step (a .ply) (notedIn (now (a .b))) (a .first) (l .i) (l .inv .1) (c .before .before .put-noted .ensures))
+
+same-length : tie.Need-same-length Inv-loop μ-loop
+same-length c =
+    wrote-length (c .before .loop .inv .1)
+
+returns : tie.Need-returns Inv-loop μ-loop
+returns c =
+    let e : c .before .loop .i ≡ c .before .before .before .before .args .count = omega arith in
+    rw e at (c .before .loop .inv .1)
+
+pub put-entries-spec : {M : Type 1} → statement M
+put-entries-spec =
+    tie.close
+    (tie.spec
+    Inv-loop
+    μ-loop
+    loop-holds
+    sub-put-noted
+    part-put-noted-start
+    part-put-noted-end
+    add-put-noted
+    add-put-noted-2
+    put-noted-requires
+    add-at
+    add-i
+    loop-less
+    loop-again
+    same-length
+    returns)

@@ -1,0 +1,81 @@
+-- A sound block's line 0 begins with entry 0, so its slot's comments are those of entry 0, and its other entries are those from 1 on.
+-- Assumes nothing.
+use Prim.Native.Nat.{_-_}
+use native.Mathlib.Omega.{arith}
+use mathlib.Core.Path.{refl}
+use denote.Ref.{now}
+use borrow.Author.Needs.{needs}
+use Rattle.block.specs.Decode.{run, notedIn, entryCount}
+use Rattle.lent.proofs.Writes.{as-text, then}
+use Rattle.converter.specs.Entries.{remarksText, entriesText}
+use Rattle.converter.proofs.Within.{entries-within, some-line, some-entry}
+use Rattle.converter.proofs.Playing.{main-text}
+use Rattle.converter.proofs.Room.{room-after, room-as, room-front}
+use Rattle.converter.proofs.kif.put_main.Statement.{statement}
+use Rattle.converter.proofs.kif.put_main.Tie as tie
+
+put-comments-requires : tie.Need-put-comments-requires
+put-comments-requires c κs =
+    let b = now (c .before .before .before .args .b) in
+    let s = c .before .before .before .pre .0 in
+    let h = room-as (main-text b s refl) (c .before .before .before .pre .1) in
+    let l = some-line b s in (
+      s,
+      omega (arith, entries-within b s 0 l, some-entry b s 0 l),
+      room-front (remarksText (notedIn b 0 .comments)) (entriesText 1 (run (notedIn b) 1 (entryCount b 0 - 1))) h,
+    )
+
+sub-put-entries : tie.Need-sub-put-entries
+sub-put-entries c = search needs
+
+part-put-entries-start : tie.Need-part-put-entries-start
+part-put-entries-start c = search needs
+
+part-put-entries-end : tie.Need-part-put-entries-end
+part-put-entries-end c = search needs
+
+entry-count-requires : tie.Need-entry-count-requires
+entry-count-requires c κs = search needs
+
+sub-put-entries-2 : tie.Need-sub-put-entries-2
+sub-put-entries-2 c =
+    let b = now (c .before .before .before .before .before .before .before .before .args .b) in
+    let s = c .before .before .before .before .before .before .before .before .pre .0 in
+    omega (arith, some-entry b s 0 (some-line b s))
+
+put-entries-requires : tie.Need-put-entries-requires
+put-entries-requires c κs =
+    let b = now (c .before .before .before .before .before .before .before .before .args .b) in
+    let s = c .before .before .before .before .before .before .before .before .pre .0 in
+    let h = room-as (main-text b s (c .entry-count .ensures .0)) (c .before .before .before .before .before .before .before .before .pre .1) in
+    let l = some-line b s in (
+      s,
+      omega (arith, entries-within b s 0 l, some-entry b s 0 l),
+      omega arith,
+      room-after (entriesText 1 (run (notedIn b) 1 (c .entry-count .result - 1))) (c .before .before .before .before .put-comments .ensures) h,
+    )
+
+add-result : tie.Need-add-result
+add-result c = search needs
+
+same-length : tie.Need-same-length
+same-length c = search needs
+
+returns : tie.Need-returns
+returns c =
+    as-text (main-text (now (c .before .before .before .before .before .before .before .before .before .before .before .args .b)) (c .before .before .before .before .before .before .before .before .before .before .before .pre .0) (c .before .before .before .entry-count .ensures .0)) (then (c .before .before .before .before .before .before .before .put-comments .ensures) (c .before .before .put-entries .ensures))
+
+pub put-main-spec : {M : Type 1} → statement M
+put-main-spec =
+    tie.close
+    (tie.spec
+    put-comments-requires
+    sub-put-entries
+    part-put-entries-start
+    part-put-entries-end
+    entry-count-requires
+    sub-put-entries-2
+    put-entries-requires
+    add-result
+    same-length
+    returns)

@@ -1,0 +1,32 @@
+-- Nothing is written unless the mark is 2, and then 成, for which there is room.
+-- Assumes nothing.
+use mathlib.Core.Path.{sym}
+use borrow.Author.Tests.{eq-eqb, ne-eqb}
+use borrow.Author.Needs.{needs}
+use Rattle.lent.proofs.Writes.{as-text, nothing}
+use Rattle.converter.specs.Entries.{promoteText}
+use Rattle.converter.proofs.Worded.{arm}
+use Rattle.converter.proofs.kif.put_promote.Statement.{statement}
+use Rattle.converter.proofs.kif.put_promote.Tie as tie
+
+returns : tie.Need-returns
+unfolding promoteText
+returns c = as-text (sym (simp (ne-eqb _ _ (c .if1 .taken)))) (nothing _)
+
+slice-aggregate-put-bytes : tie.Need-slice-aggregate-put-bytes
+slice-aggregate-put-bytes c = search needs
+
+put-bytes-requires : tie.Need-put-bytes-requires
+put-bytes-requires c κs = search needs
+
+same-length : tie.Need-same-length
+same-length c = search needs
+
+returns-2 : tie.Need-returns-2
+unfolding promoteText
+returns-2 c =
+    arm (sym (simp (eq-eqb _ _ (c .before .before .before .before .before .if1 .left)))) (c .before .before .before .before .before .before .before .pre) (c .before .before .put-bytes .ensures)
+
+pub put-promote-spec : {M : Type 1} → statement M
+put-promote-spec =
+    tie.close (tie.spec returns slice-aggregate-put-bytes put-bytes-requires same-length returns-2)

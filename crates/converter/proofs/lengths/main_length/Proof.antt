@@ -1,0 +1,56 @@
+-- Line 0 is the comments of its slot, the first entry, and the entries after it.
+-- Assumes nothing.
+use Prim.Native.Nat.{_-_}
+use native.Mathlib.Omega.{arith}
+use mathlib.Core.Path.{ap}
+use lib.ListN.{length}
+use borrow.Author.Needs.{needs}
+use denote.Ref.{now}
+use Rattle.block.specs.Decode.{run, notedIn}
+use Rattle.converter.specs.Entries.{entriesText}
+use Rattle.converter.proofs.Counted.{main-parts}
+use Rattle.converter.proofs.Within.{some-line, some-entry, first-none, entries-within, moves-small}
+use Rattle.converter.proofs.lengths.main_length.Statement.{statement}
+use Rattle.converter.proofs.lengths.main_length.Tie as tie
+
+comments-length-requires : tie.Need-comments-length-requires
+comments-length-requires c κs =
+    let b = now (c .before .args .b) in
+    let s = c .before .pre in
+    (s, omega (arith, entries-within b s 0 (some-line b s), some-entry b s 0 (some-line b s)))
+
+entry-count-requires : tie.Need-entry-count-requires
+entry-count-requires c κs = search needs
+
+sub-entries-length : tie.Need-sub-entries-length
+sub-entries-length c =
+    let b = now (c .before .before .before .args .b) in
+    let s = c .before .before .before .pre in
+    omega (arith, some-entry b s 0 (some-line b s))
+
+entries-length-requires : tie.Need-entries-length-requires
+entries-length-requires c κs =
+    let b = now (c .before .before .before .args .b) in
+    let s = c .before .before .before .pre in
+    (s, omega (arith, entries-within b s 0 (some-line b s), first-none b s, some-entry b s 0 (some-line b s)), omega arith)
+
+add-result : tie.Need-add-result
+add-result c = search needs
+
+returns : tie.Need-returns
+returns c =
+    let b = now (c .before .before .before .before .args .b) in
+    let s = c .before .before .before .before .pre in
+    let e = ap (λ n. length (entriesText 1 (run (notedIn b) 1 (n - 1)))) (c .before .entry-count .ensures .0) in
+    omega (arith, main-parts b s, entries-within b s 0 (some-line b s), moves-small b s)
+
+pub main-length-spec : {M : Type 1} → statement M
+main-length-spec =
+    tie.close
+    (tie.spec
+    comments-length-requires
+    entry-count-requires
+    sub-entries-length
+    entries-length-requires
+    add-result
+    returns)

@@ -1,0 +1,63 @@
+-- The leading lines, then the others: these two are the header, so there is room for both.
+-- Assumes nothing.
+use denote.Ref.{now}
+use borrow.Author.Needs.{needs}
+use Rattle.lent.proofs.Writes.{then}
+use Rattle.converter.specs.Headers.{linesOf, headersOf, headersText}
+use Rattle.converter.proofs.Heading.{leads}
+use Rattle.converter.proofs.starts.put_headers.Statement.{statement}
+use Rattle.converter.proofs.starts.put_headers.Tie as tie
+use Rattle.converter.proofs.Room.{room-front, room-after}
+
+leading-places-requires : tie.Need-leading-places-requires
+leading-places-requires c κs = search needs
+
+slice-aggregate-put-leading : tie.Need-slice-aggregate-put-leading
+slice-aggregate-put-leading c = search needs
+
+put-leading-requires : tie.Need-put-leading-requires
+unfolding headersText
+put-leading-requires c κs =
+    let hs = headersOf (now (c .before .before .before .before .before .args .b)) in
+    (c .before .before .leading-places .ensures, room-front (leads (now (c .before .before .before .before .before .args .b)) 12) (linesOf 0 hs) (c .before .before .before .before .before .pre .1))
+
+sub-put-others : tie.Need-sub-put-others
+sub-put-others c = search needs
+
+part-put-others-start : tie.Need-part-put-others-start
+part-put-others-start c = search needs
+
+part-put-others-end : tie.Need-part-put-others-end
+part-put-others-end c = search needs
+
+put-others-requires : tie.Need-put-others-requires
+unfolding headersText
+put-others-requires c κs =
+    let b = now (c .before .before .before .before .before .before .before .before .before .args .b) in
+    room-after (linesOf 0 (headersOf b)) (c .before .before .before .put-leading .ensures) (c .before .before .before .before .before .before .before .before .before .pre .1)
+
+add-result : tie.Need-add-result
+add-result c = search needs
+
+same-length : tie.Need-same-length
+same-length c = search needs
+
+returns : tie.Need-returns
+unfolding headersText
+returns c =
+    then (c .before .before .before .before .before .before .put-leading .ensures) (c .before .before .put-others .ensures)
+
+pub put-headers-spec : {M : Type 1} → statement M
+put-headers-spec =
+    tie.close
+    (tie.spec
+    leading-places-requires
+    slice-aggregate-put-leading
+    put-leading-requires
+    sub-put-others
+    part-put-others-start
+    part-put-others-end
+    put-others-requires
+    add-result
+    same-length
+    returns)

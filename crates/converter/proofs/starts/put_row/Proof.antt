@@ -1,0 +1,89 @@
+-- |, the cells and what ends the row: room for the row is room for each piece.
+-- Assumes nothing.
+use Prim.Native.Nat.{_+_}
+use mathlib.Core.List.{[], _∷_, _++_}
+use borrow.Author.Needs.{needs}
+use Rattle.lent.proofs.Writes.{then}
+use Rattle.spell.specs.Spell.{spelled}
+use Rattle.spell.specs.Tables.{numerals}
+use Rattle.converter.specs.Diagrams.{cellsText, rowText}
+use Rattle.converter.proofs.starts.put_row.Statement.{statement}
+use Rattle.converter.proofs.starts.put_row.Tie as tie
+use Rattle.converter.proofs.Room.{room-front, room-after, first-of}
+
+slice-aggregate-put-bytes : tie.Need-slice-aggregate-put-bytes
+slice-aggregate-put-bytes c = search needs
+
+put-bytes-requires : tie.Need-put-bytes-requires
+put-bytes-requires c κs = search needs
+
+sub-put-cells : tie.Need-sub-put-cells
+sub-put-cells c = search needs
+
+part-put-cells-start : tie.Need-part-put-cells-start
+part-put-cells-start c = search needs
+
+part-put-cells-end : tie.Need-part-put-cells-end
+part-put-cells-end c = search needs
+
+put-cells-requires : tie.Need-put-cells-requires
+unfolding rowText
+put-cells-requires c κs =
+    let a = c .before .before .before .before .before .before .before .before .args in
+    let t = cellsText (a .cells .now) (a .rank) in
+    let h = room-front ((124 ∷ []) ++ t) (((124 ∷ []) ++ spelled numerals (a .rank + 1)) ++ (10 ∷ [])) (c .before .before .before .before .before .before .before .before .pre .1) in
+    (c .before .before .before .before .before .before .before .before .pre .0, room-after t (first-of (124 ∷ []) t h (c .before .before .before .put-bytes .ensures)) h)
+
+add-m : tie.Need-add-m
+add-m c = search needs
+
+sub-put-row-end : tie.Need-sub-put-row-end
+sub-put-row-end c = search needs
+
+part-put-row-end-start : tie.Need-part-put-row-end-start
+part-put-row-end-start c = search needs
+
+part-put-row-end-end : tie.Need-part-put-row-end-end
+part-put-row-end-end c = search needs
+
+put-row-end-requires : tie.Need-put-row-end-requires
+unfolding rowText
+put-row-end-requires c κs =
+    let a = c .before .before .before .before .before .before .before .before .before .before .before .before .args in
+    let t = cellsText (a .cells .now) (a .rank) in
+    let e = ((124 ∷ []) ++ spelled numerals (a .rank + 1)) ++ (10 ∷ []) in
+    let h = c .before .before .before .before .before .before .before .before .before .before .before .before .pre .1 in
+    (c .before .before .before .before .before .before .before .before .before .before .before .before .pre .0, room-after e (then (first-of (124 ∷ []) t (room-front ((124 ∷ []) ++ t) e h) (c .before .before .before .before .before .before .before .put-bytes .ensures)) (c .before .before .before .put-cells .ensures)) h)
+
+add-result : tie.Need-add-result
+add-result c = search needs
+
+same-length : tie.Need-same-length
+same-length c = search needs
+
+returns : tie.Need-returns
+unfolding rowText
+returns c =
+    let a = c .before .before .before .before .before .before .before .before .before .before .before .before .before .before .before .args in
+    let t = cellsText (a .cells .now) (a .rank) in
+    let h = room-front ((124 ∷ []) ++ t) (((124 ∷ []) ++ spelled numerals (a .rank + 1)) ++ (10 ∷ [])) (c .before .before .before .before .before .before .before .before .before .before .before .before .before .before .before .pre .1) in
+    then (then (first-of (124 ∷ []) t h (c .before .before .before .before .before .before .before .before .before .before .put-bytes .ensures)) (c .before .before .before .before .before .before .put-cells .ensures)) (c .before .before .put-row-end .ensures)
+
+pub put-row-spec : {M : Type 1} → statement M
+put-row-spec =
+    tie.close
+    (tie.spec
+    slice-aggregate-put-bytes
+    put-bytes-requires
+    sub-put-cells
+    part-put-cells-start
+    part-put-cells-end
+    put-cells-requires
+    add-m
+    sub-put-row-end
+    part-put-row-end-start
+    part-put-row-end-end
+    put-row-end-requires
+    add-result
+    same-length
+    returns)

@@ -1,0 +1,5 @@
+pub mod Headers
+pub mod Diagrams
+pub mod Entries
+pub mod Show
+pub mod Writing

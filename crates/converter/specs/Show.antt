@@ -1,0 +1,124 @@
+-- The text of a record, or why there is none.                                                         (01, Writing, and what is lost)
+-- Assumes nothing: these are definitions.
+use Prim.Native.Nat.{ℕ, zero, suc, _+_, _-_, _/_, _%_, _≤_}
+use mathlib.Core.Path.{_≡_}
+use mathlib.Core.List.{List, [], _∷_, _++_}
+use lib.ListN.{length, drop, getD}
+use lib.Dec.{eqb, ltb}
+use Rattle.lists.specs.Pick.{pick}
+use Rattle.lent.specs.Numbers.{decimal}
+use Rattle.jkf.specs.declared.Answer.{Answer}
+use Rattle.jkf.specs.declared.Answer.the-variants.{HandCount, CannotWrite}
+use Rattle.jkf.specs.declared.Position.{Position}
+use Rattle.block.specs.Model.{Noted, Line, Record}
+use Rattle.block.specs.Encode.{concat}
+use Rattle.block.specs.Decode.{run, linesIn, lineIn}
+use Rattle.block.specs.Sound.{Sound}
+use Rattle.converter.specs.Headers.{headersText}
+use Rattle.converter.specs.Diagrams.{positionText}
+use Rattle.converter.specs.Entries.{remarksText, entriesText, canWrite}
+use Rattle.converter.specs.declared.Obstacle.{Obstacle}
+use Rattle.converter.specs.declared.Obstacle.the-variants.{At, Clear}
+
+-- ---- the lines
+
+-- 手数----指手---------消費時間--
+abbrev pub numberLine : List ℕ
+numberLine =
+    230 ∷ 137 ∷ 139 ∷ 230 ∷ 149 ∷ 176 ∷ 45 ∷ 45 ∷ 45 ∷ 45 ∷ 230 ∷ 140 ∷ 135 ∷ 230 ∷ 137 ∷ 139 ∷ 45 ∷ 45 ∷ 45 ∷ 45 ∷ 45 ∷ 45 ∷ 45 ∷ 45 ∷ 45 ∷ 230 ∷ 182 ∷ 136 ∷ 232 ∷ 178 ∷ 187 ∷ 230 ∷ 153 ∷ 130 ∷ 233 ∷ 150 ∷ 147 ∷ 45 ∷ 45 ∷ 10 ∷ []
+
+-- 変化：
+abbrev pub variationTag : List ℕ
+variationTag = 229 ∷ 164 ∷ 137 ∷ 229 ∷ 140 ∷ 150 ∷ 239 ∷ 188 ∷ 154 ∷ []
+
+-- 手 and LF
+abbrev pub plyTag : List ℕ
+plyTag = 230 ∷ 137 ∷ 139 ∷ 10 ∷ []
+
+abbrev pub slotComments : List Noted → List (List ℕ)
+slotComments [] = []
+slotComments (e ∷ es) = e .comments
+
+-- Line 0: the comments of its slot, then its entries from 1 on.
+unfoldable pub mainText : Line → List ℕ
+mainText l = remarksText (slotComments (l .entries)) ++ entriesText 1 (drop 1 (l .entries))
+
+-- An empty line and 変化：n手.
+unfoldable pub variationHead : ℕ → List ℕ
+variationHead start = (((10 ∷ []) ++ variationTag) ++ decimal start) ++ plyTag
+
+-- A later line.
+unfoldable pub variationText : Line → List ℕ
+variationText l = variationHead (l .start) ++ entriesText (l .start) (l .entries)
+
+-- The variations before the first with start 0; that one and all after it are left out.
+unfoldable pub shown : List Line → List Line
+shown [] = []
+shown (l ∷ ls) = let r = shown ls in pick (eqb (l .start) 0) [] (l ∷ r)
+
+-- The 手数 line, line 0, and the later lines in their order.                                          (the Rust's write_moves)
+unfoldable pub linesText : List Line → List ℕ
+linesText [] = []
+linesText (l ∷ ls) = (numberLine ++ mainText l) ++ concat variationText (shown ls)
+
+unfoldable pub leftOut : List Line → ℕ
+leftOut [] = 0
+leftOut (l ∷ ls) = length ls - length (shown ls)
+
+unfoldable pub recordText : Record → List ℕ
+recordText r = (headersText (r .headers) ++ positionText (r .position)) ++ linesText (r .lines)
+
+-- ---- what stands in the way
+
+abbrev pub onObstacle : {A : Type 0} → Obstacle → (ℕ → ℕ → A) → A → A
+onObstacle (At a b) f d = f a b
+onObstacle Clear f d = d
+
+-- The first of n hand counts from the i-th on that is over 99: its side, and its kind from 0.          (01, Numbers of refusal: 8)
+unfoldable pub handObstacle : List ℕ → ℕ → ℕ → Obstacle
+handObstacle hands i zero = Clear
+handObstacle hands i (suc n) =
+    let r = handObstacle hands (i + 1) n in pick (ltb 99 (getD hands i 0)) (At (i / 7) (i % 7)) r
+
+-- Counts are looked at where there is a diagram.
+unfoldable pub handsObstacle : Position → Obstacle
+handsObstacle p = pick (eqb (p .board) 0) Clear (handObstacle (p .hands) 0 14)
+
+-- The first entry of a line, counted from i on, that cannot be written.                                (01, Numbers of refusal: 9)
+unfoldable pub entryObstacle : ℕ → ℕ → List Noted → Obstacle
+entryObstacle line i [] = Clear
+entryObstacle line i (e ∷ es) = let r = entryObstacle line (i + 1) es in pick (canWrite (e .what)) r (At line i)
+
+-- The first in some lines, counted from k on.
+unfoldable pub lineObstacle : ℕ → List Line → Obstacle
+lineObstacle k [] = Clear
+lineObstacle k (l ∷ ls) = let r = lineObstacle (k + 1) ls in onObstacle (entryObstacle k 0 (l .entries)) (λ a b. At a b) r
+
+-- Lines that are left out are not looked at.
+unfoldable pub linesObstacle : List Line → Obstacle
+linesObstacle [] = Clear
+linesObstacle (l ∷ ls) = lineObstacle 0 (l ∷ shown ls)
+
+-- ---- the whole
+
+-- A text and how many lines it leaves out, or a refusal.
+pub data Shown : Type 0 where
+  text : List ℕ → ℕ → Shown
+  refused : Answer → Shown
+
+-- The entries.
+unfoldable pub showLines : Record → Shown
+showLines r = onObstacle (linesObstacle (r .lines)) (λ line entry. refused (CannotWrite line entry)) (text (recordText r) (leftOut (r .lines)))
+
+-- The hands before the entries.                                                                        (01, Numbers of refusal: order)
+unfoldable pub show : Record → Shown
+show r = let s = showLines r in onObstacle (handsObstacle (r .position)) (λ side kind. refused (HandCount side kind)) s
+
+-- ---- on the way
+
+-- The first n lines of a sound block are those that are shown.
+pub record ShownLines (b : List ℕ) (n : ℕ) : Type 0 where
+  pub sound : Sound b
+  pub some : 1 ≤ n
+  pub most : n ≤ linesIn b
+  pub later : shown (run (lineIn b) 1 (linesIn b - 1)) ≡ run (lineIn b) 1 (n - 1)

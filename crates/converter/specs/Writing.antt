@@ -1,0 +1,27 @@
+-- What `write` answers, and what the lent buffer then holds.                                          (01, Numbers of refusal)
+-- Assumes nothing: these are definitions.
+use Prim.Native.Nat.{ℕ}
+use mathlib.Core.List.{List, _++_}
+use lib.ListN.{length, drop}
+use lib.Dec.{ltb}
+use Rattle.lists.specs.Pick.{pick}
+use Rattle.jkf.specs.Answers.{Outcome, refuse}
+use Rattle.jkf.specs.declared.Answer.the-variants.{Done, BufferShort, NotSound}
+use Rattle.block.specs.Decode.{decode}
+use Rattle.block.specs.Sound.{soundb}
+use Rattle.converter.specs.Show.{Shown, text, refused, show}
+
+-- A text that fits stands at the front of the buffer, and nothing past it changes.
+unfoldable pub filledWith : List ℕ → ℕ → List ℕ → Outcome
+filledWith t left o =
+    pick (ltb (length o) (length t))
+    (refuse (BufferShort (length t)) o)
+    (record { answer = Done (length t) left; buffer = t ++ drop (length t) o })
+
+unfoldable pub shownOf : Shown → List ℕ → Outcome
+shownOf (text t left) o = filledWith t left o
+shownOf (refused a) o = refuse a o
+
+-- Refusal 7, then 8 and 9, then 5.                                                                     (01, Numbers of refusal: order)
+unfoldable pub writeOf : List ℕ → List ℕ → Outcome
+writeOf b o = let r = shownOf (show (decode b)) o in pick (soundb b) r (refuse NotSound o)

@@ -1,0 +1,140 @@
+// What cannot be written, and which lines are shown.
+use crate::Obstacle;
+use crate::kif::move_width;
+use jkf::Entry;
+use jkf::Move;
+use jkf::Position;
+use jkf::Target;
+use jkf::Time;
+ghost use mathlib.Core.Path.{_≡_};
+ghost use Prim.Native.Nat.{_+_, _≤_, _<_};
+ghost use Rattle.block.specs.Decode.{run, movesIn, notedIn, decode};
+ghost use Rattle.block.specs.Sound.{Sound};
+ghost use Rattle.converter.specs.Entries.{within, targetFits, timeFits, canWrite};
+ghost use Rattle.converter.specs.Show.{handObstacle, handsObstacle, entryObstacle, linesObstacle, ShownLines};
+
+// The first hand count over 99.
+fn hand_obstacle(hands: &[u8]) -> Obstacle
+    ensures { λ r. ⌜ r ≡ handObstacle (now (hands .entry)) 0 14 ⌝ }
+{
+    let mut i: u64 = 0;
+    while i < 14 {
+        if 99 < lent::peek(hands, i as usize) {
+            return Obstacle::At(i / 7, i % 7);
+        }
+        i += 1;
+    }
+    Obstacle::Clear
+}
+
+// The same, where there is a diagram.
+pub(crate) fn hands_obstacle(p: Position) -> Obstacle
+    ensures { λ r. ⌜ r ≡ handsObstacle p ⌝ }
+{
+    let hands = p.hands;
+    if p.board == 0 {
+        return Obstacle::Clear;
+    }
+    hand_obstacle(&hands)
+}
+
+pub(crate) fn within(x: u8) -> bool
+    ensures { λ r. ⌜ r ≡ within x ⌝ }
+{
+    if x < 1 {
+        return false;
+    }
+    x <= 9
+}
+
+fn target_fits(to: Target) -> bool
+    ensures { λ r. ⌜ r ≡ targetFits to ⌝ }
+{
+    match to {
+        Target::Same => true,
+        Target::Square(x, y) => {
+            if within(x) {
+                return within(y);
+            }
+            false
+        }
+    }
+}
+
+fn time_fits(width: usize, time: Time) -> bool
+    ensures { λ r. ⌜ r ≡ timeFits width time ⌝ }
+{
+    match time {
+        Time::Untimed => true,
+        Time::Timed(_, _) => width <= 13,
+    }
+}
+
+fn move_fits(m: Move) -> bool
+    ensures { λ r. ⌜ r ≡ canWrite (Entry.Play m) ⌝ }
+{
+    let to = m.to;
+    let time = m.time;
+    if target_fits(to) {
+        return time_fits(move_width(m), time);
+    }
+    false
+}
+
+fn can_write(e: Entry) -> bool
+    ensures { λ r. ⌜ r ≡ canWrite e ⌝ }
+{
+    match e {
+        Entry::Slot => true,
+        Entry::Play(m) => move_fits(m),
+        Entry::End(_, _) => true,
+    }
+}
+
+// The first of a line's entries that cannot be written.
+fn entry_obstacle(b: &[u8], line: usize, first: usize, count: usize) -> Obstacle
+    requires { ⌜ first + count < 65536 ⌝ }
+    ensures { λ r. ⌜ r ≡ entryObstacle line 0 (run (notedIn (now (b .entry))) first count) ⌝ }
+{
+    let mut i = 0;
+    while i < count {
+        if !can_write(block::entry_of(b, (first + i) as u16)) {
+            return Obstacle::At(line as u64, i as u64);
+        }
+        i += 1;
+    }
+    Obstacle::Clear
+}
+
+// The first in the lines that are shown.
+pub(crate) fn lines_obstacle(b: &[u8], lines: usize) -> Obstacle
+    requires { ⌜ ShownLines (now b) lines ⌝ }
+    ensures { λ r. ⌜ r ≡ linesObstacle (decode (now (b .entry)) .lines) ⌝ }
+{
+    let mut k = 0;
+    while k < lines {
+        let i = k as u16;
+        let found = entry_obstacle(b, k, block::first_entry(b, i), block::entry_count(b, i));
+        if let Obstacle::At(line, entry) = found {
+            return Obstacle::At(line, entry);
+        }
+        k += 1;
+    }
+    Obstacle::Clear
+}
+
+// How many lines are shown: those before the first variation that starts at 0.
+pub(crate) fn shown_lines(b: &[u8]) -> usize
+    requires { ⌜ Sound (now b) ⌝ }
+    ensures { λ r. ⌜ ShownLines (now (b .entry)) r ⌝ }
+{
+    let count = block::lines_in(b);
+    let mut k = 1;
+    while k < count {
+        if block::start_of(b, k as u16) == 0 {
+            return k;
+        }
+        k += 1;
+    }
+    k
+}

@@ -1,0 +1,380 @@
+// Lines of play as they are written.   (the Rust's src/converter/kif.rs)
+use jkf::Clock;
+use jkf::Entry;
+use jkf::Move;
+use jkf::Origin;
+use jkf::Target;
+use jkf::Time;
+ghost use mathlib.Core.Path.{_≡_};
+ghost use mathlib.Core.List.{[], _∷_, _++_};
+ghost use Prim.Native.Nat.{_+_, _-_, _≤_, _<_};
+ghost use lib.ListN.{length};
+ghost use Rattle.lent.specs.Bytes.{Wrote};
+ghost use Rattle.lent.specs.Numbers.{decimal, padded};
+ghost use Rattle.jkf.specs.Entries.{specialOf};
+ghost use Rattle.block.specs.Encode.{concat};
+ghost use Rattle.block.specs.Decode.{run, movesIn, linesIn, commentOf, notedIn, lineIn, decode};
+ghost use Rattle.block.specs.Sound.{Sound};
+ghost use Rattle.converter.specs.Entries.{targetText, promoteText, originText, moveText, kindWidth, promoteWidth, originWidth, moveWidth, specialWidth, hour, minute, second, figureText, nowText, totalText, padding, timeText, playText, widthOf, entryLine, starText, remarkText, remarksText, notedText, entriesText};
+ghost use Rattle.converter.specs.Show.{mainText, variationHead, variationText, linesText, ShownLines};
+
+// 同 and a wide space, or a file and a rank.
+fn put_target(out: &mut [u8], to: Target) -> usize
+    requires { ⌜ length (targetText to) ≤ length (now out) ⌝ }
+    ensures { λ r. ⌜ Wrote (targetText to) (now (out .entry)) (now (out .exit)) r ⌝ }
+{
+    match to {
+        Target::Same => lent::put_bytes(out, b"\xe5\x90\x8c\xe3\x80\x80"),
+        Target::Square(x, y) => {
+            let n = spell::put_file(out, x);
+            n + spell::put_numeral(&mut out[n..], y)
+        }
+    }
+}
+
+fn put_promote(out: &mut [u8], promote: u8) -> usize
+    requires { ⌜ length (promoteText promote) ≤ length (now out) ⌝ }
+    ensures { λ r. ⌜ Wrote (promoteText promote) (now (out .entry)) (now (out .exit)) r ⌝ }
+{
+    if promote != 2 {
+        return 0;
+    }
+    lent::put_bytes(out, b"\xe6\x88\x90")
+}
+
+// An origin in brackets.
+fn put_from(out: &mut [u8], x: u8, y: u8) -> usize
+    requires { ⌜ length ((((40 ∷ []) ++ decimal x) ++ decimal y) ++ (41 ∷ [])) ≤ length (now out) ⌝ }
+    ensures { λ r. ⌜ Wrote ((((40 ∷ []) ++ decimal x) ++ decimal y) ++ (41 ∷ [])) (now (out .entry)) (now (out .exit)) r ⌝ }
+{
+    let n = lent::put_bytes(out, b"(");
+    let m = n + lent::put_decimal(&mut out[n..], x as u64);
+    let e = m + lent::put_decimal(&mut out[m..], y as u64);
+    e + lent::put_bytes(&mut out[e..], b")")
+}
+
+fn put_origin(out: &mut [u8], from: Origin) -> usize
+    requires { ⌜ length (originText from) ≤ length (now out) ⌝ }
+    ensures { λ r. ⌜ Wrote (originText from) (now (out .entry)) (now (out .exit)) r ⌝ }
+{
+    match from {
+        Origin::Unknown => lent::put_bytes(out, b"\xe6\x89\x93"),
+        Origin::From(x, y) => put_from(out, x, y),
+    }
+}
+
+fn put_move(out: &mut [u8], m: Move) -> usize
+    requires { ⌜ length (moveText m) ≤ length (now out) ⌝ }
+    ensures { λ r. ⌜ Wrote (moveText m) (now (out .entry)) (now (out .exit)) r ⌝ }
+{
+    let to = m.to;
+    let from = m.from;
+    let a = put_target(out, to);
+    let b = a + spell::put_kind(&mut out[a..], m.piece);
+    let c = b + put_promote(&mut out[b..], m.promote);
+    c + put_origin(&mut out[c..], from)
+}
+
+// The move or ending of an entry.
+fn put_play(out: &mut [u8], e: Entry) -> usize
+    requires { ⌜ length (playText e) ≤ length (now out) ⌝ }
+    ensures { λ r. ⌜ Wrote (playText e) (now (out .entry)) (now (out .exit)) r ⌝ }
+{
+    match e {
+        Entry::Slot => 0,
+        Entry::Play(m) => put_move(out, m),
+        Entry::End(s, _) => spell::put_special(out, jkf::number_of(s)),
+    }
+}
+
+fn kind_width(kind: u8) -> usize
+    ensures { λ r. ⌜ r ≡ kindWidth kind ⌝ }
+{
+    if kind < 10 {
+        return 2;
+    }
+    if kind <= 12 { 4 } else { 2 }
+}
+
+fn promote_width(promote: u8) -> usize
+    ensures { λ r. ⌜ r ≡ promoteWidth promote ⌝ }
+{
+    if promote == 2 { 2 } else { 0 }
+}
+
+fn origin_width(from: Origin) -> usize
+    ensures { λ r. ⌜ r ≡ originWidth from ⌝ }
+{
+    match from {
+        Origin::Unknown => 2,
+        Origin::From(_, _) => 4,
+    }
+}
+
+// How wide a move is on the page.   (the Rust's offset)
+pub(crate) fn move_width(m: Move) -> usize
+    ensures { λ r. ⌜ (r ≡ moveWidth m) × (r ≤ 14) ⌝ }
+{
+    let from = m.from;
+    4 + kind_width(m.piece) + promote_width(m.promote) + origin_width(from)
+}
+
+// How wide a special is, by its number: 中断, and what is written so, counts nothing.
+fn special_width(n: u8) -> usize
+    ensures { λ r. ⌜ (r ≡ specialWidth (specialOf n)) × (r ≤ 8) ⌝ }
+{
+    match n {
+        0 => 4,
+        2 => 6,
+        3 => 8,
+        4 => 8,
+        7 => 6,
+        8 => 8,
+        11 => 4,
+        _ => 0,
+    }
+}
+
+pub(crate) fn width_of(e: Entry) -> usize
+    ensures { λ r. ⌜ (r ≡ widthOf e) × (r ≤ 14) ⌝ }
+{
+    match e {
+        Entry::Slot => 0,
+        Entry::Play(m) => move_width(m),
+        Entry::End(s, _) => special_width(jkf::number_of(s)),
+    }
+}
+
+// A number to two places and the byte after it.
+fn put_figure(out: &mut [u8], fill: u8, after: u8, v: u8) -> usize
+    requires { ⌜ length (figureText fill after v) ≤ length (now out) ⌝ }
+    ensures { λ r. ⌜ Wrote (figureText fill after v) (now (out .entry)) (now (out .exit)) r ⌝ }
+{
+    let n = lent::put_padded(out, v as u64, 2, fill);
+    n + lent::put_bytes(&mut out[n..], &[after])
+}
+
+pub(crate) fn hour(c: Clock) -> u8
+    ensures { λ r. ⌜ r ≡ hour c ⌝ }
+{
+    match c {
+        Clock::Hms(h, _, _) => h,
+        Clock::Ms(_, _) => 0,
+    }
+}
+
+pub(crate) fn minute(c: Clock) -> u8
+    ensures { λ r. ⌜ r ≡ minute c ⌝ }
+{
+    match c {
+        Clock::Hms(_, m, _) => m,
+        Clock::Ms(m, _) => m,
+    }
+}
+
+pub(crate) fn second(c: Clock) -> u8
+    ensures { λ r. ⌜ r ≡ second c ⌝ }
+{
+    match c {
+        Clock::Hms(_, _, s) => s,
+        Clock::Ms(_, s) => s,
+    }
+}
+
+// What the move took.
+fn put_now(out: &mut [u8], c: Clock) -> usize
+    requires { ⌜ length (nowText c) ≤ length (now out) ⌝ }
+    ensures { λ r. ⌜ Wrote (nowText c) (now (out .entry)) (now (out .exit)) r ⌝ }
+{
+    let n = lent::put_bytes(out, b"(");
+    let m = n + put_figure(&mut out[n..], b' ', b':', minute(c));
+    m + put_figure(&mut out[m..], b'0', b'/', second(c))
+}
+
+fn put_total(out: &mut [u8], c: Clock) -> usize
+    requires { ⌜ length (totalText c) ≤ length (now out) ⌝ }
+    ensures { λ r. ⌜ Wrote (totalText c) (now (out .entry)) (now (out .exit)) r ⌝ }
+{
+    let n = put_figure(out, b'0', b':', hour(c));
+    let m = n + put_figure(&mut out[n..], b'0', b':', minute(c));
+    m + put_figure(&mut out[m..], b'0', b')', second(c))
+}
+
+// A time, padded by 13 less the width before it.
+fn put_time(out: &mut [u8], width: usize, time: Time) -> usize
+    requires { ⌜ (width ≤ 14) × (length (timeText width time) ≤ length (now out)) ⌝ }
+    ensures { λ r. ⌜ Wrote (timeText width time) (now (out .entry)) (now (out .exit)) r ⌝ }
+{
+    match time {
+        Time::Untimed => 0,
+        Time::Timed(now, total) => {
+            let n = put_padding(out, width);
+            let m = n + put_now(&mut out[n..], now);
+            m + put_total(&mut out[m..], total)
+        }
+    }
+}
+
+fn put_padding(out: &mut [u8], width: usize) -> usize
+    requires { ⌜ length (padding width) ≤ length (now out) ⌝ }
+    ensures { λ r. ⌜ Wrote (padding width) (now (out .entry)) (now (out .exit)) r ⌝ }
+{
+    if 13 <= width {
+        return 0;
+    }
+    lent::put_run(out, b' ', 13 - width)
+}
+
+// A ply to four places and a space.
+fn put_ply(out: &mut [u8], ply: usize) -> usize
+    requires { ⌜ length (padded 4 32 ply ++ (32 ∷ [])) ≤ length (now out) ⌝ }
+    ensures { λ r. ⌜ Wrote (padded 4 32 ply ++ (32 ∷ [])) (now (out .entry)) (now (out .exit)) r ⌝ }
+{
+    let n = lent::put_padded(out, ply as u64, 4, b' ');
+    n + lent::put_bytes(&mut out[n..], b" ")
+}
+
+// The line of an entry.
+fn put_entry_line(out: &mut [u8], ply: usize, e: Entry) -> usize
+    requires { ⌜ length (entryLine ply e) ≤ length (now out) ⌝ }
+    ensures { λ r. ⌜ Wrote (entryLine ply e) (now (out .entry)) (now (out .exit)) r ⌝ }
+{
+    let a = put_ply(out, ply);
+    let b = a + put_play(&mut out[a..], e);
+    let c = b + put_time(&mut out[b..], width_of(e), jkf::time_of(e));
+    c + lent::put_bytes(&mut out[c..], b"\n")
+}
+
+// * before a comment that does not begin with &.
+fn put_star(out: &mut [u8], c: &[u8]) -> usize
+    requires { ⌜ length (starText (now c)) ≤ length (now out) ⌝ }
+    ensures { λ r. ⌜ Wrote (starText (now (c .entry))) (now (out .entry)) (now (out .exit)) r ⌝ }
+{
+    if lent::peek(c, 0) == b'&' {
+        return 0;
+    }
+    lent::put_bytes(out, b"*")
+}
+
+// The line of a comment.
+fn put_remark(out: &mut [u8], c: &[u8]) -> usize
+    requires { ⌜ length (remarkText (now c)) ≤ length (now out) ⌝ }
+    ensures { λ r. ⌜ Wrote (remarkText (now (c .entry))) (now (out .entry)) (now (out .exit)) r ⌝ }
+{
+    let n = put_star(out, c);
+    let m = n + lent::put_bytes(&mut out[n..], c);
+    m + lent::put_bytes(&mut out[m..], b"\n")
+}
+
+// So many comments of a block from one on.
+fn put_remarks(out: &mut [u8], b: &[u8], first: usize, count: usize) -> usize
+    requires { ⌜ (first + count < 65536) × (length (remarksText (run (commentOf (now b)) first count)) ≤ length (now out)) ⌝ }
+    ensures { λ r. ⌜ Wrote (remarksText (run (commentOf (now (b .entry))) first count)) (now (out .entry)) (now (out .exit)) r ⌝ }
+{
+    let mut at = 0;
+    let mut i = 0;
+    while i < count {
+        at += put_remark(&mut out[at..], block::comment_of(b, (first + i) as u16));
+        i += 1;
+    }
+    at
+}
+
+// The comments of entry k.
+fn put_comments(out: &mut [u8], b: &[u8], k: usize) -> usize
+    requires { ⌜ Sound (now b) × (k < movesIn (now b)) × (length (remarksText (notedIn (now b) k .comments)) ≤ length (now out)) ⌝ }
+    ensures { λ r. ⌜ Wrote (remarksText (notedIn (now (b .entry)) k .comments)) (now (out .entry)) (now (out .exit)) r ⌝ }
+{
+    let i = k as u16;
+    put_remarks(
+        out,
+        b,
+        block::first_comment(b, i),
+        block::comment_count(b, i),
+    )
+}
+
+// Entry k with its comments.
+fn put_noted(out: &mut [u8], b: &[u8], ply: usize, k: usize) -> usize
+    requires { ⌜ Sound (now b) × (k < movesIn (now b)) × (length (notedText ply (notedIn (now b) k)) ≤ length (now out)) ⌝ }
+    ensures { λ r. ⌜ Wrote (notedText ply (notedIn (now (b .entry)) k)) (now (out .entry)) (now (out .exit)) r ⌝ }
+{
+    let n = put_entry_line(out, ply, block::entry_of(b, k as u16));
+    n + put_comments(&mut out[n..], b, k)
+}
+
+// So many entries from one on, numbered from a ply on.
+fn put_entries(out: &mut [u8], b: &[u8], ply: usize, first: usize, count: usize) -> usize
+    requires { ⌜ Sound (now b) × (first + count ≤ movesIn (now b)) × (ply < 65536) × (length (entriesText ply (run (notedIn (now b)) first count)) ≤ length (now out)) ⌝ }
+    ensures { λ r. ⌜ Wrote (entriesText ply (run (notedIn (now (b .entry))) first count)) (now (out .entry)) (now (out .exit)) r ⌝ }
+{
+    let mut at = 0;
+    let mut i = 0;
+    while i < count {
+        at += put_noted(&mut out[at..], b, ply + i, first + i);
+        i += 1;
+    }
+    at
+}
+
+// What stands above a variation.
+fn put_variation_head(out: &mut [u8], start: usize) -> usize
+    requires { ⌜ length (variationHead start) ≤ length (now out) ⌝ }
+    ensures { λ r. ⌜ Wrote (variationHead start) (now (out .entry)) (now (out .exit)) r ⌝ }
+{
+    let n = lent::put_bytes(out, b"\n\xe5\xa4\x89\xe5\x8c\x96\xef\xbc\x9a");
+    let m = n + lent::put_decimal(&mut out[n..], start as u64);
+    m + lent::put_bytes(&mut out[m..], b"\xe6\x89\x8b\n")
+}
+
+// Line k, which is a variation.
+fn put_variation(out: &mut [u8], b: &[u8], k: usize) -> usize
+    requires { ⌜ Sound (now b) × (k < linesIn (now b)) × (length (variationText (lineIn (now b) k)) ≤ length (now out)) ⌝ }
+    ensures { λ r. ⌜ Wrote (variationText (lineIn (now (b .entry)) k)) (now (out .entry)) (now (out .exit)) r ⌝ }
+{
+    let i = k as u16;
+    let start = block::start_of(b, i);
+    let n = put_variation_head(out, start);
+    n
+        + put_entries(
+            &mut out[n..],
+            b,
+            start,
+            block::first_entry(b, i),
+            block::entry_count(b, i),
+        )
+}
+
+// Line k and those after it, of which n are still to come.   (the Rust's write_move_lines)
+fn put_variations(out: &mut [u8], b: &[u8], k: usize, n: usize) -> usize
+    requires { ⌜ Sound (now b) × (k + n ≤ linesIn (now b)) × (length (concat variationText (run (lineIn (now b)) k n)) ≤ length (now out)) ⌝ }
+    ensures { λ r. ⌜ Wrote (concat variationText (run (lineIn (now (b .entry))) k n)) (now (out .entry)) (now (out .exit)) r ⌝ }
+{
+    if n == 0 {
+        return 0;
+    }
+    let m = put_variation(out, b, k);
+    m + put_variations(&mut out[m..], b, k + 1, n - 1)
+}
+
+// Line 0: the comments of its slot, and its entries from 1 on.
+fn put_main(out: &mut [u8], b: &[u8]) -> usize
+    requires { ⌜ Sound (now b) × (length (mainText (lineIn (now b) 0)) ≤ length (now out)) ⌝ }
+    ensures { λ r. ⌜ Wrote (mainText (lineIn (now (b .entry)) 0)) (now (out .entry)) (now (out .exit)) r ⌝ }
+{
+    let n = put_comments(out, b, 0);
+    n + put_entries(&mut out[n..], b, 1, 1, block::entry_count(b, 0) - 1)
+}
+
+// The lines that are shown.   (the Rust's write_moves)
+pub(crate) fn put_moves(out: &mut [u8], b: &[u8], lines: usize) -> usize
+    requires { ⌜ ShownLines (now b) lines × (length (linesText (decode (now b) .lines)) ≤ length (now out)) ⌝ }
+    ensures { λ r. ⌜ Wrote (linesText (decode (now (b .entry)) .lines)) (now (out .entry)) (now (out .exit)) r ⌝ }
+{
+    let n = lent::put_bytes(
+        out,
+        b"\xe6\x89\x8b\xe6\x95\xb0----\xe6\x8c\x87\xe6\x89\x8b---------\xe6\xb6\x88\xe8\xb2\xbb\xe6\x99\x82\xe9\x96\x93--\n",
+    );
+    let m = n + put_main(&mut out[n..], b);
+    m + put_variations(&mut out[m..], b, 1, lines - 1)
+}

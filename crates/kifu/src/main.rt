@@ -1,0 +1,157 @@
+// The command-line tool: reads the file that it is given, and prints or writes what its first word asks for.
+// A program has no exit status of its own. So what it says on standard error begins with `kifu: refused`, `kifu: usage` or `kifu: note`,
+// and the launcher turns the first of them into the status.
+mod files;
+mod losses;
+mod notes;
+mod refusals;
+mod words;
+
+use libc::STDOUT_FILENO;
+use notes::say_two;
+use words::Word;
+
+// Says so where standard output did not take all, and hands that on.
+fn told(is_written: bool) -> bool {
+    if !is_written {
+        os::fail(b"kifu: refused: standard output");
+    }
+    is_written
+}
+
+// How many bytes of a text of this length were left.
+fn left(len: u64, taken: u64) -> u64 {
+    if taken <= len { len - taken } else { 0 }
+}
+
+// Prints a block as a text, and says what is lost by that. There is room for the longest text: an entry of 20 bytes gives at most 65.
+fn print_text(name: &[u8], b: &[u8]) -> bool {
+    let mut out = [0u8; 220000];
+    let f = jkf::figures_of(converter::write(b, &mut out));
+    if f.number != 0 {
+        refusals::tell(name, f);
+        return false;
+    }
+    if !told(io::write_all(STDOUT_FILENO, shown::front(&out, f.first as usize))) {
+        return false;
+    }
+    losses::tell(name, b, f.second);
+    true
+}
+
+// Prints what was taken of a text and what it holds.
+fn print_check(taken: u64, left: u64, b: &[u8]) -> bool {
+    say_two(
+        STDOUT_FILENO,
+        b"bytes taken: ",
+        taken,
+        b", left: ",
+        left,
+        b"\n",
+    );
+    say_two(
+        STDOUT_FILENO,
+        b"lines: ",
+        block::lines_in(b) as u64,
+        b", entries: ",
+        block::moves_in(b) as u64,
+        b"\n",
+    )
+}
+
+// Writes a block into the new file that the third word names, and prints how long it is.
+fn keep(taken: u64, b: &[u8]) -> bool {
+    let mut name = io::buffer();
+    let n = os::arg(3, &mut name);
+    if os::errno() != 0 {
+        os::fail(b"kifu: refused: OUT");
+        return false;
+    }
+    if !files::make(&name[..n], b) {
+        return false;
+    }
+    told(shown::print_read(taken, b.len() as u64))
+}
+
+// What is asked of a text that was read into a block; and whether it was done.
+fn answer(word: Word, name: &[u8], left: u64, taken: u64, b: &[u8]) -> bool {
+    match word {
+        Word::List => told(shown::print_listing(taken, b)),
+        Word::Check => told(print_check(taken, left, b)),
+        Word::Block => keep(taken, b),
+        _ => print_text(name, b),
+    }
+}
+
+// What reading left is in the answer to `check`, and else it is a note.
+fn tell_left(word: Word, name: &[u8], left: u64) {
+    match word {
+        Word::Check => (),
+        _ => notes::tell(name, b"bytes at the end that were not read: ", left),
+    }
+}
+
+// Reads a text into a block as long as a block can be, so that no buffer is short.
+fn read(word: Word, name: &[u8], text: &[u8]) {
+    let mut block = [0u8; 65535];
+    let f = jkf::figures_of(parser::read(text, &mut block));
+    if f.number != 0 {
+        refusals::tell(name, f);
+        return;
+    }
+    let left = left(text.len() as u64, f.first);
+    let b = shown::front(&block, f.second as usize);
+    if answer(word, name, left, f.first, b) {
+        tell_left(word, name, left);
+    }
+}
+
+// What is asked of a file: of one byte more than a text or a block may have, so that a longer one is refused and not cut.
+fn obey(word: Word, name: &[u8]) {
+    let mut input = io::large_buffer();
+    let files::Got::Bytes(n) = files::fill(name, &mut input) else {
+        return;
+    };
+    let bytes = shown::front(&input, n);
+    if let Word::Text = word {
+        print_text(name, bytes);
+        return;
+    }
+    read(word, name, bytes);
+}
+
+// The second word is a file's name.
+fn on_file(word: Word) {
+    let mut name = io::buffer();
+    let n = os::arg(2, &mut name);
+    if os::errno() != 0 {
+        os::fail(b"kifu: refused: FILE");
+        return;
+    }
+    obey(word, &name[..n]);
+}
+
+// What the words ask for, where they are as many as they should be.
+fn start(first: &[u8]) {
+    let word = words::word_of(first);
+    if let Word::Unknown = word {
+        words::tell_unknown(first);
+        return;
+    }
+    if os::arg_count() != words::count(word) {
+        words::tell_usage(word);
+        return;
+    }
+    if let Word::Help = word {
+        told(words::print_help());
+        return;
+    }
+    on_file(word);
+}
+
+// The first word says what is asked for.
+fn main() {
+    let mut first = io::buffer();
+    let n = os::arg(1, &mut first);
+    start(&first[..n]);
+}

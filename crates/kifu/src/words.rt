@@ -1,0 +1,104 @@
+// The words that the tool is told by, and how it is used.
+use libc::STDERR_FILENO;
+use libc::STDOUT_FILENO;
+
+// What is asked for.
+pub enum Word {
+    List,
+    Tidy,
+    Block,
+    Text,
+    Check,
+    Help,
+    Unknown,
+}
+
+// What the first word asks for.
+pub(crate) fn word_of(w: &[u8]) -> Word {
+    if check::same(w, b"list") {
+        return Word::List;
+    }
+    if check::same(w, b"tidy") {
+        return Word::Tidy;
+    }
+    if check::same(w, b"block") {
+        return Word::Block;
+    }
+    if check::same(w, b"text") {
+        return Word::Text;
+    }
+    if check::same(w, b"check") {
+        return Word::Check;
+    }
+    if check::same(w, b"help") {
+        return Word::Help;
+    }
+    Word::Unknown
+}
+
+// How many words there are with it, the program's name and itself among them.
+pub(crate) fn count(word: Word) -> usize {
+    match word {
+        Word::Help => 2,
+        Word::Block => 4,
+        _ => 3,
+    }
+}
+
+// How a word is used, in a line.
+fn print_usage(fd: i32, word: Word) -> bool {
+    match word {
+        Word::List => io::write_all(
+            fd,
+            b"kifu list FILE         the lines of play of a KIF file: number, start, entries, parent\n",
+        ),
+        Word::Tidy => io::write_all(
+            fd,
+            b"kifu tidy FILE         the file read and written anew, to standard output\n",
+        ),
+        Word::Block => io::write_all(
+            fd,
+            b"kifu block FILE OUT    the file's block, into the new file OUT\n",
+        ),
+        Word::Text => io::write_all(
+            fd,
+            b"kifu text BLOCK        a block's file as KIF text, to standard output\n",
+        ),
+        Word::Check => io::write_all(
+            fd,
+            b"kifu check FILE        how much of the file was taken, and what it holds\n",
+        ),
+        _ => io::write_all(fd, b"kifu help              these lines\n"),
+    }
+}
+
+// Says how a word is used that came with too few words or too many.
+pub(crate) fn tell_usage(word: Word) {
+    io::write_all(STDERR_FILENO, b"kifu: usage: ");
+    print_usage(STDERR_FILENO, word);
+}
+
+// Says that there is no such word.
+pub(crate) fn tell_unknown(w: &[u8]) {
+    io::write_all(STDERR_FILENO, b"kifu: usage: ");
+    if w.len() == 0 {
+        io::write_all(STDERR_FILENO, b"a word is missing");
+    } else {
+        io::write_all(STDERR_FILENO, b"no such word: ");
+        io::write_all(STDERR_FILENO, w);
+    }
+    io::write_all(
+        STDERR_FILENO,
+        b"; the words are list, tidy, block, text, check and help\n",
+    );
+}
+
+// How each is used.
+pub(crate) fn print_help() -> bool {
+    print_usage(STDOUT_FILENO, Word::List);
+    print_usage(STDOUT_FILENO, Word::Tidy);
+    print_usage(STDOUT_FILENO, Word::Block);
+    print_usage(STDOUT_FILENO, Word::Text);
+    print_usage(STDOUT_FILENO, Word::Check);
+    print_usage(STDOUT_FILENO, Word::Help)
+}

@@ -1,0 +1,22 @@
+// What writing a block answers to a request.
+use crate::request::number;
+use crate::request::put_three;
+use crate::request::rest;
+ghost use Prim.Native.Nat.{_≤_};
+ghost use lib.ListN.{length};
+
+// The number and the figures, and behind them the buffer of the length asked for as writing left it.
+pub(crate) fn write(request: &[u8], out: &mut [u8]) -> usize
+    ensures { λ r. ⌜ r ≤ length (now (out .entry)) ⌝ }
+{
+    let room = number(request, 0) as usize;
+    if out.len() < 24 {
+        return 0;
+    }
+    if out.len() - 24 < room {
+        return 0;
+    }
+    let f = jkf::figures_of(converter::write(rest(request, 8), &mut out[24..24 + room]));
+    put_three(out, f.number, f.first, f.second);
+    24 + room
+}

@@ -1,0 +1,24 @@
+//! A text read and written anew.
+
+use crate::judge::{self, Answer};
+use crate::record::LIMIT;
+
+/// What the original writes of the block that it reads from this input, or the refusal of reading or writing.
+pub fn text(input: &[u8]) -> String {
+    let mut block = vec![0; LIMIT];
+    let read = judge::read(input).deliver(&mut block);
+    if read.number != 0 {
+        return refused(read);
+    }
+    let outcome = judge::write(&block[..read.second as usize]);
+    let mut out = vec![0; outcome.needed().unwrap_or(0)];
+    let written = outcome.deliver(&mut out);
+    if written.number != 0 {
+        return refused(written);
+    }
+    String::from_utf8(out).expect("the original writes UTF-8")
+}
+
+fn refused(Answer { number, first, second }: Answer) -> String {
+    format!("refused {number} {first} {second}\n")
+}
