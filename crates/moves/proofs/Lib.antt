@@ -5,3 +5,4 @@ pub mod Fits
 pub mod Goings
 pub mod Shortcuts
 pub mod Worded
+pub mod Clocking

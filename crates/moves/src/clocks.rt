@@ -7,7 +7,11 @@ use text::Cursor;
 use text::Number;
 use text::Place;
 ghost use mathlib.Core.Path.{_≡_};
+ghost use mathlib.Core.Bool.{true};
+ghost use Prim.Native.Nat.{_+_, _≤_};
+ghost use lib.ListN.{length};
 ghost use Rattle.moves.specs.Moves.{clockAt, spacedAt, clocksAt, timeAt, figureAt};
+ghost use Rattle.moves.specs.Usuals.{Two, valueOf, UsualNow, UsualTotal, Usual};
 
 // A number up to 255 and the colon after it.
 fn figure(c: Cursor, s: &[u8]) -> Number
@@ -81,8 +85,106 @@ pub(crate) fn time(c: Cursor, s: &[u8]) -> Timing
         time: Time::Untimed,
         next: c,
     };
+    if is_usual(s, c.at) {
+        return usual(s, c.at);
+    }
     let Place::Past(inside) = c.tag(s, b"(") else {
         return none;
     };
     two_clocks(inside, s, none)
+}
+
+// Whether two digits stand at a place.
+fn two(s: &[u8], at: usize) -> bool
+    requires { ⌜ at + 2 ≤ length (now s) ⌝ }
+    ensures { λ r. ⌜ (r ≡ true → Two (now (s .entry)) at) ⌝ }
+{
+    if !text::is_digit(s[at]) {
+        return false;
+    }
+    text::is_digit(s[at + 1])
+}
+
+// Their number.
+fn value(s: &[u8], at: usize) -> u8
+    requires { ⌜ Two (now s) at ⌝ }
+    ensures { λ r. ⌜ r ≡ valueOf (now (s .entry)) at ⌝ }
+{
+    (s[at] - b'0') * 10 + (s[at + 1] - b'0')
+}
+
+// Whether `( m:ss/` stands at a place.
+fn shows_now(s: &[u8], at: usize) -> bool
+    requires { ⌜ at + 7 ≤ length (now s) ⌝ }
+    ensures { λ r. ⌜ (r ≡ true → UsualNow (now (s .entry)) at) ⌝ }
+{
+    if s[at] != b'(' {
+        return false;
+    }
+    if s[at + 1] != b' ' {
+        return false;
+    }
+    if !text::is_digit(s[at + 2]) {
+        return false;
+    }
+    if s[at + 3] != b':' {
+        return false;
+    }
+    if !two(s, at + 4) {
+        return false;
+    }
+    s[at + 6] == b'/'
+}
+
+// Whether `hh:mm:ss)` stands at a place.
+fn shows_total(s: &[u8], at: usize) -> bool
+    requires { ⌜ at + 9 ≤ length (now s) ⌝ }
+    ensures { λ r. ⌜ (r ≡ true → UsualTotal (now (s .entry)) at) ⌝ }
+{
+    if !two(s, at) {
+        return false;
+    }
+    if s[at + 2] != b':' {
+        return false;
+    }
+    if !two(s, at + 3) {
+        return false;
+    }
+    if s[at + 5] != b':' {
+        return false;
+    }
+    if !two(s, at + 6) {
+        return false;
+    }
+    s[at + 8] == b')'
+}
+
+// Whether a time stands at a place in the form in which it is mostly written: ( m:ss/hh:mm:ss)
+fn is_usual(s: &[u8], at: usize) -> bool
+    ensures { λ r. ⌜ (r ≡ true → Usual (now (s .entry)) at) ⌝ }
+{
+    if s.len() < 16 {
+        return false;
+    }
+    if s.len() - 16 < at {
+        return false;
+    }
+    if !shows_now(s, at) {
+        return false;
+    }
+    shows_total(s, at + 7)
+}
+
+// A time in that form.
+fn usual(s: &[u8], at: usize) -> Timing
+    requires { ⌜ Usual (now s) at ⌝ }
+    ensures { λ r. ⌜ r ≡ timeAt (now (s .entry)) at ⌝ }
+{
+    let m = s[at + 2] - b'0';
+    let now = Clock::Ms(m, value(s, at + 4));
+    let total = Clock::Hms(value(s, at + 7), value(s, at + 10), value(s, at + 13));
+    Timing {
+        time: Time::Timed(now, total),
+        next: Cursor { at: at + 16 },
+    }
 }
