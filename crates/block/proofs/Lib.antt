@@ -3,6 +3,7 @@ pub mod Orders
 pub mod Cuts
 pub mod Passing
 pub mod Lining
+pub mod Hanging
 pub mod Looking
 pub mod Tabling
 pub mod Rows

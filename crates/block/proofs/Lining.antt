@@ -1,4 +1,4 @@
--- The table of lines in a block, and the same table by itself, say the same of where a line hangs.
+-- The table of lines in a block, and the same table by itself, have the same numbers, and say the same of where a line hangs.
 -- Assumes nothing.
 use Prim.Native.Nat.{ℕ, _+_, _*_}
 use native.Mathlib.Omega.{arith}
@@ -7,9 +7,9 @@ use mathlib.Core.List.{List}
 use lib.ListN.{getD, drop}
 use lib.Seq.{getD-drop}
 use Rattle.lent.specs.Bytes.{le16}
-use Rattle.jkf.specs.Attaching.{hangs, startAt, countAt}
+use Rattle.jkf.specs.Attaching.{hangs, startAt, countAt, parentAt}
 use Rattle.jkf.proofs.Nears.{hangs-same}
-use Rattle.block.specs.Decode.{linePlace, startOf, entryCount}
+use Rattle.block.specs.Decode.{linePlace, startOf, entryCount, parentOf}
 
 -- a number in a part that begins at o
 pub le16-drop : (b : List ℕ) (o i : ℕ) → le16 (drop o b) i ≡ le16 b (o + i)
@@ -17,8 +17,17 @@ le16-drop b o i =
     let e : o + (i + 1) ≡ o + i + 1 = omega arith in
     omega (arith, getD-drop o b i 0, getD-drop o b (i + 1) 0, ap (λ (n : ℕ). getD b n 0) e)
 
-pub table-hangs : (b : List ℕ) (s k : ℕ) → hangs (startAt (drop (linePlace b 0) b)) (countAt (drop (linePlace b 0) b)) s k ≡ hangs (startOf b) (entryCount b) s k
-table-hangs b s k =
-    hangs-same (startAt (drop (linePlace b 0) b)) (startOf b) (countAt (drop (linePlace b 0) b)) (entryCount b)
-    (λ j. let e : linePlace b 0 + 8 * j ≡ linePlace b j = omega arith in le16-drop b (linePlace b 0) (8 * j) ∙ ap (le16 b) e)
-    (λ j. let e : linePlace b 0 + (8 * j + 4) ≡ linePlace b j + 4 = omega arith in le16-drop b (linePlace b 0) (8 * j + 4) ∙ ap (le16 b) e) s k
+module _ (b : List ℕ) where
+  in-table : (i at : ℕ) → linePlace b 0 + i ≡ at → le16 (drop (linePlace b 0) b) i ≡ le16 b at
+  in-table i at e = le16-drop b (linePlace b 0) i ∙ ap (le16 b) e
+
+  pub table-start : (j : ℕ) → startAt (drop (linePlace b 0) b) j ≡ startOf b j
+  table-start j = in-table (8 * j) (linePlace b j) (omega arith)
+
+  pub table-parent : (j : ℕ) → parentAt (drop (linePlace b 0) b) j ≡ parentOf b j
+  table-parent j = in-table (8 * j + 6) (linePlace b j + 6) (omega arith)
+
+  pub table-hangs : (s k : ℕ) → hangs (startAt (drop (linePlace b 0) b)) (countAt (drop (linePlace b 0) b)) s k ≡ hangs (startOf b) (entryCount b) s k
+  table-hangs s k =
+      hangs-same (startAt (drop (linePlace b 0) b)) (startOf b) (countAt (drop (linePlace b 0) b)) (entryCount b) table-start
+      (λ j. in-table (8 * j + 4) (linePlace b j + 4) (omega arith)) s k

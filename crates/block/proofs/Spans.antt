@@ -11,7 +11,7 @@ use mathlib.Core.Path.{_≡_, refl, sym, ap, subst, _∙_}
 use mathlib.Core.List.{List}
 use mathlib.Core.Bool.{Bool, true, false, not}
 use lib.ListN.{length, getD, take, drop, length-drop}
-use lib.Seq.{getD-drop, drop-drop}
+use lib.Seq.{getD-drop}
 use lib.Dec.{leb, ltb}
 use borrow.Author.Tests.{lt-ltb, le-ltb, lt-leb, le-leb}
 use Rattle.lists.specs.Pick.{pick}
@@ -20,9 +20,10 @@ use Rattle.lists.proofs.Laws.{pick-both}
 use Rattle.lists.proofs.Tests.{all-more, says, answers}
 use Rattle.text.specs.Utf8.{isNext, wellFormed}
 use Rattle.text.proofs.Boundaries.{Boundary, atEnd}
-use Rattle.block.specs.Decode.{headersIn, commentsIn, textPlace, keyOffset, keyLength, valueOffset, valueLength, commentOffset, commentLength, keyOf, valueOf, commentOf}
+use Rattle.block.specs.Decode.{headersIn, commentsIn, textPlace, textAt, keyOffset, keyLength, valueOffset, valueLength, commentOffset, commentLength, keyOf, valueOf, commentOf}
 use Rattle.block.specs.Sound.{valid, before, headerBytes, commentBytes, ascends, headerTest, commentTest}
 use Rattle.block.proofs.Sums.{sum-none, sum-suc, sum-rises}
+use Rattle.block.proofs.Cuts.{text-in}
 use Rattle.block.proofs.Fitting.{by-truth}
 use Rattle.block.proofs.Pieces.{starts-boundary, piece-valid, Whole, whole-starts, whole-end, piece-before}
 
@@ -121,17 +122,17 @@ module _ (b : List ℕ) (fills : textPlace b + headerBytes b (headersIn b) + com
   key-is : (k o : ℕ) → keyOffset b k ≡ o → keyOf b k ≡ take (keyLength b k) (drop o S)
   unfolding keyOf
   key-is k o e =
-      ap (λ (i : ℕ). take (keyLength b k) (drop (textPlace b + i) b)) e ∙ ap (take (keyLength b k)) (sym (drop-drop o (textPlace b) b))
+      ap (λ (i : ℕ). textAt b i (keyLength b k)) e ∙ sym (text-in b S refl o (keyLength b k))
 
   value-is : (k o : ℕ) → valueOffset b k ≡ o → valueOf b k ≡ take (valueLength b k) (drop o S)
   unfolding valueOf
   value-is k o e =
-      ap (λ (i : ℕ). take (valueLength b k) (drop (textPlace b + i) b)) e ∙ ap (take (valueLength b k)) (sym (drop-drop o (textPlace b) b))
+      ap (λ (i : ℕ). textAt b i (valueLength b k)) e ∙ sym (text-in b S refl o (valueLength b k))
 
   comment-is : (k o : ℕ) → commentOffset b k ≡ o → commentOf b k ≡ take (commentLength b k) (drop o S)
   unfolding commentOf
   comment-is k o e =
-      ap (λ (i : ℕ). take (commentLength b k) (drop (textPlace b + i) b)) e ∙ ap (take (commentLength b k)) (sym (drop-drop o (textPlace b) b))
+      ap (λ (i : ℕ). textAt b i (commentLength b k)) e ∙ sym (text-in b S refl o (commentLength b k))
 
   -- a text is valid
   abbrev Valid : List ℕ → Type 0

@@ -5,9 +5,10 @@ use jkf::Hang;
 use jkf::Position;
 ghost use mathlib.Core.Path.{_≡_};
 ghost use Prim.Native.Nat.{_+_, _<_};
-ghost use lib.ListN.{length, getD};
+ghost use lib.ListN.{length, drop, getD};
 ghost use Rattle.lists.specs.Test.{equals, holds, each, flag};
-ghost use Rattle.block.specs.Decode.{linesIn, startOf, entryCount, parentOf};
+ghost use Rattle.jkf.specs.Attaching.{Linked};
+ghost use Rattle.block.specs.Decode.{linesIn, linePlace, startOf, entryCount, parentOf};
 ghost use Rattle.block.specs.Sound.{isCell, diagramTest, fitsTest, positionTest, hangTest, lineTest, entriesBefore};
 
 pub(crate) fn all_zero(s: &[u8]) -> bool
@@ -97,9 +98,9 @@ pub(crate) fn position_sound(b: &[u8]) -> bool
     position_fits(jkf::position_in(texts::rest(b, 28)))
 }
 
-// Line 0 starts at 0 and has no parent; any other hangs where the attaching rule says.
+// Line 0 starts at 0 and has no parent; any other hangs where the attaching rule says. The parents of the lines before are known right.
 fn hangs_right(b: &[u8], k: usize) -> bool
-    requires { ⌜ k < 65536 ⌝ }
+    requires { ⌜ (k < 65536) × Linked (drop (linePlace (now b) 0) (now b)) k ⌝ }
     ensures { λ r. ⌜ r ≡ flag (hangTest (startOf (now (b .entry))) (entryCount (now (b .entry))) (parentOf (now (b .entry))) k) ⌝ }
 {
     if k == 0 {
@@ -117,7 +118,7 @@ fn hangs_right(b: &[u8], k: usize) -> bool
 
 // Line k, whose entries begin with this one.
 fn line_sound(b: &[u8], k: usize, first: usize) -> bool
-    requires { ⌜ (k < 65536) × (first ≡ entriesBefore (now b) k) ⌝ }
+    requires { ⌜ (k < 65536) × (first ≡ entriesBefore (now b) k) × Linked (drop (linePlace (now b) 0) (now b)) k ⌝ }
     ensures { λ r. ⌜ r ≡ flag (lineTest (now (b .entry)) k) ⌝ }
 {
     if fields::first_entry(b, k) != first {

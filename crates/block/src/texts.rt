@@ -1,9 +1,10 @@
 // Texts of a block: whether one is valid, and which of two comes first.
 use crate::fields;
 ghost use mathlib.Core.Path.{_≡_};
-ghost use Prim.Native.Nat.{_<_};
+ghost use Prim.Native.Nat.{_+_, _<_};
 ghost use lib.ListN.{take, drop};
 ghost use Rattle.lists.specs.Test.{flag};
+ghost use Rattle.lent.specs.Bytes.{le16};
 ghost use Rattle.block.specs.Decode.{textAt, keyOf, valueOf, commentOf};
 ghost use Rattle.block.specs.Sound.{valid, before, same};
 
@@ -33,6 +34,17 @@ pub(crate) fn cut(b: &[u8], at: usize, len: usize) -> &[u8]
         return &b[at..];
     }
     &b[at..at + len]
+}
+
+// The text whose offset and length stand at a place of the block; one test for all four bytes.
+pub(crate) fn text_in<'a>(b: &[u8], texts: &'a [u8], at: usize) -> &'a [u8]
+    requires { ⌜ at < 1000000000000 ⌝ }
+    ensures { λ r. ⌜ now r ≡ take (le16 (now (b .entry)) (at + 2)) (drop (le16 (now (b .entry)) at) (now (texts .entry))) ⌝ }
+{
+    if b.len() < at + 4 {
+        return cut(texts, lent::get16(b, at), lent::get16(b, at + 2));
+    }
+    cut(texts, fields::pair(b, at), fields::pair(b, at + 2))
 }
 
 // The key of header entry k.

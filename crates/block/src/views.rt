@@ -5,10 +5,10 @@ use jkf::Entry;
 use jkf::Position;
 ghost use mathlib.Core.Path.{_≡_};
 ghost use Prim.Native.Nat.{_<_};
-ghost use lib.ListN.{drop};
+ghost use lib.ListN.{take, drop};
 ghost use Rattle.jkf.specs.Entries.{entryIn};
 ghost use Rattle.jkf.specs.Positions.{positionIn};
-ghost use Rattle.block.specs.Decode.{headersIn, linesIn, movesIn, commentsIn, movePlace, startOf, firstEntry, entryCount, parentOf, firstComment, commentCount, keyOf, valueOf, commentOf};
+ghost use Rattle.block.specs.Decode.{headersIn, linesIn, movesIn, commentsIn, movePlace, textPlace, keyOffset, keyLength, valueOffset, valueLength, startOf, firstEntry, entryCount, parentOf, firstComment, commentCount, keyOf, valueOf, commentOf};
 ghost use Rattle.block.specs.Sound.{headerBytes};
 
 // How many header entries there are.
@@ -74,11 +74,18 @@ pub fn parent_of(b: &[u8], k: u16) -> usize
     fields::parent_of(b, k as usize)
 }
 
+// What stands from the row of entry k on.
+pub fn row_of(b: &[u8], k: u16) -> &[u8]
+    ensures { λ r. ⌜ now r ≡ drop (movePlace (now (b .entry)) k) (now (b .entry)) ⌝ }
+{
+    texts::rest(b, fields::move_place(b, k as usize))
+}
+
 // What entry k is.
 pub fn entry_of(b: &[u8], k: u16) -> Entry
     ensures { λ r. ⌜ r ≡ entryIn (drop (movePlace (now (b .entry)) k) (now (b .entry))) ⌝ }
 {
-    jkf::entry_in(texts::rest(b, fields::move_place(b, k as usize)))
+    jkf::entry_in(row_of(b, k))
 }
 
 // The number of its first comment.
@@ -107,6 +114,27 @@ pub fn value_of(b: &[u8], k: u16) -> &[u8]
     ensures { λ r. ⌜ now r ≡ valueOf (now (b .entry)) k ⌝ }
 {
     texts::value_of(b, k as usize)
+}
+
+// The part of a block that holds its texts.
+pub fn texts_of(b: &[u8]) -> &[u8]
+    ensures { λ r. ⌜ now r ≡ drop (textPlace (now (b .entry))) (now (b .entry)) ⌝ }
+{
+    texts::rest(b, fields::text_place(b))
+}
+
+// The key of header entry k, of which the texts are given.
+pub fn key_in<'a>(b: &[u8], texts: &'a [u8], k: u16) -> &'a [u8]
+    ensures { λ r. ⌜ now r ≡ take (keyLength (now (b .entry)) k) (drop (keyOffset (now (b .entry)) k) (now (texts .entry))) ⌝ }
+{
+    texts::text_in(b, texts, 128 + 8 * (k as usize))
+}
+
+// Its value.
+pub fn value_in<'a>(b: &[u8], texts: &'a [u8], k: u16) -> &'a [u8]
+    ensures { λ r. ⌜ now r ≡ take (valueLength (now (b .entry)) k) (drop (valueOffset (now (b .entry)) k) (now (texts .entry))) ⌝ }
+{
+    texts::text_in(b, texts, 128 + 8 * (k as usize) + 4)
 }
 
 // Comment k.

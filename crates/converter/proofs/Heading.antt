@@ -2,6 +2,7 @@
 --     concat-more, concat-rises       what a run's parts add up to, one more at a time
 --     numbered-more, numbered-same    the entries with a number, one entry later
 --     lines-more, lines-same          their lines
+--     number-in, line-in              an entry whose texts are given
 --     lead-none, lead-some            the lines of one leading key more
 --     PlacedTo                        the places of the leading keys among the first entries
 --     then-fits, room-more            one text more, for which there is room
@@ -12,7 +13,7 @@ use native.Mathlib.Omega.{arith}
 use mathlib.Core.Path.{_≡_, refl, sym, ap, _∙_}
 use mathlib.Core.List.{List, [], _∷_, _++_, append-nil}
 use mathlib.Core.Bool.{Bool, true, false}
-use lib.ListN.{length, getD, set, replicate, length-append, length-set, getD-replicate}
+use lib.ListN.{length, getD, set, take, drop, replicate, length-append, length-set, getD-replicate}
 use lib.Seq.{getD-set-same, getD-set-other}
 use lib.Dec.{eqb}
 use borrow.Author.Tests.{eq-eqb, ne-eqb, eqb-true, eqb-false}
@@ -20,7 +21,8 @@ use Rattle.lists.specs.Pick.{pick}
 use Rattle.lent.specs.Bytes.{Wrote}
 use Rattle.block.specs.Model.{Header}
 use Rattle.block.specs.Encode.{concat}
-use Rattle.block.specs.Decode.{run, headersIn, headerIn, keyOf}
+use Rattle.block.specs.Decode.{run, headersIn, headerIn, keyOf, textPlace, keyOffset, keyLength, valueOffset, valueLength}
+use Rattle.block.proofs.Cuts.{key-in, value-in}
 use Rattle.block.proofs.Tabling.{run-add, run-snoc, concat-append, concat-snoc}
 use Rattle.block.specs.Sound.{Sound}
 use Rattle.converter.specs.Headers.{leadingNumber, numbered, headerLine, linesOf, range, placedAt, headersOf, Placed}
@@ -33,6 +35,19 @@ use Rattle.converter.proofs.Runs.{concat-more}
 -- the same text, buffer and count under other names
 pub wrote-as : {t t′ o o₁ o₂ : List ℕ} {n m : ℕ} → t′ ≡ t → o₂ ≡ o₁ → m ≡ n → Wrote t o o₁ n → Wrote t′ o o₂ m
 wrote-as e f g w = rw (e, f, g) w
+
+-- ---- an entry whose texts are given
+
+module _ (b : List ℕ) (k : ℕ) {t key : List ℕ} (e : t ≡ drop (textPlace b) b) (f : key ≡ take (keyLength b k) (drop (keyOffset b k) t)) where
+  -- the number of its key
+  pub number-in : leadingNumber (keyOf b k) ≡ leadingNumber key
+  number-in = ap leadingNumber (sym (f ∙ key-in b t e k))
+
+  -- its line
+  pub line-in : {value : List ℕ} → value ≡ take (valueLength b k) (drop (valueOffset b k) t) → headerLine (record { key = key; value = value }) ≡ headerLine (headerIn b k)
+  line-in {value} g =
+      ap (λ (l : List ℕ). headerLine (record { key = l; value = value })) (f ∙ key-in b t e k)
+      ∙ ap (λ (l : List ℕ). headerLine (record { key = keyOf b k; value = l })) (g ∙ value-in b t e k)
 
 -- ---- a run's parts
 

@@ -29,8 +29,7 @@ use Rattle.jkf.specs.declared.Move.{Move}
 use Rattle.jkf.specs.declared.Entry.{Entry}
 use Rattle.jkf.specs.declared.Entry.the-variants.{Slot, Play, End}
 use Rattle.jkf.proofs.EntriesBack.{special-back}
-use Rattle.block.specs.Model.{Noted}
-use Rattle.converter.specs.Entries.{targetText, promoteText, originText, moveText, specialText, hour, minute, second, nowText, totalText, timeText, playText, widthOf, entryLine, starText, remarkText, remarksText, notedText, within}
+use Rattle.converter.specs.Entries.{targetText, promoteText, originText, moveText, specialText, hour, minute, second, nowText, totalText, timeText, playText, widthOf, entryLine, starText, remarkText, within}
 
 -- ---- numbers
 
@@ -275,8 +274,3 @@ unfolding starText
 remark-most c =
     by-pick (λ (t : List ℕ). length (remarkText c) ≡ length t + length c + 1 → length (remarkText c) ≤ length c + 2)
     (eqb (getD c 0 0) 38) [] (42 ∷ []) (λ _ e. omega arith) (λ _ e. omega arith) (remark-parts c)
-
--- an entry is its line and its comments
-pub noted-parts : (ply : ℕ) (e : Noted) → length (notedText ply e) ≡ length (entryLine ply (e .what)) + length (remarksText (e .comments))
-unfolding notedText
-noted-parts ply e = length-append (entryLine ply (e .what)) (remarksText (e .comments))

@@ -11,6 +11,7 @@ pub mod Worded
 pub mod Within
 pub mod Playing
 pub mod Lengthy
+pub mod Usually
 pub mod Counted
 pub mod Blocked
 pub mod Showing

@@ -1,26 +1,41 @@
 -- The texts of entries and lines of a block, in the pieces in which they are written: from fields that were read, and line 0 and the lines
 -- after it each as a run.
 -- Assumes nothing.
-use Prim.Native.Nat.{ℕ, _-_}
-use mathlib.Core.Path.{_≡_, sym, ap, ap₂, _∙_}
-use mathlib.Core.List.{List, _++_}
+use Prim.Native.Nat.{ℕ, _+_, _-_}
+use mathlib.Core.Path.{_≡_, refl, sym, ap, ap₂, _∙_}
+use mathlib.Core.List.{List, _++_, append-nil}
 use lib.ListN.{drop}
-use Rattle.jkf.specs.declared.Entry.{Entry}
+use Rattle.lent.specs.Bytes.{le16}
 use Rattle.jkf.specs.Entries.{entryIn}
 use Rattle.block.specs.Model.{Noted, Line}
 use Rattle.block.specs.Encode.{concat}
-use Rattle.block.specs.Decode.{decode, run, movePlace, linesIn, startOf, firstEntry, entryCount, notedIn, lineIn}
+use Rattle.block.specs.Decode.{decode, run, movePlace, linesIn, startOf, firstEntry, entryCount, firstComment, commentCount, commentOf, notedIn, lineIn}
 use Rattle.block.specs.Sound.{Sound}
+use Rattle.block.proofs.Lining.{le16-drop}
 use Rattle.converter.specs.Entries.{entryLine, remarksText, notedText, entriesText}
 use Rattle.converter.specs.Show.{numberLine, slotComments, mainText, variationHead, variationText, linesText, ShownLines}
-use Rattle.converter.proofs.Runs.{run-first}
+use Rattle.converter.proofs.Runs.{run-first, remarks-none}
 use Rattle.converter.proofs.Within.{some-line, some-entry, first-none}
 
+-- a number of an entry's row
+pub row-number : (b : List ℕ) (k i : ℕ) {row : List ℕ} {n : ℕ} → row ≡ drop (movePlace b k) b → n ≡ le16 row i → n ≡ le16 b (movePlace b k + i)
+row-number b k i e h = h ∙ ap (λ (l : List ℕ). le16 l i) e ∙ le16-drop b (movePlace b k) i
+
 -- an entry and its comments
-pub noted-text : (b : List ℕ) (ply k : ℕ) {e : Entry} → e ≡ entryIn (drop (movePlace b k) b)
-    → entryLine ply e ++ remarksText (notedIn b k .comments) ≡ notedText ply (notedIn b k)
+pub noted-text : (b : List ℕ) (ply k : ℕ) {row : List ℕ} {first count : ℕ} → row ≡ drop (movePlace b k) b → first ≡ firstComment b k → count ≡ commentCount b k
+    → entryLine ply (entryIn row) ++ remarksText (run (commentOf b) first count) ≡ notedText ply (notedIn b k)
 unfolding notedText
-noted-text b ply k h = ap (λ (e : Entry). entryLine ply e ++ remarksText (notedIn b k .comments)) h
+noted-text b ply k {row} e f g =
+    ap₂ (λ (i n : ℕ). entryLine ply (entryIn row) ++ remarksText (run (commentOf b) i n)) f g
+    ∙ ap (λ (l : List ℕ). entryLine ply (entryIn l) ++ remarksText (notedIn b k .comments)) e
+
+-- an entry that has none
+pub noted-bare : (b : List ℕ) (ply k : ℕ) {row : List ℕ} {count : ℕ} → row ≡ drop (movePlace b k) b → count ≡ commentCount b k → count ≡ 0
+    → entryLine ply (entryIn row) ≡ notedText ply (notedIn b k)
+noted-bare b ply k {row} e g z =
+    let t = entryLine ply (entryIn row) in
+    sym (append-nil t) ∙ ap (λ (l : List ℕ). t ++ l) (sym (remarks-none (commentOf b) (firstComment b k)))
+    ∙ noted-text b ply k e refl (sym z ∙ g)
 
 -- a variation
 pub variation-text : (b : List ℕ) (k : ℕ) {start first count : ℕ} → start ≡ startOf b k → first ≡ firstEntry b k → count ≡ entryCount b k

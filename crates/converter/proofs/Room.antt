@@ -7,7 +7,7 @@ use mathlib.Core.List.{List, [], _∷_, _++_}
 use lib.ListN.{length, drop, length-append}
 use borrow.Rule.Slice.PartMut.{midOf, putMid}
 use Rattle.lent.specs.Bytes.{Wrote, fitting}
-use Rattle.lent.proofs.Writes.{wrote-all, wrote-length, rest-length, then}
+use Rattle.lent.proofs.Writes.{as-text, wrote-all, wrote-length, rest-length, then}
 
 -- the front of a text that has room has room
 pub room-front : (t u : List ℕ) {n : ℕ} → length (t ++ u) ≤ n → length t ≤ n
@@ -31,6 +31,10 @@ then-piece {t₁ = t₁} t₂ w h v = then w (wrote-all {t = t₂} (room-after t
 -- the same text under another name
 pub room-as : {t t′ : List ℕ} {n : ℕ} → t ≡ t′ → length t′ ≤ n → length t ≤ n
 room-as e h = rw e h
+
+-- a leaf wrote bytes that are a text
+pub bytes-of : {t t′ o o₁ : List ℕ} {n : ℕ} → t ≡ t′ → length t′ ≤ length o → Wrote (fitting t o) o o₁ n → Wrote t′ o o₁ n
+bytes-of {o = o} e h w = wrote-all h (as-text (ap (λ (t : List ℕ). fitting t o) e) w)
 
 -- ---- several pieces
 

@@ -1,6 +1,7 @@
 // What cannot be written, and which lines are shown.
 use crate::Obstacle;
 use crate::kif::move_width;
+use crate::usuals::is_usual;
 use jkf::Entry;
 use jkf::Move;
 use jkf::Position;
@@ -8,6 +9,7 @@ use jkf::Target;
 use jkf::Time;
 ghost use mathlib.Core.Path.{_≡_};
 ghost use Prim.Native.Nat.{_+_, _≤_, _<_};
+ghost use Rattle.jkf.specs.Entries.{entryIn};
 ghost use Rattle.block.specs.Decode.{run, movesIn, notedIn, decode};
 ghost use Rattle.block.specs.Sound.{Sound};
 ghost use Rattle.converter.specs.Entries.{within, targetFits, timeFits, canWrite};
@@ -91,6 +93,16 @@ fn can_write(e: Entry) -> bool
     }
 }
 
+// Whether a row's entry can be written.
+fn row_fits(row: &[u8]) -> bool
+    ensures { λ r. ⌜ r ≡ canWrite (entryIn (now (row .entry))) ⌝ }
+{
+    if is_usual(row) {
+        return true;
+    }
+    can_write(jkf::entry_in(row))
+}
+
 // The first of a line's entries that cannot be written.
 fn entry_obstacle(b: &[u8], line: usize, first: usize, count: usize) -> Obstacle
     requires { ⌜ first + count < 65536 ⌝ }
@@ -98,7 +110,7 @@ fn entry_obstacle(b: &[u8], line: usize, first: usize, count: usize) -> Obstacle
 {
     let mut i = 0;
     while i < count {
-        if !can_write(block::entry_of(b, (first + i) as u16)) {
+        if !row_fits(block::row_of(b, (first + i) as u16)) {
             return Obstacle::At(line as u64, i as u64);
         }
         i += 1;

@@ -1,4 +1,6 @@
 // Lines of play as they are written.   (the Rust's src/converter/kif.rs)
+use crate::usuals::is_usual;
+use crate::usuals::put_usual;
 use jkf::Clock;
 use jkf::Entry;
 use jkf::Move;
@@ -11,7 +13,7 @@ ghost use Prim.Native.Nat.{_+_, _-_, _≤_, _<_};
 ghost use lib.ListN.{length};
 ghost use Rattle.lent.specs.Bytes.{Wrote};
 ghost use Rattle.lent.specs.Numbers.{decimal, padded};
-ghost use Rattle.jkf.specs.Entries.{specialOf};
+ghost use Rattle.jkf.specs.Entries.{specialOf, entryIn};
 ghost use Rattle.block.specs.Encode.{concat};
 ghost use Rattle.block.specs.Decode.{run, movesIn, linesIn, commentOf, notedIn, lineIn, decode};
 ghost use Rattle.block.specs.Sound.{Sound};
@@ -245,6 +247,19 @@ fn put_entry_line(out: &mut [u8], ply: usize, e: Entry) -> usize
     c + lent::put_bytes(&mut out[c..], b"\n")
 }
 
+// The line of a row's entry.
+fn put_row(out: &mut [u8], ply: usize, row: &[u8]) -> usize
+    requires { ⌜ length (entryLine ply (entryIn (now row))) ≤ length (now out) ⌝ }
+    ensures { λ r. ⌜ Wrote (entryLine ply (entryIn (now (row .entry)))) (now (out .entry)) (now (out .exit)) r ⌝ }
+{
+    if ply < 1000 {
+        if is_usual(row) {
+            return put_usual(out, ply, row);
+        }
+    }
+    put_entry_line(out, ply, jkf::entry_in(row))
+}
+
 // * before a comment that does not begin with &.
 fn put_star(out: &mut [u8], c: &[u8]) -> usize
     requires { ⌜ length (starText (now c)) ≤ length (now out) ⌝ }
@@ -299,8 +314,13 @@ fn put_noted(out: &mut [u8], b: &[u8], ply: usize, k: usize) -> usize
     requires { ⌜ Sound (now b) × (k < movesIn (now b)) × (length (notedText ply (notedIn (now b) k)) ≤ length (now out)) ⌝ }
     ensures { λ r. ⌜ Wrote (notedText ply (notedIn (now (b .entry)) k)) (now (out .entry)) (now (out .exit)) r ⌝ }
 {
-    let n = put_entry_line(out, ply, block::entry_of(b, k as u16));
-    n + put_comments(&mut out[n..], b, k)
+    let row = block::row_of(b, k as u16);
+    let n = put_row(out, ply, row);
+    let count = lent::get16(row, 18);
+    if count == 0 {
+        return n;
+    }
+    n + put_remarks(&mut out[n..], b, lent::get16(row, 16), count)
 }
 
 // So many entries from one on, numbered from a ply on.

@@ -5,6 +5,8 @@ use crate::kif::minute;
 use crate::kif::second;
 use crate::kif::width_of;
 use crate::starts::put_position;
+use crate::usuals::is_usual;
+use crate::usuals::usual_length;
 use jkf::Clock;
 use jkf::Entry;
 use jkf::Move;
@@ -18,7 +20,7 @@ ghost use lib.ListN.{length};
 ghost use Rattle.lent.specs.Numbers.{padded};
 ghost use Rattle.spell.specs.Tables.{moveKinds, numerals, files};
 ghost use Rattle.spell.specs.Spell.{spelled};
-ghost use Rattle.jkf.specs.Entries.{specialOf};
+ghost use Rattle.jkf.specs.Entries.{specialOf, entryIn};
 ghost use Rattle.block.specs.Encode.{concat};
 ghost use Rattle.block.specs.Decode.{run, movesIn, linesIn, entryCount, commentOf, notedIn, lineIn, decode};
 ghost use Rattle.block.specs.Sound.{Sound};
@@ -153,6 +155,19 @@ fn entry_length(ply: usize, e: Entry) -> usize
     2 + padded_length(ply as u64, 4) + play_length(e) + time_length(width_of(e), jkf::time_of(e))
 }
 
+// The line of a row's entry.
+fn row_length(ply: usize, row: &[u8]) -> usize
+    requires { ⌜ ply < 131072 ⌝ }
+    ensures { λ r. ⌜ (r ≡ length (entryLine ply (entryIn (now (row .entry))))) × (r ≤ 65) ⌝ }
+{
+    if ply < 1000 {
+        if is_usual(row) {
+            return usual_length(row);
+        }
+    }
+    entry_length(ply, jkf::entry_in(row))
+}
+
 fn remark_length(c: &[u8]) -> usize
     ensures { λ r. ⌜ r ≡ length (remarkText (now (c .entry))) ⌝ }
 {
@@ -185,6 +200,20 @@ fn comments_length(b: &[u8], k: usize) -> usize
     remarks_length(b, block::first_comment(b, i), block::comment_count(b, i))
 }
 
+// Entry k with its comments.
+fn noted_length(b: &[u8], ply: usize, k: usize) -> usize
+    requires { ⌜ Sound (now b) × (k < movesIn (now b)) × (ply < 131072) ⌝ }
+    ensures { λ r. ⌜ (r ≡ length (notedText ply (notedIn (now (b .entry)) k))) × (r ≤ 4295032897) ⌝ }
+{
+    let row = block::row_of(b, k as u16);
+    let n = row_length(ply, row);
+    let count = lent::get16(row, 18);
+    if count == 0 {
+        return n;
+    }
+    n + remarks_length(b, lent::get16(row, 16), count)
+}
+
 // So many entries from one on, numbered from a ply on.
 fn entries_length(b: &[u8], ply: usize, first: usize, count: usize) -> usize
     requires { ⌜ Sound (now b) × (first + count ≤ movesIn (now b)) × (ply < 65536) ⌝ }
@@ -193,8 +222,7 @@ fn entries_length(b: &[u8], ply: usize, first: usize, count: usize) -> usize
     let mut n = 0;
     let mut i = 0;
     while i < count {
-        let k = first + i;
-        n += entry_length(ply + i, block::entry_of(b, k as u16)) + comments_length(b, k);
+        n += noted_length(b, ply + i, first + i);
         i += 1;
     }
     n

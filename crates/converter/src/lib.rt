@@ -4,6 +4,7 @@ mod keys;
 mod kif;
 mod lengths;
 mod starts;
+mod usuals;
 
 use checks::hands_obstacle;
 use checks::lines_obstacle;

@@ -12,19 +12,18 @@ ghost use Rattle.spell.specs.Tables.{kinds, numerals};
 ghost use Rattle.spell.specs.Spell.{spelled};
 ghost use Rattle.spell.specs.Count.{countText};
 ghost use Rattle.block.specs.Encode.{concat};
-ghost use Rattle.block.specs.Decode.{headerIn};
 ghost use Rattle.block.specs.Sound.{Sound};
 ghost use Rattle.converter.specs.Headers.{headerLine, linesOf, headersOf, headersText, Placed, range};
 ghost use Rattle.converter.specs.Diagrams.{presetLine, heldText, allHeld, orNone, handLine, cellText, cellsText, rowText, rowsText, boardText, turnText, diagramText, positionText};
 
-// The line of header entry k.
-fn put_header(out: &mut [u8], b: &[u8], k: usize) -> usize
-    requires { ⌜ (k < 65536) × (length (headerLine (headerIn (now b) k)) ≤ length (now out)) ⌝ }
-    ensures { λ r. ⌜ Wrote (headerLine (headerIn (now (b .entry)) k)) (now (out .entry)) (now (out .exit)) r ⌝ }
+// The line of a header entry.
+fn put_header(out: &mut [u8], key: &[u8], value: &[u8]) -> usize
+    requires { ⌜ length (headerLine (record { key = now key; value = now value })) ≤ length (now out) ⌝ }
+    ensures { λ r. ⌜ Wrote (headerLine (record { key = now (key .entry); value = now (value .entry) })) (now (out .entry)) (now (out .exit)) r ⌝ }
 {
-    let n = lent::put_bytes(out, block::key_of(b, k as u16));
+    let n = lent::put_bytes(out, key);
     let m = n + lent::put_bytes(&mut out[n..], b"\xef\xbc\x9a");
-    let e = m + lent::put_bytes(&mut out[m..], block::value_of(b, k as u16));
+    let e = m + lent::put_bytes(&mut out[m..], value);
     e + lent::put_bytes(&mut out[e..], b"\n")
 }
 
@@ -34,10 +33,11 @@ fn leading_places(b: &[u8]) -> [u16; 12]
     ensures { λ r. ⌜ Placed (now (b .entry)) r ⌝ }
 {
     let count = block::headers_in(b);
+    let texts = block::texts_of(b);
     let mut places = [0u16; 12];
     let mut k = 0;
     while k < count {
-        let n = lent::wide(leading_number(block::key_of(b, k as u16)));
+        let n = lent::wide(leading_number(block::key_in(b, texts, k as u16)));
         k += 1;
         if 0 < n {
             places[n - 1] = k as u16;
@@ -51,12 +51,18 @@ fn put_leading(out: &mut [u8], b: &[u8], places: &[u16]) -> usize
     requires { ⌜ Placed (now b) (now places) × (length (concat (λ n. linesOf n (headersOf (now b))) (range 1 12)) ≤ length (now out)) ⌝ }
     ensures { λ r. ⌜ Wrote (concat (λ n. linesOf n (headersOf (now (b .entry)))) (range 1 12)) (now (out .entry)) (now (out .exit)) r ⌝ }
 {
+    let texts = block::texts_of(b);
     let mut at = 0;
     let mut n = 0;
     while n < 12 {
-        let place = places[n] as usize;
+        let place = places[n];
         if 0 < place {
-            at += put_header(&mut out[at..], b, place - 1);
+            let i = place - 1;
+            at += put_header(
+                &mut out[at..],
+                block::key_in(b, texts, i),
+                block::value_in(b, texts, i),
+            );
         }
         n += 1;
     }
@@ -69,11 +75,14 @@ fn put_others(out: &mut [u8], b: &[u8]) -> usize
     ensures { λ r. ⌜ Wrote (linesOf 0 (headersOf (now (b .entry)))) (now (out .entry)) (now (out .exit)) r ⌝ }
 {
     let count = block::headers_in(b);
+    let texts = block::texts_of(b);
     let mut at = 0;
     let mut k = 0;
     while k < count {
-        if leading_number(block::key_of(b, k as u16)) == 0 {
-            at += put_header(&mut out[at..], b, k);
+        let i = k as u16;
+        let key = block::key_in(b, texts, i);
+        if leading_number(key) == 0 {
+            at += put_header(&mut out[at..], key, block::value_in(b, texts, i));
         }
         k += 1;
     }

@@ -1,7 +1,8 @@
 -- Where a variation hangs. The starts and entry counts of the lines are functions, so that the reader's table, a block's and a list's
 -- share the rule.                                                                                    (01, Attaching rule)
 -- Assumes nothing: these are definitions.
-use Prim.Native.Nat.{ℕ, zero, suc, _+_, _*_, _-_}
+use Prim.Native.Nat.{ℕ, zero, suc, _+_, _*_, _-_, _<_}
+use mathlib.Core.Path.{_≡_}
 use mathlib.Core.List.{List}
 use lib.Dec.{leb, ltb}
 use Rattle.lists.specs.Pick.{pick}
@@ -42,3 +43,10 @@ startAt lines k = le16 lines (8 * k)
 
 abbrev pub countAt : List ℕ → ℕ → ℕ
 countAt lines k = le16 lines (8 * k + 4)
+
+abbrev pub parentAt : List ℕ → ℕ → ℕ
+parentAt lines k = le16 lines (8 * k + 6)
+
+-- Each of the first k lines but line 0 has the parent that the rule finds for it: so a search may follow the parents.
+pub record Linked (lines : List ℕ) (k : ℕ) : Type 0 where
+  pub parents : (i : ℕ) → 0 < i → i < k → parentAt lines i ≡ near (startAt lines) (startAt lines i) i

@@ -1,69 +1,39 @@
 -- What the attaching rule says of a line that hangs where it should: its parent stands before it, and it starts no later than all entries
 -- before it are many. And the rule looks at the lines up to the line itself only.
 -- Assumes nothing.
-use Prim.Native.Nat.{ℕ, _-_, _≤_, _<_}
+use Prim.Native.Nat.{ℕ, _≤_, _<_}
 use native.Mathlib.Omega.{arith}
 use native.Mathlib.Decide.{decLt}
 use mathlib.Core.Path.{_≡_, refl, sym, ap, _∙_, subst}
-use mathlib.Core.Bool.{Bool, true, false, false≢true}
-use lib.Dec.{eqb, leb, ltb}
-use borrow.Author.Tests.{eqb-true, eqb-false, leb-true, ltb-true, ne-eqb}
+use mathlib.Core.Bool.{Bool, true, false}
+use lib.Dec.{eqb}
+use borrow.Author.Tests.{eqb-false}
 use Rattle.lists.specs.Pick.{pick}
 use Rattle.lists.specs.Test.{equals, both, flag, claim}
-use Rattle.lists.proofs.Tests.{says}
 use Rattle.jkf.specs.Attaching.{near, hangOn, hangs, onHang}
-use Rattle.jkf.specs.declared.Hang.the-variants.{On, Nowhere}
 use Rattle.block.specs.Sound.{sum, hangTest}
+use Rattle.block.proofs.Hanging.{hang-first, hang-says}
 use Rattle.jkf.proofs.Nears.{near-before, near-same}
 use Rattle.parser.proofs.Hung.{start-low as lines-low}
 
 -- ---- where a line hangs
 
--- on line p, with start t and n entries
-on-line : (s p t n q : ℕ) → onHang (hangOn s p t n) (λ p e. eqb q p) false ≡ true → (q ≡ p) × (t ≤ s) × (s - t < n)
-on-line s p t n q h = go (leb t s) refl (ltb (s - t) n) refl h
-  where
-    go : (x : Bool) → leb t s ≡ x → (y : Bool) → ltb (s - t) n ≡ y
-        → onHang (pick x (pick y (On p (s - t)) Nowhere) Nowhere) (λ p e. eqb q p) false ≡ true → (q ≡ p) × (t ≤ s) × (s - t < n)
-    go true e true e′ h = (eqb-true q p h, leb-true t s e, ltb-true (s - t) n e′)
-    go true e false e′ h = absurd (false≢true h)
-    go false e y e′ h = absurd (false≢true h)
-
-pub record Hung (start count parent : ℕ → ℕ) (k : ℕ) : Type 0 where
-  pub on : parent k ≡ near start (start k) k
-  pub from : start (near start (start k) k) ≤ start k
-  pub within : start k - start (near start (start k) k) < count (near start (start k) k)
-
 module _ (start count parent : ℕ → ℕ) where
-  pub hang-first : claim (hangTest start count parent 0) → (start 0 ≡ 0) × (parent 0 ≡ 0)
-  hang-first h = says (both (equals (start 0) 0) (equals (parent 0) 0)) h
-
-  pub hang-says : (k : ℕ) → 0 < k → claim (hangTest start count parent k) → Hung start count parent k
-  unfolding hangs
-  hang-says k h c =
-      let p = near start (start k) k in
-      let z : eqb k 0 ≡ false = ne-eqb k 0 (λ e. omega arith) in
-      let t = flag (both (equals (start 0) 0) (equals (parent 0) 0)) in
-      let e : pick (eqb k 0) t (onHang (hangs start count (start k) k) (λ p e. eqb (parent k) p) false)
-      ≡ onHang (hangs start count (start k) k) (λ p e. eqb (parent k) p) false = ap (λ (u : Bool). pick u t (onHang (hangs start count (start k) k) (λ p e. eqb (parent k) p) false)) z in
-      let (a, b, d) = on-line (start k) p (start p) (count p) (parent k) (sym e ∙ c) in
-      record { on = a; from = b; within = d }
-
   -- a line starts no later than the entries before it are many
   module _ (n : ℕ) (hang : (k : ℕ) → k < n → claim (hangTest start count parent k)) where
     pub start-low : (k : ℕ) → k < n → start k ≤ sum count k
     start-low k l =
-        lines-low start count (hang-first (hang 0 (omega arith)) .0) k
-        (λ j z m. let g = hang-says j z (hang j (omega arith)) in record { from = g .from; within = g .within }) k (omega arith)
+        lines-low start count (hang-first start count parent (hang 0 (omega arith)) .0) k
+        (λ j z m. let g = hang-says start count parent j z (hang j (omega arith)) in record { from = g .from; within = g .within }) k (omega arith)
 
     pub parent-low : (k : ℕ) → k < n → parent k ≤ k
     parent-low k l = go (decLt 0 k)
       where
         go : Dec (0 < k) → parent k ≤ k
-        go (yes z) = omega (arith, hang-says k z (hang k l) .on, near-before start (start k) k z)
+        go (yes z) = omega (arith, hang-says start count parent k z (hang k l) .on, near-before start (start k) k z)
         go (no z) =
             let e : k ≡ 0 = omega arith in
-            let c : parent 0 ≡ 0 = hang-first (hang 0 (omega arith)) .1 in
+            let c : parent 0 ≡ 0 = hang-first start count parent (hang 0 (omega arith)) .1 in
             subst (λ (j : ℕ). parent j ≤ j) (sym e) (omega arith)
 
 -- ---- the rule looks at the lines up to the line itself only

@@ -26,16 +26,16 @@ use Rattle.moves.specs.declared.Timing.{Timing}
 
 module _ (s : List ℕ) where
   -- a byte stands here, and e is the place past it
-  tag-here : (b at e : ℕ) → at < length s → getD s at 0 ≡ b → e ≡ at + 1 → tagAt (b ∷ []) s at ≡ Past (cursor e)
+  pub tag-here : (b at e : ℕ) → at < length s → getD s at 0 ≡ b → e ≡ at + 1 → tagAt (b ∷ []) s at ≡ Past (cursor e)
   unfolding tagAt
   tag-here b at e h g z =
       let on : standsAt (b ∷ []) s at ≡ true = stands-on (b ∷ []) s 0 at (omega arith) h g ∙ stands-done (b ∷ []) s 1 (at + 1) (omega arith) in
       rw (on, z)
 
   -- another stands here
-  tag-other : (b at : ℕ) → at < length s → (getD s at 0 ≡ b → ⊥) → tagAt (b ∷ []) s at ≡ Absent
+  pub tag-other : (b : ℕ) (t : List ℕ) (at : ℕ) → at < length s → (getD s at 0 ≡ b → ⊥) → tagAt (b ∷ t) s at ≡ Absent
   unfolding tagAt
-  tag-other b at h g = rw (stands-off (b ∷ []) s 0 at (omega arith) h g)
+  tag-other b t at h g = rw (stands-off (b ∷ t) s 0 at (omega arith) h g)
 
   -- a byte that is no blank
   here : (at b : ℕ) → getD s at 0 ≡ b → isBlank b ≡ false → blanksAt s at ≡ at
@@ -47,7 +47,7 @@ module _ (s : List ℕ) where
       here at (getD s at 0) refl (rw (ne-eqb (getD s at 0) 32 (λ e. omega arith), ne-eqb (getD s at 0) 9 (λ e. omega arith)))
 
   -- two digits and another byte after them
-  two-at : (at e b : ℕ) → Two s at → e ≡ at + 2 → getD s e 0 ≡ b → isDigit b ≡ false → digitsAt 255 s at ≡ Value (valueOf s at) (cursor e)
+  pub two-at : (at e b : ℕ) → Two s at → e ≡ at + 2 → getD s e 0 ≡ b → isDigit b ≡ false → digitsAt 255 s at ≡ Value (valueOf s at) (cursor e)
   two-at at e b t z g n =
       let r = two-digits 255 s at (getD s at 0) (getD s (at + 1) 0) (omega arith) refl (t .tens) refl (t .ones) (getD s (at + 2) 0) refl (ap (λ (p : ℕ). isDigit (getD s p 0)) (sym z) ∙ ap isDigit g ∙ n) in
       r ∙ ap (λ (p : ℕ). Value (valueOf s at) (cursor p)) (sym z)
@@ -72,7 +72,7 @@ module _ (s : List ℕ) where
 
     no-hour : hmsAt s (at + 2) ≡ NoClock
     unfolding hmsAt figureAt
-    no-hour = rw (minute-is, second-is, tag-other 58 (at + 6) (omega arith) (λ e. omega (arith, u .slash)))
+    no-hour = rw (minute-is, second-is, tag-other 58 [] (at + 6) (omega arith) (λ e. omega (arith, u .slash)))
 
     now-clock : spacedAt s (at + 1) ≡ Shows (Ms (getD s (at + 2) 0 - 48) (valueOf s (at + 4))) (cursor (at + 6))
     unfolding spacedAt clockAt msAt

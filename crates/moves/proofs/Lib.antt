@@ -6,3 +6,4 @@ pub mod Goings
 pub mod Shortcuts
 pub mod Worded
 pub mod Clocking
+pub mod Usually

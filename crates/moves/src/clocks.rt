@@ -85,9 +85,6 @@ pub(crate) fn time(c: Cursor, s: &[u8]) -> Timing
         time: Time::Untimed,
         next: c,
     };
-    if is_usual(s, c.at) {
-        return usual(s, c.at);
-    }
     let Place::Past(inside) = c.tag(s, b"(") else {
         return none;
     };
@@ -160,7 +157,7 @@ fn shows_total(s: &[u8], at: usize) -> bool
 }
 
 // Whether a time stands at a place in the form in which it is mostly written: ( m:ss/hh:mm:ss)
-fn is_usual(s: &[u8], at: usize) -> bool
+pub(crate) fn is_usual(s: &[u8], at: usize) -> bool
     ensures { λ r. ⌜ (r ≡ true → Usual (now (s .entry)) at) ⌝ }
 {
     if s.len() < 16 {
@@ -176,7 +173,7 @@ fn is_usual(s: &[u8], at: usize) -> bool
 }
 
 // A time in that form.
-fn usual(s: &[u8], at: usize) -> Timing
+pub(crate) fn usual(s: &[u8], at: usize) -> Timing
     requires { ⌜ Usual (now s) at ⌝ }
     ensures { λ r. ⌜ r ≡ timeAt (now (s .entry)) at ⌝ }
 {

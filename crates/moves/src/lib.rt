@@ -17,9 +17,11 @@ use text::Cursor;
 use text::Number;
 use text::Place;
 ghost use mathlib.Core.Path.{_≡_};
-ghost use Prim.Native.Nat.{_≤_};
-ghost use Rattle.moves.specs.Endings.{moveLineEndAt};
+ghost use Prim.Native.Nat.{_+_, _≤_};
+ghost use Rattle.text.specs.Text.{blanksAt};
+ghost use Rattle.moves.specs.Endings.{moveLineEndAt, playedLine};
 ghost use Rattle.moves.specs.Moves.{colorOf, finished, moveLineAt};
+ghost use Rattle.moves.specs.Usuals.{Usual, UsualMove};
 
 // Where a move goes, and the place past it.
 pub enum Aim {
@@ -98,14 +100,11 @@ fn color(ply: u64) -> u8
     (1 - ply % 2) as u8
 }
 
-// A move line.   (the Rust's move_line)
-pub fn move_line(c: Cursor, s: &[u8]) -> MoveLine
-    ensures { λ r. ⌜ r ≡ moveLineAt (now (s .entry)) (c .at) ⌝ }
+// A move line after its number, in any form.
+fn any_line(ply: u64, from: Cursor, s: &[u8]) -> MoveLine
+    ensures { λ r. ⌜ r ≡ playedLine ply (now (s .entry)) (from .at) ⌝ }
 {
-    let Number::Value(ply, numbered) = c.blanks(s).digits(s, u64::MAX) else {
-        return MoveLine::NoLine;
-    };
-    let What::Is(entry, played) = what(numbered.blanks(s), s) else {
+    let What::Is(entry, played) = what(from, s) else {
         return MoveLine::NoLine;
     };
     let timing = time(played.blanks(s), s);
@@ -116,6 +115,37 @@ pub fn move_line(c: Cursor, s: &[u8]) -> MoveLine
     MoveLine::Numbered(ply, finish(color(ply), taken, entry), end)
 }
 
+// The same where the move has the usual form, and so has the time, which stands at t.
+fn usual_line(ply: u64, at: usize, width: usize, t: usize, s: &[u8]) -> MoveLine
+    requires { ⌜ UsualMove (now s) at width × Usual (now s) t × (t ≡ blanksAt (now s) (at + width)) ⌝ }
+    ensures { λ r. ⌜ r ≡ playedLine ply (now (s .entry)) at ⌝ }
+{
+    let Place::Past(end) = Cursor { at: t + 16 }.line_end(s) else {
+        return MoveLine::NoLine;
+    };
+    let taken = clocks::usual(s, t).time;
+    MoveLine::Numbered(ply, plays::usual(s, at, width, color(ply), taken), end)
+}
+
+// A move line.   (the Rust's move_line)
+pub fn move_line(c: Cursor, s: &[u8]) -> MoveLine
+    ensures { λ r. ⌜ r ≡ moveLineAt (now (s .entry)) (c .at) ⌝ }
+{
+    let Number::Value(ply, numbered) = c.blanks(s).digits(s, u64::MAX) else {
+        return MoveLine::NoLine;
+    };
+    let from = numbered.blanks(s);
+    let at = from.at;
+    let width = plays::usual_width(s, at);
+    if 0 < width {
+        let t = Cursor { at: at + width }.blanks(s).at;
+        if clocks::is_usual(s, t) {
+            return usual_line(ply, at, width, t, s);
+        }
+    }
+    any_line(ply, from, s)
+}
+
 // Past a move line. Its time, if it has one, is text, so that the tail may begin before it.
 pub fn move_line_end(c: Cursor, s: &[u8]) -> Place
     ensures { λ r. ⌜ r ≡ moveLineEndAt (now (s .entry)) (c .at) ⌝ }
@@ -123,7 +153,13 @@ pub fn move_line_end(c: Cursor, s: &[u8]) -> Place
     let Number::Value(_, numbered) = c.blanks(s).digits(s, u64::MAX) else {
         return Place::Absent;
     };
-    let What::Is(_, played) = what(numbered.blanks(s), s) else {
+    let from = numbered.blanks(s);
+    let at = from.at;
+    let width = plays::usual_width(s, at);
+    if 0 < width {
+        return Cursor { at: at + width }.line_end(s);
+    }
+    let What::Is(_, played) = what(from, s) else {
         return Place::Absent;
     };
     played.line_end(s)

@@ -13,8 +13,13 @@ use text::Cursor;
 use text::Number;
 use text::Place;
 ghost use mathlib.Core.Path.{_≡_};
-ghost use Rattle.moves.specs.Moves.{squareAt, moveToAt, promoteAt, originAt, moveFromAt, pieceAt, whatAt};
+ghost use mathlib.Core.Bool.{true};
+ghost use Prim.Native.Nat.{_+_, _≤_, _<_};
+ghost use lib.ListN.{length, getD};
+ghost use Rattle.text.specs.Text.{standsAt};
+ghost use Rattle.moves.specs.Moves.{promotes, squareAt, moveToAt, promoteAt, originAt, moveFromAt, pieceAt, whatAt, finished};
 ghost use Rattle.moves.specs.Endings.{endingAt};
+ghost use Rattle.moves.specs.Usuals.{Bracketed, Aimed, Named, UsualMove, aimOf, kindOf, markOf, entryOf};
 
 // A file and a rank.
 fn square(c: Cursor, s: &[u8]) -> Aim
@@ -132,4 +137,184 @@ pub(crate) fn what(c: Cursor, s: &[u8]) -> What
         return ending(c, s);
     };
     piece(to, past, s)
+}
+
+// Whether two digits in brackets stand at a place.
+fn is_bracketed(s: &[u8], at: usize) -> bool
+    requires { ⌜ at + 4 ≤ length (now s) ⌝ }
+    ensures { λ r. ⌜ (r ≡ true → Bracketed (now (s .entry)) at) ⌝ }
+{
+    if s[at] != b'(' {
+        return false;
+    }
+    if !text::is_digit(s[at + 1]) {
+        return false;
+    }
+    if !text::is_digit(s[at + 2]) {
+        return false;
+    }
+    s[at + 3] == b')'
+}
+
+// Whether the rest of 同 and a wide space stand at a place where 同 may begin.
+fn is_same(s: &[u8], at: usize) -> bool
+    requires { ⌜ (at + 6 ≤ length (now s)) × (getD (now s) at 0 ≡ 229) ⌝ }
+    ensures { λ r. ⌜ (r ≡ true → Aimed (now (s .entry)) at) ⌝ }
+{
+    if s[at + 1] != 0x90 {
+        return false;
+    }
+    if s[at + 2] != 0x8c {
+        return false;
+    }
+    if s[at + 3] != 0xe3 {
+        return false;
+    }
+    if s[at + 4] != 0x80 {
+        return false;
+    }
+    s[at + 5] == 0x80
+}
+
+// Whether a full-width digit and a numeral stand at a place.
+fn is_square(s: &[u8], at: usize) -> bool
+    requires { ⌜ at + 6 ≤ length (now s) ⌝ }
+    ensures { λ r. ⌜ (r ≡ true → Aimed (now (s .entry)) at) ⌝ }
+{
+    if s[at] != 0xef {
+        return false;
+    }
+    if s[at + 1] != 0xbc {
+        return false;
+    }
+    if s[at + 2] < 0x91 {
+        return false;
+    }
+    if 0x99 < s[at + 2] {
+        return false;
+    }
+    spell::numeral_of(s[at + 3], s[at + 4], s[at + 5]) != 0
+}
+
+// Whether 同 with a wide space, or a square, stands at a place.
+fn is_target(s: &[u8], at: usize) -> bool
+    requires { ⌜ at + 6 ≤ length (now s) ⌝ }
+    ensures { λ r. ⌜ (r ≡ true → Aimed (now (s .entry)) at) ⌝ }
+{
+    if s[at] == 0xe5 {
+        return is_same(s, at);
+    }
+    is_square(s, at)
+}
+
+// Whether 成 stands at a place.
+fn is_promotion(s: &[u8], at: usize) -> bool
+    requires { ⌜ at + 3 ≤ length (now s) ⌝ }
+    ensures { λ r. ⌜ r ≡ standsAt promotes (now (s .entry)) at ⌝ }
+{
+    if s[at] != 0xe6 {
+        return false;
+    }
+    if s[at + 1] != 0x88 {
+        return false;
+    }
+    s[at + 2] == 0x90
+}
+
+// Whether a kind of one character and its origin stand after the target at a place.
+fn is_short(s: &[u8], at: usize) -> bool
+    requires { ⌜ at + 13 ≤ length (now s) ⌝ }
+    ensures { λ r. ⌜ (r ≡ true → Named (now (s .entry)) at 13) ⌝ }
+{
+    if !is_bracketed(s, at + 9) {
+        return false;
+    }
+    spell::kind_of(s[at + 6], s[at + 7], s[at + 8]) != 0
+}
+
+// Whether 成 and a kind, or a kind and 成, and its origin do.
+fn is_long(s: &[u8], at: usize) -> bool
+    requires { ⌜ at + 16 ≤ length (now s) ⌝ }
+    ensures { λ r. ⌜ (r ≡ true → Named (now (s .entry)) at 16) ⌝ }
+{
+    if !is_bracketed(s, at + 12) {
+        return false;
+    }
+    if is_promotion(s, at + 6) {
+        return spell::promoted_of(s[at + 9], s[at + 10], s[at + 11]) != 0;
+    }
+    if !is_promotion(s, at + 9) {
+        return false;
+    }
+    spell::kind_of(s[at + 6], s[at + 7], s[at + 8]) != 0
+}
+
+// How many bytes the move at a place has in the form in which it is mostly written; 0 where it has another or none stands.
+pub(crate) fn usual_width(s: &[u8], at: usize) -> usize
+    ensures { λ r. ⌜ (0 < r → UsualMove (now (s .entry)) at r) ⌝ }
+{
+    if s.len() < 16 {
+        return 0;
+    }
+    if s.len() - 16 < at {
+        return 0;
+    }
+    if !is_target(s, at) {
+        return 0;
+    }
+    if is_short(s, at) {
+        return 13;
+    }
+    if is_long(s, at) { 16 } else { 0 }
+}
+
+// Its target.
+fn usual_aim(s: &[u8], at: usize) -> Target
+    requires { ⌜ (at + 6 ≤ length (now s)) × Aimed (now s) at ⌝ }
+    ensures { λ r. ⌜ r ≡ aimOf (now (s .entry)) at ⌝ }
+{
+    if s[at] == 0xe5 {
+        return Target::Same;
+    }
+    Target::Square(
+        s[at + 2] - 0x90,
+        spell::numeral_of(s[at + 3], s[at + 4], s[at + 5]),
+    )
+}
+
+// Its kind.
+fn usual_kind(s: &[u8], at: usize) -> u8
+    requires { ⌜ at + 12 ≤ length (now s) ⌝ }
+    ensures { λ r. ⌜ r ≡ kindOf (now (s .entry)) at ⌝ }
+{
+    if is_promotion(s, at + 6) {
+        return spell::promoted_of(s[at + 9], s[at + 10], s[at + 11]);
+    }
+    spell::kind_of(s[at + 6], s[at + 7], s[at + 8])
+}
+
+// Its mark.
+fn usual_mark(s: &[u8], at: usize, width: usize) -> u8
+    requires { ⌜ at + 9 ≤ length (now s) ⌝ }
+    ensures { λ r. ⌜ r ≡ markOf (now (s .entry)) at width ⌝ }
+{
+    if width == 13 {
+        return 0;
+    }
+    if is_promotion(s, at + 6) { 0 } else { 2 }
+}
+
+// A move in that form.
+pub(crate) fn usual(s: &[u8], at: usize, width: usize, color: u8, time: Time) -> Entry
+    requires { ⌜ UsualMove (now s) at width ⌝ }
+    ensures { λ r. ⌜ r ≡ finished color time (entryOf (now (s .entry)) at width) ⌝ }
+{
+    Entry::Play(Move {
+        color,
+        piece: usual_kind(s, at),
+        promote: usual_mark(s, at, width),
+        to: usual_aim(s, at),
+        from: Origin::From(s[at + width - 3] - b'0', s[at + width - 2] - b'0'),
+        time,
+    })
 }

@@ -1,6 +1,7 @@
 -- Lines that all hang: each but the first starts at an entry of a line before it, so it starts below the number of entries before it.
 --     hung-at, all-hang           what it is that all of some lines hang
 --     start-bound, starts-small   a start is below the number of entries
+--     parent-first, parent-later  where a line hangs is its parent
 --     lines-hang                  so the attached lines are those of a well-formed record
 -- Assumes nothing.
 use Prim.Native.Nat.{ℕ, zero, suc, _+_, _-_, _≤_, _<_}
@@ -213,11 +214,11 @@ module _ (ps : List Play) where
   -- ---- so each line fits
 
   -- line 0 has no parent
-  parent-first : parentIn ps 0 ≡ 0
+  pub parent-first : parentIn ps 0 ≡ 0
   unfolding parentIn hangs
   parent-first = no-parent (starts ps 0) (near (starts ps) (starts ps 0) 0) _ _ (near-none (starts ps) (starts ps 0))
 
-  parent-later : (k : ℕ) → Hangs (starts ps) (counts ps) k → parentIn ps k ≡ near (starts ps) (starts ps k) k
+  pub parent-later : (k : ℕ) → Hangs (starts ps) (counts ps) k → parentIn ps k ≡ near (starts ps) (starts ps k) k
   unfolding parentIn
   parent-later k h = ap (λ (r : Hang). onHang r (λ p e. p) 0) (hangs-on (starts ps) (counts ps) k h)
 

@@ -15,7 +15,7 @@ use Rattle.lent.specs.Bytes.{le16, bytes16, fitting}
 use Rattle.lent.specs.Regions.{join, first as next, put, puts, Room, Filled, Stored}
 use Rattle.lent.proofs.Regions.{room-front, filled-length, filled-under, then-fill, then-room, as-texts, filled-at, join-nil, put-none, put-eq, length-put, room-at}
 use Rattle.text.specs.declared.Cursor.{Cursor}
-use Rattle.jkf.specs.Attaching.{near, hangOn, hangs, onHang, Hung, all, first, hungFrom, startAt, countAt}
+use Rattle.jkf.specs.Attaching.{near, hangOn, hangs, onHang, Hung, all, first, hungFrom, startAt, countAt, parentAt, Linked}
 use Rattle.jkf.specs.declared.Hang.{Hang}
 use Rattle.jkf.specs.declared.Hang.the-variants.{On, Nowhere}
 use Rattle.jkf.proofs.Nears.{near-same, near-before}
@@ -33,8 +33,8 @@ use Rattle.parser.proofs.Texts.{lines-append}
 use Rattle.parser.proofs.Sizing.{commented, written}
 use Rattle.parser.proofs.Entries.{fit-moved, entered-moved}
 use Rattle.parser.proofs.Variations.{variation-past, variations-more, variations-none}
-use Rattle.parser.proofs.Rowed.{line, line-fit, line-filled, start-back, count-back}
-use Rattle.parser.proofs.Hung.{start-bound, attach-length, attach-entries, attach-line}
+use Rattle.parser.proofs.Rowed.{line, line-fit, line-filled, start-back, count-back, parent-back}
+use Rattle.parser.proofs.Hung.{all-hang, start-bound, attach-length, attach-entries, attach-line, parent-later}
 
 -- ---- lines after lines
 
@@ -159,6 +159,10 @@ pub record Lining (s : List ℕ) (at table k : ℕ) (w v : Walk) (o₀ o : List 
 -- the rows of lines, after so many entries
 abbrev lineTable : ℕ → List Line → List ℕ
 lineTable n ls = table lineRow lineStep n ls
+
+-- the table as it is read back
+abbrev rowsIn : List ℕ → ℕ → List ℕ
+rowsIn o l = take (length o - l) (drop l o)
 
 -- line k of the record
 abbrev pub lineAt : List Play → ℕ → Line
@@ -387,7 +391,7 @@ module _ (s : List ℕ) (table : ℕ) (w : Walk) (o₀ : List ℕ) (f : LinesFit
     rows-long = table-length lineRow lineStep 8 line-wide (w .entries) (take k ls) ∙ ap (λ (n : ℕ). 8 * n) long
 
     module _ (x : Walk) (o₁ : List ℕ) (c : Cursor) (d : Entered es (entriesAt s place .at) v x o o₁) (g : EntriesFit es v o) where
-      byte-back : (n : ℕ) → n < 8 * k → getD (take (length o₁ - table) (drop table o₁)) n 0 ≡ getD rows n 0
+      byte-back : (n : ℕ) → n < 8 * k → getD (rowsIn o₁ table) n 0 ≡ getD rows n 0
       byte-back n h =
           let r = room-upto k in
           let b = room-at (length o₀) (lineEnds table w) (lineTexts (w .entries) (w .noted) (w .bytes) (take k ls)) 0 r (omega arith) in
@@ -398,15 +402,28 @@ module _ (s : List ℕ) (table : ℕ) (w : Walk) (o₀ : List ℕ) (f : LinesFit
           ∙ puts-low o (entryEnds v) (entryTexts (v .noted) (v .bytes) es) (table + n) (g .room) (omega (arith, u .0))
           ∙ filled-at 0 n r (i .done .filled) (omega arith) (omega (arith, rows-long))
 
-      pub attach-is : hangs (startAt (take (length o₁ - table) (drop table o₁))) (countAt (take (length o₁ - table) (drop table o₁))) (plyAt s place) k
-          ≡ hangs (starts ps) (counts ps) (plyAt s place) k
-      attach-is =
-          hangs-before (startAt (take (length o₁ - table) (drop table o₁))) (starts ps) (countAt (take (length o₁ - table) (drop table o₁))) (counts ps) (plyAt s place) (plyAt s place) k refl (i .some)
-          (λ j h. two (8 * j) (omega arith) ∙ start-back (w .entries) (take k ls) j (omega (arith, long)) (rw (line-early j h) (early j h .0)) ∙ ap (λ (x : Line). x .start) (line-early j h))
-          (λ j h. two (8 * j + 4) (omega arith) ∙ count-back (w .entries) (take k ls) j (omega (arith, long)) (rw (line-early j h) (early j h .1)) ∙ ap (λ (x : Line). length (x .entries)) (line-early j h))
+      two-back : (n : ℕ) → n + 1 < 8 * k → le16 (rowsIn o₁ table) n ≡ le16 rows n
+      two-back n h = ap₂ (λ (a b : ℕ). a + 256 * b) (byte-back n (omega arith)) (byte-back (n + 1) h)
+
+      start-read : (j : ℕ) → j < k → startAt (rowsIn o₁ table) j ≡ starts ps j
+      start-read j h = two-back (8 * j) (omega arith) ∙ start-back (w .entries) (take k ls) j (omega (arith, long)) (rw (line-early j h) (early j h .0)) ∙ ap (λ (x : Line). x .start) (line-early j h)
+
+      count-read : (j : ℕ) → j < k → countAt (rowsIn o₁ table) j ≡ counts ps j
+      count-read j h = two-back (8 * j + 4) (omega arith) ∙ count-back (w .entries) (take k ls) j (omega (arith, long)) (rw (line-early j h) (early j h .1)) ∙ ap (λ (x : Line). length (x .entries)) (line-early j h)
+
+      -- all lines before hang, so each has the parent that is found for it
+      pub linked : Linked (rowsIn o₁ table) k
+      linked = record { parents = parents }
         where
-          two : (n : ℕ) → n + 1 < 8 * k → le16 (take (length o₁ - table) (drop table o₁)) n ≡ le16 rows n
-          two n h = ap₂ (λ (a b : ℕ). a + 256 * b) (byte-back n (omega arith)) (byte-back (n + 1) h)
+          parents : (j : ℕ) → 0 < j → j < k → parentAt (rowsIn o₁ table) j ≡ near (startAt (rowsIn o₁ table)) (startAt (rowsIn o₁ table) j) j
+          parents j z h =
+              let e = parent-later ps j (all-hang (starts ps) (counts ps) (k - 1) (i .hung) j z (omega arith)) in
+              let b : parentIn ps j < 65536 = omega (arith, e, near-before (starts ps) (starts ps j) j z, i .few, f .lines, attach-length ps) in
+              two-back (8 * j + 6) (omega arith) ∙ parent-back (w .entries) (take k ls) j (omega (arith, long)) (rw (line-early j h) b) ∙ ap (λ (x : Line). x .parent) (line-early j h)
+              ∙ e ∙ ap (λ (n : ℕ). near (starts ps) n j) (sym (start-read j h)) ∙ sym (near-same (startAt (rowsIn o₁ table)) (starts ps) (startAt (rowsIn o₁ table) j) j (λ m l. start-read m (omega arith)))
+
+      pub attach-is : hangs (startAt (rowsIn o₁ table)) (countAt (rowsIn o₁ table)) (plyAt s place) k ≡ hangs (starts ps) (counts ps) (plyAt s place) k
+      attach-is = hangs-before (startAt (rowsIn o₁ table)) (starts ps) (countAt (rowsIn o₁ table)) (counts ps) (plyAt s place) (plyAt s place) k refl (i .some) start-read count-read
 
     -- ---- the entries at the next place
 
@@ -452,12 +469,12 @@ module _ (s : List ℕ) (table : ℕ) (w : Walk) (o₀ : List ℕ) (f : LinesFit
           some-here : length es ≡ 0 → ⊥
           some-here z = ne (omega (arith, entered .entries, z))
 
-          hang-is : (h : Hang) (start : ℕ) → start ≡ plyAt s (c .at) → h ≡ hangs (startAt (take (length o₁ - table) (drop table o₁))) (countAt (take (length o₁ - table) (drop table o₁))) start k
+          hang-is : (h : Hang) (start : ℕ) → start ≡ plyAt s (c .at) → (Linked (rowsIn o₁ table) k → h ≡ hangs (startAt (rowsIn o₁ table)) (countAt (rowsIn o₁ table)) start k)
               → hangs (starts ps) (counts ps) (starts ps k) k ≡ h
           hang-is h start e y =
               let a : start ≡ plyAt s place = e ∙ ap (plyAt s) p in
               ap (λ (n : ℕ). hangs (starts ps) (counts ps) n k) (start-here some-here) ∙ sym (attach-is x o₁ c entered entries-room)
-              ∙ ap (λ (n : ℕ). hangs (startAt (take (length o₁ - table) (drop table o₁))) (countAt (take (length o₁ - table) (drop table o₁))) n k) (sym a) ∙ sym y
+              ∙ ap (λ (n : ℕ). hangs (startAt (rowsIn o₁ table)) (countAt (rowsIn o₁ table)) n k) (sym a) ∙ sym (y (linked x o₁ c entered entries-room))
 
           -- the walk goes on
           pub next-less : (q₂ : Cursor) → q₂ .at ≡ skippedAt s (x .next .at) → (v .next .at < q₂ .at) × (q₂ .at ≤ length s)
@@ -474,7 +491,7 @@ module _ (s : List ℕ) (table : ℕ) (w : Walk) (o₀ : List ℕ) (f : LinesFit
               (omega (arith, r, filled-length (entered .filled)), more-left some-here)
 
           module _ (h : Hang) (start : ℕ) (a : start ≡ plyAt s (c .at))
-              (y : h ≡ hangs (startAt (take (length o₁ - table) (drop table o₁))) (countAt (take (length o₁ - table) (drop table o₁))) start k) where
+              (y : Linked (rowsIn o₁ table) k → h ≡ hangs (startAt (rowsIn o₁ table)) (countAt (rowsIn o₁ table)) start k) where
             start-is : starts ps k ≡ start
             start-is = start-here some-here ∙ ap (plyAt s) (sym p) ∙ sym a
 

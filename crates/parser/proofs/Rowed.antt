@@ -101,3 +101,6 @@ module _ (n : ℕ) (ls : List Line) (j : ℕ) (h : j < length ls) where
 
   pub count-back : length (here .entries) < 65536 → le16 (table lineRow lineStep n ls) (8 * j + 4) ≡ length (here .entries)
   count-back b = field 4 ∙ omega arith
+
+  pub parent-back : here .parent < 65536 → le16 (table lineRow lineStep n ls) (8 * j + 6) ≡ here .parent
+  parent-back b = field 6 ∙ omega arith

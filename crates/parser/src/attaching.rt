@@ -5,9 +5,8 @@ use crate::counts::ply;
 use crate::counts::skipped;
 use crate::counts::skips;
 use crate::fills::fill_entries;
-use crate::fills::fill_noted;
+use crate::fills::fill_slot;
 use crate::fills::moved_to;
-use jkf::Entry;
 use jkf::Hang;
 use text::Cursor;
 ghost use mathlib.Core.Path.{_≡_};
@@ -58,7 +57,7 @@ fn fill_main(s: &[u8], table: usize, w: Walk, out: &mut [u8]) -> Walk
     requires { ⌜ LineFits (mainLine (now s) (w .next .at)) table w (now out) ⌝ }
     ensures { λ r. ⌜ Lined (mainLine (now (s .entry)) (w .next .at) ∷ []) (pastMain (now (s .entry)) (slotAt (now (s .entry)) (w .next .at) .at)) table (table + 8) w r (now (out .entry)) (now (out .exit)) ⌝ }
 {
-    let slot = fill_noted(s, Entry::Slot, moved_to(w, skipped(w.next, s)), out);
+    let slot = fill_slot(s, moved_to(w, skipped(w.next, s)), out);
     let line = fill_entries(s, slot, out);
     let count = line.entries - w.entries;
     put_line(out, table, 0, w.entries, count, 0);

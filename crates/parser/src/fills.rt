@@ -28,6 +28,38 @@ fn put_entry(out: &mut [u8], at: usize, e: Entry, first: usize, count: usize) ->
     at + jkf::put_entry(&mut out[at..], e, first, count)
 }
 
+// The slot's, which are zeros but for its comments.
+fn put_slot(out: &mut [u8], at: usize, first: usize, count: usize) -> usize
+    ensures { λ r. ⌜ Stored (fitting (entryBytes Entry.Slot first count) (drop at (now (out .entry)))) (now (out .entry)) (now (out .exit)) at r ⌝ }
+{
+    lent::put_at(
+        out,
+        at,
+        &[
+            0,
+            0,
+            0,
+            0,
+            0,
+            0,
+            0,
+            0,
+            0,
+            0,
+            0,
+            0,
+            0,
+            0,
+            0,
+            0,
+            (first % 256) as u8,
+            (first / 256 % 256) as u8,
+            (count % 256) as u8,
+            (count / 256 % 256) as u8,
+        ],
+    )
+}
+
 // A comment: its row, and its bytes; the walk then stands at the next place.
 fn fill_comment(s: &[u8], from: usize, to: usize, next: Cursor, w: Walk, out: &mut [u8]) -> Walk
     requires { ⌜ (from ≤ to) × (to ≤ length (now s)) ⌝ }
@@ -94,13 +126,33 @@ fn fill_comments(s: &[u8], w: Walk, out: &mut [u8]) -> Walk
 }
 
 // An entry with the comments from the walk's place on: these first, since its bytes say how many they are.
-pub(crate) fn fill_noted(s: &[u8], e: Entry, w: Walk, out: &mut [u8]) -> Walk
+fn fill_noted(s: &[u8], e: Entry, w: Walk, out: &mut [u8]) -> Walk
     requires { ⌜ EntriesFit (noted e (commentsAt (now s) (w .next .at) .state) ∷ []) w (now out) ⌝ }
     ensures { λ r. ⌜ Entered (noted e (commentsAt (now (s .entry)) (w .next .at) .state) ∷ []) (commentsAt (now (s .entry)) (w .next .at) .at) w r (now (out .entry)) (now (out .exit)) ⌝ }
 {
     let v = fill_comments(s, w, out);
     let count = v.noted - w.noted;
     let moves = put_entry(out, v.moves, e, first_comment(count, w.noted), count);
+    let next = v.next;
+    Walk {
+        moves,
+        comments: v.comments,
+        text: v.text,
+        entries: v.entries + 1,
+        noted: v.noted,
+        bytes: v.bytes,
+        next,
+    }
+}
+
+// The slot with the comments from the walk's place on; apart from fill_noted, which so has one caller and is compiled into its loop.
+pub(crate) fn fill_slot(s: &[u8], w: Walk, out: &mut [u8]) -> Walk
+    requires { ⌜ EntriesFit (noted Entry.Slot (commentsAt (now s) (w .next .at) .state) ∷ []) w (now out) ⌝ }
+    ensures { λ r. ⌜ Entered (noted Entry.Slot (commentsAt (now (s .entry)) (w .next .at) .state) ∷ []) (commentsAt (now (s .entry)) (w .next .at) .at) w r (now (out .entry)) (now (out .exit)) ⌝ }
+{
+    let v = fill_comments(s, w, out);
+    let count = v.noted - w.noted;
+    let moves = put_slot(out, v.moves, first_comment(count, w.noted), count);
     let next = v.next;
     Walk {
         moves,

@@ -1,26 +1,22 @@
 -- Digits by their keys: a character of three bytes is known by the number that they make.
 -- Assumes nothing.
-use Prim.Native.Nat.{ℕ, suc, _+_, _-_, _/_, _%_, _≤_, _<_}
+use Prim.Native.Nat.{ℕ, zero, suc, _+_, _-_, _/_, _%_, _≤_, _<_}
 use native.Mathlib.Omega.{arith}
 use native.Mathlib.Nat.{add-zero}
 use mathlib.Core.Path.{_≡_, refl, sym, ap, _∙_}
-use mathlib.Core.List.{List, [], _∷_}
+use mathlib.Core.List.{List, [], _∷_, _++_}
 use mathlib.Core.Bool.{Bool, true, false}
 use lib.ListN.{length, getD, drop}
 use lib.Dec.{eqb, ltb}
 use lib.Seq.{getD-drop}
 use borrow.Author.Tests.{eq-eqb, ne-eqb, eqb-true, eqb-false, ltb-true}
 use Rattle.lists.specs.Pick.{pick}
-use Rattle.lists.proofs.Laws.{pick-both}
+use Rattle.lists.proofs.Laws.{drop-step, pick-both}
 use Rattle.text.specs.Text.{prefixFrom, standsAt}
 use Rattle.spell.specs.Tables.{Spelling}
-use Rattle.spell.specs.Spell.{spelled, allBytes, key, keys, keyAt, digitsFrom}
+use Rattle.spell.specs.Spell.{spelled, allBytes, keyOf, bytesOf, key, keys, keyAt, digitsFrom}
 
 -- ---- a character of three bytes
-
--- the three bytes of a key
-abbrev pub bytesOf : ℕ → List ℕ
-bytesOf x = x / 65536 % 256 ∷ x / 256 % 256 ∷ x % 256 ∷ []
 
 -- what `allBytes` says of three
 three : (a b c : ℕ) → allBytes (a ∷ b ∷ c ∷ []) ≡ true → (a < 256) × (b < 256) × (0 < c) × (c < 256)
@@ -80,6 +76,11 @@ module _ (a b c : ℕ) (t : allBytes (a ∷ b ∷ c ∷ []) ≡ true) where
           off true false w p q r = refl
           off false v w p q r = refl
 
+-- the key at a place is that of the byte there and the two after it
+pub key-of : (s : List ℕ) (at a b : ℕ) → a ≡ at + 1 → b ≡ at + 2 → keyAt s at ≡ keyOf (getD s at 0) (getD s a 0) (getD s b 0)
+unfolding keyAt
+key-of s at a b p q = rw (p, q)
+
 -- the same of a text and a place
 pub key-at : (s : List ℕ) (at : ℕ) → key (drop at s) ≡ keyAt s at
 unfolding keyAt
@@ -93,24 +94,48 @@ stands-key (x ∷ y ∷ []) s at h b n = absurd (omega arith)
 stands-key (x ∷ y ∷ z ∷ []) s at h b n = prefix-three x y z b (drop at s) n ∙ ap (λ (k : ℕ). eqb k (key (x ∷ y ∷ z ∷ []))) (key-at s at)
 stands-key (x ∷ y ∷ z ∷ w ∷ t) s at h b n = absurd (omega arith)
 
+-- three bytes are those of their key
+pub bytes-key : (a b c : ℕ) → a < 256 → b < 256 → c < 256 → bytesOf (keyOf a b c) ≡ a ∷ b ∷ c ∷ []
+bytes-key a b c p q r =
+    let k : ℕ = keyOf a b c in
+    let e₀ : k / 65536 % 256 ≡ a = omega arith in
+    let e₁ : k / 256 % 256 ≡ b = omega arith in
+    let e₂ : k % 256 ≡ c = omega arith in
+    ap (λ (i : ℕ). i ∷ k / 256 % 256 ∷ k % 256 ∷ []) e₀ ∙ ap (λ (i : ℕ). a ∷ i ∷ k % 256 ∷ []) e₁ ∙ ap (λ (i : ℕ). a ∷ b ∷ i ∷ []) e₂
+
 key-bytes : (t : List ℕ) → length t ≡ 3 → allBytes t ≡ true → bytesOf (key t) ≡ t
 key-bytes [] h b = absurd (omega arith)
 key-bytes (x ∷ []) h b = absurd (omega arith)
 key-bytes (x ∷ y ∷ []) h b = absurd (omega arith)
 key-bytes (x ∷ y ∷ z ∷ []) h b =
     let (p, q, r₀, r) = three x y z b in
-    let k : ℕ = key (x ∷ y ∷ z ∷ []) in
-    let e₀ : k / 65536 % 256 ≡ x = omega arith in
-    let e₁ : k / 256 % 256 ≡ y = omega arith in
-    let e₂ : k % 256 ≡ z = omega arith in
-    ap (λ (i : ℕ). i ∷ k / 256 % 256 ∷ k % 256 ∷ []) e₀ ∙ ap (λ (i : ℕ). x ∷ i ∷ k % 256 ∷ []) e₁ ∙ ap (λ (i : ℕ). x ∷ y ∷ i ∷ []) e₂
+    bytes-key x y z p q r
 key-bytes (x ∷ y ∷ z ∷ w ∷ t) h b = absurd (omega arith)
+
+drop-next : (s : List ℕ) (at e : ℕ) → at < length s → e ≡ at + 1 → drop at s ≡ getD s at 0 ∷ drop e s
+drop-next s at e h z = rw z (drop-step s at h)
+
+-- what stands at a place begins with the bytes of its key
+pub key-stands : (s : List ℕ) (at : ℕ) → ((i : ℕ) → getD s i 0 < 256) → at + 3 ≤ length s → drop at s ≡ bytesOf (keyAt s at) ++ drop (at + 3) s
+unfolding keyAt
+key-stands s at h k =
+    rw (drop-next s at (at + 1) (omega arith) refl, drop-next s (at + 1) (at + 2) (omega arith) (omega arith), drop-next s (at + 2) (at + 3) (omega arith) (omega arith))
+    (ap (λ (l : List ℕ). l ++ drop (at + 3) s) (sym (bytes-key _ _ _ (h at) (h (at + 1)) (h (at + 2)))))
 
 -- the bytes of a slice, at a place
 pub near : (s : List ℕ) (at : ℕ) → ((i : ℕ) → getD s i 0 < 256) → Near (drop at s)
 near s at h = record { first = rw (getD-drop at s 0 0) (h (at + 0)); second = rw (getD-drop at s 1 0) (h (at + 1)); third = rw (getD-drop at s 2 0) (h (at + 2)) }
 
 -- ---- a table of digits
+
+-- n is none of 1 to k, as a match on them leaves it
+abbrev pub Unlike : ℕ → ℕ → Type 0
+Unlike zero n = Unit {0}
+Unlike (suc k) n = Unlike k n × (n ≡ suc k → ⊥)
+
+pub unlike-above : (k n : ℕ) → Unlike k n → 1 ≤ n → k < n
+unlike-above zero n u h = h
+unlike-above (suc k) n u h = omega (arith, unlike-above k n (u .0) h, u .1)
 
 pub keys-length : (es : List Spelling) → length (keys es) ≡ length es
 keys-length [] = refl

@@ -1,6 +1,6 @@
 pub mod Search
 pub mod Keys
-pub mod Lookups
 pub mod Written
+pub mod Lookups
 pub mod Answers
 pub mod Counts

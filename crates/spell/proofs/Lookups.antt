@@ -3,9 +3,9 @@
 use Prim.Native.Nat.{ℕ, zero, suc, _+_, _-_, _/_, _%_, _≤_, _<_}
 use native.Mathlib.Omega.{arith}
 use mathlib.Core.Path.{_≡_, refl, sym, ap, _∙_}
-use mathlib.Core.List.{List, [], _∷_}
+use mathlib.Core.List.{List, [], _∷_, _++_}
 use mathlib.Core.Bool.{Bool, true, false, false≢true}
-use lib.ListN.{length, drop}
+use lib.ListN.{length, getD, drop}
 use lib.Dec.{eqb, ltb, leb}
 use borrow.Author.Tests.{ne-eqb, eqb-true, eqb-false, lt-ltb, le-ltb, ltb-true, ltb-false, leb-true}
 use Rattle.lists.specs.Pick.{pick}
@@ -13,12 +13,13 @@ use Rattle.lists.proofs.Laws.{pick-both}
 use Rattle.text.specs.Text.{cursor, prefixFrom, standsAt}
 use Rattle.text.specs.declared.Cursor.{Cursor}
 use Rattle.text.proofs.Laws.{stands-fits}
-use Rattle.spell.specs.Tables.{Spelling, files}
-use Rattle.spell.specs.Spell.{firstOf, allBytes, key, keyAt}
-use Rattle.spell.specs.Slots.{look}
+use Rattle.spell.specs.Tables.{Spelling, kinds, numerals, files}
+use Rattle.spell.specs.Spell.{firstOf, allBytes, bytesOf, key, keyAt}
+use Rattle.spell.specs.Slots.{look, numberIn, numeralSlots, kindSlots, promotedIn}
 use Rattle.spell.specs.declared.Spelled.{Spelled}
 use Rattle.spell.specs.declared.Spelled.the-variants.{As, Not}
-use Rattle.spell.proofs.Keys.{Near, key-at, stands-key}
+use Rattle.spell.proofs.Keys.{Near, near, key-of, key-at, key-stands, stands-key}
+use Rattle.spell.proofs.Written.{holds, found}
 
 -- ---- what stands at a place has its key
 
@@ -105,10 +106,10 @@ apart-first (e ∷ es) fs w v h s at n c q = go (λ r. apart-first es fs (w₁ .
 -- ---- characters of three bytes by their keys
 
 -- the number of the first spelling of three bytes with a key; 0 where there is none
-abbrev pub numberIn : List Spelling → ℕ → ℕ
-numberIn [] x = 0
-numberIn (e ∷ es) x =
-    let r = numberIn es x in pick (eqb (length (e .bytes)) 3) (pick (eqb x (key (e .bytes))) (e .number) r) r
+abbrev pub numberOf : List Spelling → ℕ → ℕ
+numberOf [] x = 0
+numberOf (e ∷ es) x =
+    let r = numberOf es x in pick (eqb (length (e .bytes)) 3) (pick (eqb x (key (e .bytes))) (e .number) r) r
 
 -- the spellings of more bytes
 abbrev pub longer : List Spelling → List Spelling
@@ -121,73 +122,73 @@ keyed all [] = true
 keyed all (e ∷ es) =
     pick (eqb (length (e .bytes)) 3)
     (pick (allBytes (e .bytes)) (pick (ltb 0 (e .number)) (keyed all es) false) false)
-    (pick (leb 3 (length (e .bytes))) (pick (eqb (numberIn all (key (e .bytes))) 0) (keyed all es) false) false)
+    (pick (leb 3 (length (e .bytes))) (pick (eqb (numberOf all (key (e .bytes))) 0) (keyed all es) false) false)
 
 module _ (all : List Spelling) (s : List ℕ) (at : ℕ) (near : Near (drop at s)) where
   -- a number that is found by the key is found in the table
-  first-three : (es : List Spelling) → keyed all es ≡ true → (n : ℕ) → 0 < n → numberIn all (keyAt s at) ≡ n → numberIn es (keyAt s at) ≡ n
+  first-three : (es : List Spelling) → keyed all es ≡ true → (n : ℕ) → 0 < n → numberOf all (keyAt s at) ≡ n → numberOf es (keyAt s at) ≡ n
       → firstOf es s at ≡ As n (cursor (at + 3))
   unfolding firstOf
   first-three [] h n p a q = absurd (omega arith)
   first-three (e ∷ es) h n p a q = go (λ k r. first-three es k n p a r) (eqb (length (e .bytes)) 3) refl h q
     where
       Rest : Type 0
-      Rest = keyed all es ≡ true → numberIn es (keyAt s at) ≡ n → firstOf es s at ≡ As n (cursor (at + 3))
+      Rest = keyed all es ≡ true → numberOf es (keyAt s at) ≡ n → firstOf es s at ≡ As n (cursor (at + 3))
 
-      here : Rest → length (e .bytes) ≡ 3 → (u : Bool) → standsAt (e .bytes) s at ≡ u → pick u (e .number) (numberIn es (keyAt s at)) ≡ n → keyed all es ≡ true
+      here : Rest → length (e .bytes) ≡ 3 → (u : Bool) → standsAt (e .bytes) s at ≡ u → pick u (e .number) (numberOf es (keyAt s at)) ≡ n → keyed all es ≡ true
           → pick u (As (e .number) (cursor (at + length (e .bytes)))) (firstOf es s at) ≡ As n (cursor (at + 3))
       here ih z true t q k = ap (λ (m : ℕ). As m (cursor (at + length (e .bytes)))) q ∙ ap (λ (m : ℕ). As n (cursor (at + m))) z
       here ih z false t q k = ih k q
 
-      there : Rest → 3 ≤ length (e .bytes) → numberIn all (key (e .bytes)) ≡ 0 → (u : Bool) → standsAt (e .bytes) s at ≡ u → numberIn es (keyAt s at) ≡ n → keyed all es ≡ true
+      there : Rest → 3 ≤ length (e .bytes) → numberOf all (key (e .bytes)) ≡ 0 → (u : Bool) → standsAt (e .bytes) s at ≡ u → numberOf es (keyAt s at) ≡ n → keyed all es ≡ true
           → pick u (As (e .number) (cursor (at + length (e .bytes)))) (firstOf es s at) ≡ As n (cursor (at + 3))
       there ih w z true t q k =
-          let y : n ≡ 0 = sym a ∙ ap (numberIn all) (stands-has (e .bytes) s at w t) ∙ z in
+          let y : n ≡ 0 = sym a ∙ ap (numberOf all) (stands-has (e .bytes) s at w t) ∙ z in
           absurd (omega arith)
       there ih w z false t q k = ih k q
 
       go : Rest → (u : Bool) → eqb (length (e .bytes)) 3 ≡ u
           → pick u (pick (allBytes (e .bytes)) (pick (ltb 0 (e .number)) (keyed all es) false) false)
-          (pick (leb 3 (length (e .bytes))) (pick (eqb (numberIn all (key (e .bytes))) 0) (keyed all es) false) false) ≡ true
-          → pick u (pick (eqb (keyAt s at) (key (e .bytes))) (e .number) (numberIn es (keyAt s at))) (numberIn es (keyAt s at)) ≡ n
+          (pick (leb 3 (length (e .bytes))) (pick (eqb (numberOf all (key (e .bytes))) 0) (keyed all es) false) false) ≡ true
+          → pick u (pick (eqb (keyAt s at) (key (e .bytes))) (e .number) (numberOf es (keyAt s at))) (numberOf es (keyAt s at)) ≡ n
           → pick (standsAt (e .bytes) s at) (As (e .number) (cursor (at + length (e .bytes)))) (firstOf es s at) ≡ As n (cursor (at + 3))
       go ih true z h q =
           let (b, h₁) = pick-both (allBytes (e .bytes)) _ h in
           let (_, k) = pick-both (ltb 0 (e .number)) (keyed all es) h₁ in
           let z₁ = eqb-true (length (e .bytes)) 3 z in
-          here ih z₁ (standsAt (e .bytes) s at) refl (ap (λ (u : Bool). pick u (e .number) (numberIn es (keyAt s at))) (stands-key (e .bytes) s at z₁ b near) ∙ q) k
+          here ih z₁ (standsAt (e .bytes) s at) refl (ap (λ (u : Bool). pick u (e .number) (numberOf es (keyAt s at))) (stands-key (e .bytes) s at z₁ b near) ∙ q) k
       go ih false z h q =
           let (w, h₁) = pick-both (leb 3 (length (e .bytes))) _ h in
-          let (m, k) = pick-both (eqb (numberIn all (key (e .bytes))) 0) (keyed all es) h₁ in
+          let (m, k) = pick-both (eqb (numberOf all (key (e .bytes))) 0) (keyed all es) h₁ in
           there ih (leb-true _ _ w) (eqb-true _ _ m) (standsAt (e .bytes) s at) refl q k
 
   -- where none is, the longer ones are left
-  first-longer : (es : List Spelling) → keyed all es ≡ true → numberIn es (keyAt s at) ≡ 0 → firstOf es s at ≡ firstOf (longer es) s at
+  first-longer : (es : List Spelling) → keyed all es ≡ true → numberOf es (keyAt s at) ≡ 0 → firstOf es s at ≡ firstOf (longer es) s at
   unfolding firstOf
   first-longer [] h q = refl
   first-longer (e ∷ es) h q = go (λ k r. first-longer es k r) (eqb (length (e .bytes)) 3) refl h q
     where
       Rest : Type 0
-      Rest = keyed all es ≡ true → numberIn es (keyAt s at) ≡ 0 → firstOf es s at ≡ firstOf (longer es) s at
+      Rest = keyed all es ≡ true → numberOf es (keyAt s at) ≡ 0 → firstOf es s at ≡ firstOf (longer es) s at
 
-      here : Rest → 0 < e .number → (u : Bool) → pick u (e .number) (numberIn es (keyAt s at)) ≡ 0 → keyed all es ≡ true
+      here : Rest → 0 < e .number → (u : Bool) → pick u (e .number) (numberOf es (keyAt s at)) ≡ 0 → keyed all es ≡ true
           → pick u (As (e .number) (cursor (at + length (e .bytes)))) (firstOf es s at) ≡ firstOf (longer es) s at
       here ih p true q k = absurd (omega arith)
       here ih p false q k = ih k q
 
       go : Rest → (u : Bool) → eqb (length (e .bytes)) 3 ≡ u
           → pick u (pick (allBytes (e .bytes)) (pick (ltb 0 (e .number)) (keyed all es) false) false)
-          (pick (leb 3 (length (e .bytes))) (pick (eqb (numberIn all (key (e .bytes))) 0) (keyed all es) false) false) ≡ true
-          → pick u (pick (eqb (keyAt s at) (key (e .bytes))) (e .number) (numberIn es (keyAt s at))) (numberIn es (keyAt s at)) ≡ 0
+          (pick (leb 3 (length (e .bytes))) (pick (eqb (numberOf all (key (e .bytes))) 0) (keyed all es) false) false) ≡ true
+          → pick u (pick (eqb (keyAt s at) (key (e .bytes))) (e .number) (numberOf es (keyAt s at))) (numberOf es (keyAt s at)) ≡ 0
           → pick (standsAt (e .bytes) s at) (As (e .number) (cursor (at + length (e .bytes)))) (firstOf es s at) ≡ firstOf (pick u (longer es) (e ∷ longer es)) s at
       go ih true z h q =
           let (b, h₁) = pick-both (allBytes (e .bytes)) _ h in
           let (p, k) = pick-both (ltb 0 (e .number)) (keyed all es) h₁ in
           let z₁ = eqb-true (length (e .bytes)) 3 z in
-          here ih (ltb-true _ _ p) (standsAt (e .bytes) s at) (ap (λ (u : Bool). pick u (e .number) (numberIn es (keyAt s at))) (stands-key (e .bytes) s at z₁ b near) ∙ q) k
+          here ih (ltb-true _ _ p) (standsAt (e .bytes) s at) (ap (λ (u : Bool). pick u (e .number) (numberOf es (keyAt s at))) (stands-key (e .bytes) s at z₁ b near) ∙ q) k
       go ih false z h q =
           let (w, h₁) = pick-both (leb 3 (length (e .bytes))) _ h in
-          let (m, k) = pick-both (eqb (numberIn all (key (e .bytes))) 0) (keyed all es) h₁ in
+          let (m, k) = pick-both (eqb (numberOf all (key (e .bytes))) 0) (keyed all es) h₁ in
           ap (λ (r : Spelled). pick (standsAt (e .bytes) s at) (As (e .number) (cursor (at + length (e .bytes)))) r) (ih k q)
 
 -- ---- slots
@@ -195,20 +196,20 @@ module _ (all : List Spelling) (s : List ℕ) (at : ℕ) (near : Near (drop at s
 -- every slot has a key and its number
 abbrev pub sound : List Spelling → List (ℕ × ℕ) → Bool
 sound all [] = true
-sound all ((k, v) ∷ l) = pick (eqb (numberIn all (v / 16)) (v % 16)) (pick (ltb 0 (v % 16)) (sound all l) false) false
+sound all ((k, v) ∷ l) = pick (eqb (numberOf all (v / 16)) (v % 16)) (pick (ltb 0 (v % 16)) (sound all l) false) false
 
 sound-look : (all : List Spelling) (l : List (ℕ × ℕ)) → sound all l ≡ true → (h x : ℕ) → x < 16777216 → look l h / 16 ≡ x
-    → (numberIn all x ≡ look l h % 16) × (0 < look l h % 16)
+    → (numberOf all x ≡ look l h % 16) × (0 < look l h % 16)
 sound-look all [] t h x p q = absurd (omega arith)
 sound-look all ((k, v) ∷ l) t h x p q = go (λ t₂ r. sound-look all l t₂ h x p r) (eqb h k) q
   where
-    go : (sound all l ≡ true → look l h / 16 ≡ x → (numberIn all x ≡ look l h % 16) × (0 < look l h % 16)) → (u : Bool) → pick u v (look l h) / 16 ≡ x → (numberIn all x ≡ pick u v (look l h) % 16) × (0 < pick u v (look l h) % 16)
+    go : (sound all l ≡ true → look l h / 16 ≡ x → (numberOf all x ≡ look l h % 16) × (0 < look l h % 16)) → (u : Bool) → pick u v (look l h) / 16 ≡ x → (numberOf all x ≡ pick u v (look l h) % 16) × (0 < pick u v (look l h) % 16)
     go ih true q =
-        let (m, t₁) = pick-both (eqb (numberIn all (v / 16)) (v % 16)) _ t in
+        let (m, t₁) = pick-both (eqb (numberOf all (v / 16)) (v % 16)) _ t in
         let (n, _) = pick-both (ltb 0 (v % 16)) (sound all l) t₁ in
-        (ap (numberIn all) (sym q) ∙ eqb-true _ _ m, ltb-true _ _ n)
+        (ap (numberOf all) (sym q) ∙ eqb-true _ _ m, ltb-true _ _ n)
     go ih false q =
-        let (_, t₁) = pick-both (eqb (numberIn all (v / 16)) (v % 16)) _ t in
+        let (_, t₁) = pick-both (eqb (numberOf all (v / 16)) (v % 16)) _ t in
         let (_, t₂) = pick-both (ltb 0 (v % 16)) (sound all l) t₁ in
         ih t₂ q
 
@@ -218,12 +219,12 @@ complete l m [] = true
 complete l m (e ∷ es) =
     pick (eqb (length (e .bytes)) 3) (pick (eqb (look l (key (e .bytes) % m) / 16) (key (e .bytes))) (complete l m es) false) (complete l m es)
 
-complete-look : (l : List (ℕ × ℕ)) (m : ℕ) (es : List Spelling) → complete l m es ≡ true → (x : ℕ) → (look l (x % m) / 16 ≡ x → ⊥) → numberIn es x ≡ 0
+complete-look : (l : List (ℕ × ℕ)) (m : ℕ) (es : List Spelling) → complete l m es ≡ true → (x : ℕ) → (look l (x % m) / 16 ≡ x → ⊥) → numberOf es x ≡ 0
 complete-look l m [] t x q = refl
 complete-look l m (e ∷ es) t x q = go (λ k. complete-look l m es k x q) (eqb (length (e .bytes)) 3) t (eqb x (key (e .bytes))) refl
   where
-    go : (complete l m es ≡ true → numberIn es x ≡ 0) → (u : Bool) → pick u (pick (eqb (look l (key (e .bytes) % m) / 16) (key (e .bytes))) (complete l m es) false) (complete l m es) ≡ true
-        → (v : Bool) → eqb x (key (e .bytes)) ≡ v → pick u (pick v (e .number) (numberIn es x)) (numberIn es x) ≡ 0
+    go : (complete l m es ≡ true → numberOf es x ≡ 0) → (u : Bool) → pick u (pick (eqb (look l (key (e .bytes) % m) / 16) (key (e .bytes))) (complete l m es) false) (complete l m es) ≡ true
+        → (v : Bool) → eqb x (key (e .bytes)) ≡ v → pick u (pick v (e .number) (numberOf es x)) (numberOf es x) ≡ 0
     go ih true t true w =
         let (r, _) = pick-both (eqb (look l (key (e .bytes) % m) / 16) (key (e .bytes))) (complete l m es) t in
         let y : x ≡ key (e .bytes) = eqb-true x (key (e .bytes)) w in
@@ -237,24 +238,41 @@ complete-look l m (e ∷ es) t x q = go (λ k. complete-look l m es k x q) (eqb 
 pub key-small : (s : List ℕ) (at : ℕ) → Near (drop at s) → keyAt s at < 16777216
 key-small s at n = let a = n .first in let b = n .second in let c = n .third in omega (arith, key-at s at)
 
--- row is what the code found in the slot of the key at a place
+-- n is what the code found by the key at a place
 module _ (es : List Spelling) (l : List (ℕ × ℕ)) (m : ℕ) (k : keyed es es ≡ true) (t : sound es l ≡ true) (u : complete l m es ≡ true)
-    (s : List ℕ) (at : ℕ) (near : Near (drop at s)) (row : ℕ) (e : row ≡ look l (keyAt s at % m)) where
-  -- it has the key
-  pub row-first : row / 16 ≡ keyAt s at → firstOf es s at ≡ As (row % 16) (cursor (at + 3))
-  row-first q =
-      let (n, p) = sound-look es l t (keyAt s at % m) (keyAt s at) (key-small s at near) (ap (λ (r : ℕ). r / 16) (sym e) ∙ q) in
-      let n₁ : numberIn es (keyAt s at) ≡ row % 16 = n ∙ ap (λ (r : ℕ). r % 16) (sym e) in
-      first-three es s at near es k (row % 16) (omega arith) n₁ n₁
+    (s : List ℕ) (at : ℕ) (near : Near (drop at s)) (n : ℕ) (e : n ≡ numberIn l m (keyAt s at)) where
+  -- what stands in the slot
+  abbrev held : ℕ
+  held = look l (keyAt s at % m)
 
-  -- it has not
-  pub row-longer : (row / 16 ≡ keyAt s at → ⊥) → firstOf es s at ≡ firstOf (longer es) s at
-  row-longer q = first-longer es s at near es k (complete-look l m es u (keyAt s at) (λ z. q (ap (λ (r : ℕ). r / 16) e ∙ z)))
+  held-known : held / 16 ≡ keyAt s at → (numberOf es (keyAt s at) ≡ held % 16) × (0 < held % 16)
+  held-known = sound-look es l t (keyAt s at % m) (keyAt s at) (key-small s at near)
+
+  -- it has a number
+  pub slot-first : (n ≡ 0 → ⊥) → firstOf es s at ≡ As n (cursor (at + 3))
+  unfolding numberIn
+  slot-first q = go (eqb (held / 16) (keyAt s at)) refl e
+    where
+      go : (v : Bool) → eqb (held / 16) (keyAt s at) ≡ v → n ≡ pick v (held % 16) 0 → firstOf es s at ≡ As n (cursor (at + 3))
+      go true w z =
+          let (o, p) = held-known (eqb-true _ _ w) in
+          let o₁ : numberOf es (keyAt s at) ≡ n = o ∙ sym z in
+          first-three es s at near es k n (omega arith) o₁ o₁
+      go false w z = absurd (q z)
+
+  -- it has none
+  pub slot-longer : n ≡ 0 → firstOf es s at ≡ firstOf (longer es) s at
+  unfolding numberIn
+  slot-longer q = go (eqb (held / 16) (keyAt s at)) refl e
+    where
+      go : (v : Bool) → eqb (held / 16) (keyAt s at) ≡ v → n ≡ pick v (held % 16) 0 → firstOf es s at ≡ firstOf (longer es) s at
+      go true w z = let (_, p) = held-known (eqb-true _ _ w) in absurd (omega arith)
+      go false w z = first-longer es s at near es k (complete-look l m es u (keyAt s at) (eqb-false _ _ w))
 
   -- nor is any longer
-  pub row-not : longer es ≡ [] → (row / 16 ≡ keyAt s at → ⊥) → firstOf es s at ≡ Not
+  pub slot-not : longer es ≡ [] → n ≡ 0 → firstOf es s at ≡ Not
   unfolding firstOf
-  row-not z q = row-longer q ∙ ap (λ (fs : List Spelling). firstOf fs s at) z
+  slot-not z q = slot-longer q ∙ ap (λ (fs : List Spelling). firstOf fs s at) z
 
 -- whether fewer than three bytes stand at a place, as the code asks it
 pub short-test : (n at : ℕ) → 3 ≤ n → ltb (n - 3) at ≡ ltb n (at + 3)
@@ -266,7 +284,7 @@ short-test n at h = go (ltb (n - 3) at) refl
 
 -- ---- files, whose keys are one after another
 
-file-number : (d : ℕ) → d < 9 → numberIn files (15711377 + d) ≡ d + 1
+file-number : (d : ℕ) → d < 9 → numberOf files (15711377 + d) ≡ d + 1
 file-number zero h = refl
 file-number (suc zero) h = refl
 file-number (suc (suc zero)) h = refl
@@ -278,7 +296,7 @@ file-number (suc (suc (suc (suc (suc (suc (suc zero))))))) h = refl
 file-number (suc (suc (suc (suc (suc (suc (suc (suc zero)))))))) h = refl
 file-number (suc (suc (suc (suc (suc (suc (suc (suc (suc d))))))))) h = absurd (omega arith)
 
-file-none : (x : ℕ) → (15711377 ≤ x → x ≤ 15711385 → ⊥) → numberIn files x ≡ 0
+file-none : (x : ℕ) → (15711377 ≤ x → x ≤ 15711385 → ⊥) → numberOf files x ≡ 0
 file-none x h = rw (ne-eqb x 15711377 (λ e. h (omega arith) (omega arith)), ne-eqb x 15711378 (λ e. h (omega arith) (omega arith)), ne-eqb x 15711379 (λ e. h (omega arith) (omega arith)), ne-eqb x 15711380 (λ e. h (omega arith) (omega arith)), ne-eqb x 15711381 (λ e. h (omega arith) (omega arith)), ne-eqb x 15711382 (λ e. h (omega arith) (omega arith)), ne-eqb x 15711383 (λ e. h (omega arith) (omega arith)), ne-eqb x 15711384 (λ e. h (omega arith) (omega arith)), ne-eqb x 15711385 (λ e. h (omega arith) (omega arith)))
 
 module _ (s : List ℕ) (at : ℕ) (near : Near (drop at s)) (x : ℕ) (e : x ≡ keyAt s at) where
@@ -286,9 +304,81 @@ module _ (s : List ℕ) (at : ℕ) (near : Near (drop at s)) (x : ℕ) (e : x �
   file-first l u =
       let y : 15711377 + (x - 15711377) ≡ x = omega arith in
       let z : x - 15711377 + 1 ≡ x - 15711376 = omega arith in
-      let n : numberIn files (keyAt s at) ≡ x - 15711376 = ap (numberIn files) (sym (y ∙ e)) ∙ file-number (x - 15711377) (omega arith) ∙ z in
+      let n : numberOf files (keyAt s at) ≡ x - 15711376 = ap (numberOf files) (sym (y ∙ e)) ∙ file-number (x - 15711377) (omega arith) ∙ z in
       first-three files s at near files refl (x - 15711376) (omega arith) n n
 
   pub file-not : (15711377 ≤ x → x ≤ 15711385 → ⊥) → firstOf files s at ≡ Not
   unfolding firstOf
-  file-not h = first-longer files s at near files refl (ap (numberIn files) (sym e) ∙ file-none x h)
+  file-not h = first-longer files s at near files refl (ap (numberOf files) (sym e) ∙ file-none x h)
+
+-- ---- 成 before a kind
+
+-- 成 and a kind of 2 to 4 are spelled as one kind: a test that antt computes
+abbrev joins : List (ℕ × ℕ) → Bool
+joins [] = true
+joins ((k, v) ∷ l) =
+    pick (ltb (v % 16) 2) (joins l)
+    (pick (ltb 4 (v % 16)) (joins l)
+    (pick (holds kinds (v % 16 + 8) (230 ∷ 136 ∷ 144 ∷ bytesOf (v / 16))) (joins l) false))
+
+joins-look : (l : List (ℕ × ℕ)) → joins l ≡ true → (h x : ℕ) → x < 16777216 → look l h / 16 ≡ x → 2 ≤ look l h % 16 → look l h % 16 ≤ 4
+    → holds kinds (look l h % 16 + 8) (230 ∷ 136 ∷ 144 ∷ bytesOf x) ≡ true
+joins-look [] t h x p q a b = absurd (omega arith)
+joins-look ((k, v) ∷ l) t h x p q a b = go (λ t. joins-look l t h x p) (eqb h k) (ltb (v % 16) 2) (ltb 4 (v % 16)) refl refl t q a b
+  where
+    At : ℕ → Type 0
+    At r = r / 16 ≡ x → 2 ≤ r % 16 → r % 16 ≤ 4 → holds kinds (r % 16 + 8) (230 ∷ 136 ∷ 144 ∷ bytesOf x) ≡ true
+
+    go : (joins l ≡ true → At (look l h)) → (u d e : Bool) → ltb (v % 16) 2 ≡ d → ltb 4 (v % 16) ≡ e
+        → pick d (joins l) (pick e (joins l) (pick (holds kinds (v % 16 + 8) (230 ∷ 136 ∷ 144 ∷ bytesOf (v / 16))) (joins l) false)) ≡ true
+        → At (pick u v (look l h))
+    go ih true true e i j t q a b = absurd (omega (arith, ltb-true (v % 16) 2 i))
+    go ih true false true i j t q a b = absurd (omega (arith, ltb-true 4 (v % 16) j))
+    go ih true false false i j t q a b = rw (← q) (pick-both (holds kinds (v % 16 + 8) (230 ∷ 136 ∷ 144 ∷ bytesOf (v / 16))) (joins l) t .0)
+    go ih false true e i j t q a b = ih t q a b
+    go ih false false true i j t q a b = ih t q a b
+    go ih false false false i j t q a b = ih (pick-both (holds kinds (v % 16 + 8) (230 ∷ 136 ∷ 144 ∷ bytesOf (v / 16))) (joins l) t .1) q a b
+
+-- what makes a promoted kind, and how that is spelled
+promoted-is : (x : ℕ) → x < 16777216 → (promotedIn x ≡ 0 → ⊥) → holds kinds (promotedIn x) (230 ∷ 136 ∷ 144 ∷ bytesOf x) ≡ true
+unfolding promotedIn numberIn
+promoted-is x h q = go (eqb (row / 16) x) (ltb (row % 16) 2) (ltb 4 (row % 16)) refl refl refl q
+  where
+    row : ℕ
+    row = look kindSlots (x % 35)
+
+    made : Bool → ℕ
+    made u = let k = pick u (row % 16) 0 in pick (ltb k 2) 0 (pick (ltb 4 k) 0 (k + 8))
+
+    go : (u d e : Bool) → eqb (row / 16) x ≡ u → ltb (row % 16) 2 ≡ d → ltb 4 (row % 16) ≡ e → (made u ≡ 0 → ⊥)
+        → holds kinds (made u) (230 ∷ 136 ∷ 144 ∷ bytesOf x) ≡ true
+    go false d e w i j q = absurd (q refl)
+    go true true e w i j q = absurd (q (rw i))
+    go true false true w i j q = absurd (q (rw (i, j)))
+    go true false false w i j q = rw (i, j) (joins-look kindSlots refl (x % 35) x h (eqb-true _ _ w) (ltb-false _ _ i) (ltb-false _ _ j))
+
+-- ---- what is known of three bytes of a slice
+
+module _ (s : List ℕ) (at : ℕ) (bytes : (i : ℕ) → getD s i 0 < 256) where
+  pub numeral-known : (numberIn numeralSlots 17 (keyAt s at) ≡ 0 → ⊥) → firstOf numerals s at ≡ As (numberIn numeralSlots 17 (keyAt s at)) (cursor (at + 3))
+  numeral-known q = slot-first numerals numeralSlots 17 refl refl refl s at (near s at bytes) _ refl q
+
+  pub kind-known : (numberIn kindSlots 35 (keyAt s at) ≡ 0 → ⊥) → firstOf kinds s at ≡ As (numberIn kindSlots 35 (keyAt s at)) (cursor (at + 3))
+  kind-known q = slot-first kinds kindSlots 35 refl refl refl s at (near s at bytes) _ refl q
+
+  pub file-known : getD s at 0 ≡ 239 → getD s (at + 1) 0 ≡ 188 → 145 ≤ getD s (at + 2) 0 → getD s (at + 2) 0 ≤ 153
+      → firstOf files s at ≡ As (getD s (at + 2) 0 - 144) (cursor (at + 3))
+  file-known a b l u =
+      let x = key-of s at (at + 1) (at + 2) refl refl in
+      let z : keyAt s at - 15711376 ≡ getD s (at + 2) 0 - 144 = omega arith in
+      file-first s at (near s at bytes) (keyAt s at) refl (omega arith) (omega arith) ∙ ap (λ (n : ℕ). As n (cursor (at + 3))) z
+
+  -- 成 and three bytes more
+  pub promoted-known : getD s at 0 ≡ 230 → getD s (at + 1) 0 ≡ 136 → getD s (at + 2) 0 ≡ 144 → at + 6 ≤ length s → (promotedIn (keyAt s (at + 3)) ≡ 0 → ⊥)
+      → firstOf kinds s at ≡ As (promotedIn (keyAt s (at + 3))) (cursor (at + 6))
+  promoted-known a b c h q =
+      let x : ℕ = keyAt s (at + 3) in
+      let k : keyAt s at ≡ 15108240 = omega (arith, key-of s at (at + 1) (at + 2) refl refl) in
+      let st : drop at s ≡ 230 ∷ 136 ∷ 144 ∷ bytesOf x ++ drop (at + 3 + 3) s =
+      key-stands s at bytes (omega arith) ∙ ap (λ (y : ℕ). bytesOf y ++ drop (at + 3) s) k ∙ ap (λ (l : List ℕ). 230 ∷ 136 ∷ 144 ∷ l) (key-stands s (at + 3) bytes (omega arith)) in
+      found kinds (promotedIn x) (230 ∷ 136 ∷ 144 ∷ bytesOf x) refl (promoted-is x (key-small s (at + 3) (near s (at + 3) bytes)) q) (drop (at + 3 + 3) s) (record { rest = st; within = omega arith })

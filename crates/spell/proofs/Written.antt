@@ -1,7 +1,8 @@
 -- What is written by one table is read by another that has its spellings, if in that one no spelling starts another. That tables are such
 -- are tests, which antt computes.
 -- Assumes nothing.
-use Prim.Native.Nat.{ℕ, _+_}
+use Prim.Native.Nat.{ℕ, _+_, _-_, _≤_}
+use native.Mathlib.Omega.{arith}
 use mathlib.Core.Path.{_≡_, refl, sym, ap, _∙_}
 use mathlib.Core.List.{List, [], _∷_, _++_}
 use mathlib.Core.Bool.{Bool, true, false, true≢false, false≢true}
@@ -9,7 +10,7 @@ use lib.ListN.{length}
 use lib.Dec.{eqb}
 use borrow.Author.Tests.{eqb-true, eqb-false, eq-eqb, ne-eqb}
 use Rattle.lists.specs.Pick.{pick}
-use Rattle.lists.proofs.Laws.{pick-both, pick-none}
+use Rattle.lists.proofs.Laws.{pick-both, pick-none, range-at}
 use Rattle.lists.proofs.Stand.{Stands, Reads, Any, stands-past}
 use Rattle.text.specs.Text.{cursor, prefixFrom, standsAt}
 use Rattle.spell.specs.Tables.{Spelling, moveKinds, kinds, specials, presets, numerals, files}
@@ -109,7 +110,7 @@ clear-held a (e ∷ es) n b h k =
     go false w p ih k = ih k
 
 -- what a table spells is found where it stands
-found : (es : List Spelling) (n : ℕ) (b : List ℕ) → alone es ≡ true → holds es n b ≡ true → {s : List ℕ} {at : ℕ} (r : List ℕ)
+pub found : (es : List Spelling) (n : ℕ) (b : List ℕ) → alone es ≡ true → holds es n b ≡ true → {s : List ℕ} {at : ℕ} (r : List ℕ)
     → Stands s at (b ++ r) → firstOf es s at ≡ As n (cursor (at + length b))
 unfolding firstOf
 found [] n b h k r st = absurd (false≢true k)
@@ -173,3 +174,15 @@ module _ (n : ℕ) where
 
   pub file-reads : hasNumber files n ≡ true → Reads (firstOf files) (λ e. As n (cursor e)) (spelled files n) Any
   file-reads h = spelled-reads files files n refl refl h
+
+-- ---- the bytes that are written
+
+module _ (n : ℕ) where
+  pub file-bytes : 1 ≤ n → n ≤ 9 → spelled files n ≡ 239 ∷ 188 ∷ (144 + n) ∷ []
+  unfolding spelled
+  file-bytes h k = same-is _ _ (range-at (λ i. same (spelled files i) (239 ∷ 188 ∷ (144 + i) ∷ [])) 9 1 n refl h (omega arith))
+
+  -- a promoted 香, 桂 or 銀 has 成 before it
+  pub promoted-bytes : 10 ≤ n → n ≤ 12 → spelled moveKinds n ≡ 230 ∷ 136 ∷ 144 ∷ spelled moveKinds (n - 8)
+  unfolding spelled
+  promoted-bytes h k = same-is _ _ (range-at (λ i. same (spelled moveKinds i) (230 ∷ 136 ∷ 144 ∷ spelled moveKinds (i - 8))) 3 10 n refl h (omega arith))

@@ -1,8 +1,8 @@
 -- Characters of three bytes in slots: how the code finds the number of one at once.
 -- Assumes nothing: these are definitions.
-use Prim.Native.Nat.{ℕ}
+use Prim.Native.Nat.{ℕ, _+_, _/_, _%_}
 use mathlib.Core.List.{List, [], _∷_}
-use lib.Dec.{eqb}
+use lib.Dec.{eqb, ltb}
 use Rattle.lists.specs.Pick.{pick}
 use Rattle.spell.specs.Tables.{Spelling, spelling}
 
@@ -10,6 +10,10 @@ use Rattle.spell.specs.Tables.{Spelling, spelling}
 abbrev pub look : List (ℕ × ℕ) → ℕ → ℕ
 look [] h = 4294967295
 look ((k, v) ∷ l) h = pick (eqb h k) v (look l h)
+
+-- The number of a key by m slots: that of its slot where the slot has the key, 0 where it has another or none.
+unfoldable pub numberIn : List (ℕ × ℕ) → ℕ → ℕ → ℕ
+numberIn slots m x = pick (eqb (look slots (x % m) / 16) x) (look slots (x % m) % 16) 0
 
 -- 一 to 九: in the slot of a key, which is its remainder by 17, the key times 16 and the number.
 abbrev pub numeralSlots : List (ℕ × ℕ)
@@ -43,6 +47,10 @@ kindSlots =
     (23, 240765659) ∷
     (25, 243956006) ∷
     (28, 242923982) ∷ []
+
+-- The kind that 成 and the character of a key make, 0 where they make none: 香, 桂 and 銀 are 2 to 4, and promoted 10 to 12.
+unfoldable pub promotedIn : ℕ → ℕ
+promotedIn x = let k = numberIn kindSlots 35 x in pick (ltb k 2) 0 (pick (ltb 4 k) 0 (k + 8))
 
 -- The kinds of two characters: 成香 成桂 成銀.
 abbrev pub promotedKinds : List Spelling

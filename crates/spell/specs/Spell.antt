@@ -1,6 +1,6 @@
 -- What a table of spellings says: which of them stands at a place, and how a number is written.
 -- Assumes nothing: these are definitions.
-use Prim.Native.Nat.{ℕ, _+_, _*_, _-_, _<_}
+use Prim.Native.Nat.{ℕ, _+_, _*_, _-_, _/_, _%_, _<_}
 use mathlib.Core.Path.{_≡_}
 use mathlib.Core.List.{List, [], _∷_, _++_}
 use mathlib.Core.Bool.{Bool, true, false}
@@ -62,9 +62,16 @@ abbrev pub allBytes : List ℕ → Bool
 allBytes [] = true
 allBytes (b ∷ t) = pick (ltb 0 b) (pick (ltb b 256) (allBytes t) false) false
 
+-- Three bytes as one number, and the bytes of such a number.
+abbrev pub keyOf : ℕ → ℕ → ℕ → ℕ
+keyOf a b c = a * 65536 + b * 256 + c
+
+abbrev pub bytesOf : ℕ → List ℕ
+bytesOf x = x / 65536 % 256 ∷ x / 256 % 256 ∷ x % 256 ∷ []
+
 -- The three bytes of a character, as one number.
 abbrev pub key : List ℕ → ℕ
-key t = getD t 0 0 * 65536 + getD t 1 0 * 256 + getD t 2 0
+key t = keyOf (getD t 0 0) (getD t 1 0) (getD t 2 0)
 
 abbrev pub keys : List Spelling → List ℕ
 keys [] = []
@@ -72,7 +79,7 @@ keys (e ∷ es) = key (e .bytes) ∷ keys es
 
 -- The three bytes at a place, as one number.
 unfoldable pub keyAt : List ℕ → ℕ → ℕ
-keyAt s at = getD s at 0 * 65536 + getD s (at + 1) 0 * 256 + getD s (at + 2) 0
+keyAt s at = keyOf (getD s at 0) (getD s (at + 1) 0) (getD s (at + 2) 0)
 
 -- The keys of a table of digits: characters of three bytes, none of them 0, that are numbered from 1 on.
 abbrev pub digitsFrom : ℕ → List Spelling → Bool

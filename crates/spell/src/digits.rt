@@ -8,8 +8,8 @@ ghost use lib.Dec.{ltb};
 ghost use lib.ListN.{length};
 ghost use Rattle.lent.specs.Bytes.{Wrote, fitting};
 ghost use Rattle.spell.specs.Tables.{Spelling, numerals, files};
-ghost use Rattle.spell.specs.Slots.{look, numeralSlots};
-ghost use Rattle.spell.specs.Spell.{Digits, IsDigits, keyAt, firstOf, spelled};
+ghost use Rattle.spell.specs.Slots.{look, numberIn, numeralSlots};
+ghost use Rattle.spell.specs.Spell.{Digits, IsDigits, keyOf, keyAt, bytesOf, firstOf, spelled};
 
 // 一 to 九
 const NUMERALS: [u32; 9] = [
@@ -53,12 +53,19 @@ pub(crate) fn is_short(s: &[u8], at: usize) -> bool
     s.len() - 3 < at
 }
 
+// Three bytes as one number.
+pub(crate) fn key(a: u8, b: u8, c: u8) -> u32
+    ensures { λ r. ⌜ r ≡ keyOf a b c ⌝ }
+{
+    wide32(a) * 65536 + wide32(b) * 256 + wide32(c)
+}
+
 // The three bytes at a place as one number.
 pub(crate) fn key_at(s: &[u8], at: usize) -> u32
     requires { ⌜ at + 3 ≤ length (now s) ⌝ }
     ensures { λ r. ⌜ r ≡ keyAt (now (s .entry)) at ⌝ }
 {
-    wide32(s[at]) * 65536 + wide32(s[at + 1]) * 256 + wide32(s[at + 2])
+    key(s[at], s[at + 1], s[at + 2])
 }
 
 // The numerals in 17 slots: in the slot of a key, which is its remainder, the key and then its number in the last four bits.
@@ -80,6 +87,18 @@ fn numeral_row(h: u32) -> u32
     }
 }
 
+// The number of the numeral that three bytes are; 0 where they are none.
+pub fn numeral_of(a: u8, b: u8, c: u8) -> u8
+    ensures { λ r. ⌜ r ≡ numberIn numeralSlots 17 (keyOf a b c) ⌝ }
+{
+    let x = key(a, b, c);
+    let row = numeral_row(x % 17);
+    if row / 16 != x {
+        return 0;
+    }
+    (row % 16) as u8
+}
+
 // The rank, or digit of a count, that stands at a place.   (the Rust's kansuji_digit)
 pub fn numeral(c: Cursor, s: &[u8]) -> Spelled
     ensures { λ r. ⌜ r ≡ firstOf numerals (now (s .entry)) (c .at) ⌝ }
@@ -88,12 +107,11 @@ pub fn numeral(c: Cursor, s: &[u8]) -> Spelled
     if is_short(s, at) {
         return Spelled::Not;
     }
-    let x = key_at(s, at);
-    let row = numeral_row(x % 17);
-    if row / 16 != x {
+    let n = numeral_of(s[at], s[at + 1], s[at + 2]);
+    if n == 0 {
         return Spelled::Not;
     }
-    Spelled::As((row % 16) as u8, Cursor { at: at + 3 })
+    Spelled::As(n, Cursor { at: at + 3 })
 }
 
 // The file that stands at a place: １ to ９ are one after another.   (the Rust's place_x)
@@ -112,6 +130,24 @@ pub fn file(c: Cursor, s: &[u8]) -> Spelled
         return Spelled::Not;
     }
     Spelled::As((x - 0xefbc90) as u8, Cursor { at: at + 3 })
+}
+
+// The bytes of a numeral as one number; 0 where there is none.
+pub fn numeral_key(n: u8) -> u32
+    ensures { λ r. ⌜ (1 ≤ n → n ≤ 9 → spelled numerals n ≡ bytesOf r) ⌝ }
+{
+    match n {
+        1 => 0xe4b880,
+        2 => 0xe4ba8c,
+        3 => 0xe4b889,
+        4 => 0xe59b9b,
+        5 => 0xe4ba94,
+        6 => 0xe585ad,
+        7 => 0xe4b883,
+        8 => 0xe585ab,
+        9 => 0xe4b99d,
+        _ => 0,
+    }
 }
 
 fn put_digit(out: &mut [u8], n: u8, keys: &[u32]) -> usize

@@ -4,6 +4,8 @@ mod kansuji;
 
 pub use digits::file;
 pub use digits::numeral;
+pub use digits::numeral_key;
+pub use digits::numeral_of;
 pub use digits::put_file;
 pub use digits::put_numeral;
 pub use kansuji::count;
@@ -11,10 +13,11 @@ pub use kansuji::put_count;
 use text::Cursor;
 ghost use mathlib.Core.Path.{_≡_};
 ghost use mathlib.Core.List.{List};
+ghost use Prim.Native.Nat.{_≤_};
 ghost use Rattle.lent.specs.Bytes.{Wrote, fitting};
 ghost use Rattle.spell.specs.Tables.{Spelling, moveKinds, kinds, specials, writtenSpecials, presets, sides};
-ghost use Rattle.spell.specs.Slots.{look, kindSlots, promotedKinds};
-ghost use Rattle.spell.specs.Spell.{Rows, IsTable, firstOf, spelled};
+ghost use Rattle.spell.specs.Slots.{look, numberIn, kindSlots, promotedIn, promotedKinds};
+ghost use Rattle.spell.specs.Spell.{Rows, IsTable, keyOf, bytesOf, firstOf, spelled};
 
 // What a table has at a place: its number and the place past it.
 pub enum Spelled {
@@ -83,6 +86,32 @@ fn kind_row(h: u32) -> u32
     }
 }
 
+// The kind that three bytes are, 1 to 14; 0 where they are none.
+pub fn kind_of(a: u8, b: u8, c: u8) -> u8
+    ensures { λ r. ⌜ r ≡ numberIn kindSlots 35 (keyOf a b c) ⌝ }
+{
+    let x = digits::key(a, b, c);
+    let row = kind_row(x % 35);
+    if row / 16 != x {
+        return 0;
+    }
+    (row % 16) as u8
+}
+
+// The kind that 成 and three bytes make, 10 to 12; 0 where they make none.
+pub fn promoted_of(a: u8, b: u8, c: u8) -> u8
+    ensures { λ r. ⌜ r ≡ promotedIn (keyOf a b c) ⌝ }
+{
+    let k = kind_of(a, b, c);
+    if k < 2 {
+        return 0;
+    }
+    if 4 < k {
+        return 0;
+    }
+    k + 8
+}
+
 // 成香 成桂 成銀
 fn promoted(c: Cursor, s: &[u8]) -> Spelled
     ensures { λ r. ⌜ r ≡ firstOf promotedKinds (now (s .entry)) (c .at) ⌝ }
@@ -103,12 +132,11 @@ pub fn kind(c: Cursor, s: &[u8]) -> Spelled
     if digits::is_short(s, at) {
         return Spelled::Not;
     }
-    let x = digits::key_at(s, at);
-    let row = kind_row(x % 35);
-    if row / 16 != x {
+    let n = kind_of(s[at], s[at + 1], s[at + 2]);
+    if n == 0 {
         return promoted(c, s);
     }
-    Spelled::As((row % 16) as u8, Cursor { at: at + 3 })
+    Spelled::As(n, Cursor { at: at + 3 })
 }
 
 // The ending that stands at a place, 0 to 13.   (the Rust's move_special)
@@ -147,6 +175,24 @@ fn put_spelled(out: &mut [u8], n: u8, table: &[u8], w: usize) -> usize
         i += w;
     }
     0
+}
+
+// The bytes of a kind of one character, as a move is written, as one number; 0 where there is none.
+pub fn kind_key(n: u8) -> u32
+    ensures { λ r. ⌜ (1 ≤ n → n ≤ 9 → spelled moveKinds n ≡ bytesOf r) ⌝ }
+{
+    match n {
+        1 => 0xe6ada9,
+        2 => 0xe9a699,
+        3 => 0xe6a182,
+        4 => 0xe98a80,
+        5 => 0xe98791,
+        6 => 0xe8a792,
+        7 => 0xe9a39b,
+        8 => 0xe78e89,
+        9 => 0xe381a8,
+        _ => 0,
+    }
 }
 
 // A kind as a move is written.   (the Rust's write_move_kind)

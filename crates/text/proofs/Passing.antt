@@ -3,12 +3,12 @@
 use Prim.Native.Nat.{ℕ, zero, suc, _+_, _≤_, _<_}
 use native.Mathlib.Nat.{add-zero}
 use native.Mathlib.Omega.{arith}
-use mathlib.Core.Path.{_≡_, refl, sym, ap, _∙_}
+use mathlib.Core.Path.{_≡_, refl, sym, ap, subst, _∙_}
 use mathlib.Core.List.{List}
 use mathlib.Core.Bool.{true}
 use lib.ListN.{length, getD}
 use borrow.Author.Tests.{lt-ltb, le-ltb, ne-eqb}
-use Rattle.text.specs.Runs.{Run}
+use Rattle.text.specs.Runs.{Run, Count}
 use Rattle.text.specs.Text.{isText, textAt, pastAll}
 use Rattle.text.specs.Utf8.{sizeOf, lowestOf, highestOf, secondOf, isNext, charWidth}
 use Rattle.text.proofs.Laws.{span-on}
@@ -30,6 +30,41 @@ run-on p q =
 -- one step more, after k
 pub step-on : (f : ℕ → ℕ) (at k : ℕ) → f at ≡ f (at + k) → f (at + k) ≡ f (at + k + 1) → f at ≡ f (at + (k + 1))
 step-on f at k p q = let e : at + k + 1 ≡ at + (k + 1) = omega arith in p ∙ q ∙ ap f e
+
+-- ---- bytes that are counted
+
+-- two counts are one
+pub count-on : {j k p q : ℕ} {A B : Type 0} → Count j p A → Count k q B → Count (j + k) (p + q) (A × B)
+count-on c d =
+    let c₁ = c .most in
+    let d₁ = d .most in
+    record { most = omega arith; all = λ e. (c .all (omega arith), d .all (omega arith)) }
+
+-- four bytes of a class of which f passes each
+pub four-run : (f : ℕ → ℕ) (P : ℕ → Type 0) (s : List ℕ) → ((at : ℕ) → at < length s → P (getD s at 0) → f at ≡ f (at + 1)) → (at r : ℕ) → at + 4 ≤ length s
+    → Count 4 r (((P (getD s at 0) × P (getD s (at + 1) 0)) × P (getD s (at + 2) 0)) × P (getD s (at + 3) 0)) → Count 4 r (Run f s at (at + 4))
+four-run f P s on at r h c = record {
+  most = c .most;
+  all = λ e.
+      let (((p, q), v), w) = c .all e in
+      record {
+        from = omega arith;
+        within = omega arith;
+        same = step-on f at 3 (step-on f at 2 (step-on f at 1 (on at (omega arith) p) (on (at + 1) (omega arith) q)) (on (at + 2) (omega arith) v)) (on (at + 3) (omega arith) w);
+      };
+}
+
+run-to : {f : ℕ → ℕ} {s : List ℕ} {a b c : ℕ} → b ≡ c → Run f s a b → Run f s a c
+run-to {f} {s} {a} e r = subst (λ (i : ℕ). Run f s a i) e r
+
+-- four times four
+pub sixteen-run : (f : ℕ → ℕ) (s : List ℕ) (at : ℕ) {p q v w : ℕ} → Count 4 p (Run f s at (at + 4)) → Count 4 q (Run f s (at + 4) (at + 4 + 4))
+    → Count 4 v (Run f s (at + 8) (at + 8 + 4)) → Count 4 w (Run f s (at + 12) (at + 12 + 4)) → p + q + v + w ≡ 16 → Run f s at (at + 16)
+sixteen-run f s at a b c d e =
+    let (((k, l), m), n) = count-on (count-on (count-on a b) c) d .all e in
+    run-on k (run-on (run-to (omega arith) l) (run-on (run-to (omega arith) m) (run-to (omega arith) n)))
+
+-- ---- characters
 
 -- a byte from 14 on is text
 pub text-on : (s : List ℕ) (at : ℕ) → at < length s → 14 ≤ getD s at 0 → textAt s at ≡ textAt s (at + 1)

@@ -12,6 +12,11 @@ pub record Run (f : ℕ → ℕ) (s : List ℕ) (at r : ℕ) : Type 0 where
   pub within : r ≤ max at (length s)
   pub same : f at ≡ f r
 
+-- A count of k tests: where it is k, all of them hold.
+pub record Count (k r : ℕ) (All : Type 0) : Type 0 where
+  pub most : r ≤ k
+  pub all : r ≡ k → All
+
 -- The digits from `start` to `at` made n, and those from `at` on are still to come.
 pub record Reading (largest : ℕ) (s : List ℕ) (start at n : ℕ) : Type 0 where
   pub span : spanAt isDigit s start ≡ spanAt isDigit s at

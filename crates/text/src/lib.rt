@@ -5,7 +5,10 @@ mod utf8;
 pub use utf8::well_formed;
 ghost use mathlib.Core.Path.{_≡_};
 ghost use Rattle.text.specs.Utf8.{characterAt};
-ghost use Rattle.text.specs.Runs.{Run, Reading};
+ghost use Prim.Native.Nat.{_+_, _≤_};
+ghost use lib.ListN.{length};
+ghost use mathlib.Core.Bool.{true};
+ghost use Rattle.text.specs.Runs.{Run, Count, Reading};
 ghost use Rattle.text.specs.Text.{isBlank, isText, isDigit, blanksAt, textAt, padWidth, paddingAt, standsAt, tagAt, breakAt, tailAt, lineEndAt, digitsAt};
 
 pub struct Cursor {
@@ -121,14 +124,53 @@ fn text_of_eight(s: &[u8], at: usize) -> usize
     at + 8
 }
 
-// Past text, eight bytes at a time.
+// 1 for a byte that is surely text, 0 for any other.
+fn plain_one(b: u8) -> u8
+    ensures { λ r. ⌜ Count 1 r (14 ≤ b) ⌝ }
+{
+    if b < 14 { 0 } else { 1 }
+}
+
+// The count of such bytes among four.
+fn plain_four(s: &[u8], at: usize) -> u8
+    requires { ⌜ at + 4 ≤ length (now s) ⌝ }
+    ensures { λ r. ⌜ Count 4 r (Run (textAt (now (s .entry))) (now (s .entry)) at (at + 4)) ⌝ }
+{
+    plain_one(s[at]) + plain_one(s[at + 1]) + plain_one(s[at + 2]) + plain_one(s[at + 3])
+}
+
+// Whether sixteen bytes that are surely text stand at a place: they are counted, which is one test of a vector.
+fn is_plain(s: &[u8], at: usize) -> bool
+    ensures { λ r. ⌜ (r ≡ true → Run (textAt (now (s .entry))) (now (s .entry)) at (at + 16)) ⌝ }
+{
+    if s.len() < 16 {
+        return false;
+    }
+    if s.len() - 16 < at {
+        return false;
+    }
+    plain_four(s, at) + plain_four(s, at + 4) + plain_four(s, at + 8) + plain_four(s, at + 12) == 16
+}
+
+// Past text, sixteen bytes at a time.
+fn plain_sixteens(s: &[u8], from: usize) -> usize
+    ensures { λ r. ⌜ Run (textAt (now (s .entry))) (now (s .entry)) from r ⌝ }
+{
+    let mut at = from;
+    while is_plain(s, at) {
+        at += 16;
+    }
+    at
+}
+
+// Past text, sixteen bytes at a time and then eight.
 fn plain_text(s: &[u8], from: usize) -> usize
     ensures { λ r. ⌜ Run (textAt (now (s .entry))) (now (s .entry)) from r ⌝ }
 {
     if s.len() < from {
         return from;
     }
-    let mut at = from;
+    let mut at = plain_sixteens(s, from);
     loop {
         let e = text_of_eight(s, at);
         if e < at + 8 {
@@ -169,7 +211,10 @@ impl Cursor {
         ensures { λ r. ⌜ r .at ≡ blanksAt (now (s .entry)) (self .at) ⌝ }
     {
         let mut at = self.at;
-        while is_blank(lent::peek(s, at)) {
+        while at < s.len() {
+            if !is_blank(s[at]) {
+                return Cursor { at };
+            }
             at += 1;
         }
         Cursor { at }

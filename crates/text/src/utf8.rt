@@ -1,7 +1,9 @@
 // UTF-8: how much of a text is well formed.
 ghost use mathlib.Core.Path.{_≡_};
 ghost use mathlib.Core.Bool.{true};
-ghost use Rattle.text.specs.Runs.{Run};
+ghost use Prim.Native.Nat.{_+_, _≤_, _<_};
+ghost use lib.ListN.{length};
+ghost use Rattle.text.specs.Runs.{Run, Count};
 ghost use Rattle.text.specs.Text.{pastAll};
 ghost use Rattle.text.specs.Utf8.{sizeOf, lowestOf, highestOf, secondOf, isNext, charWidth, wellFormed};
 
@@ -138,14 +140,53 @@ fn ascii_of_eight(s: &[u8], at: usize) -> usize
     at + 8
 }
 
-// Past ASCII, eight bytes at a time.
+// 1 for a byte of ASCII, 0 for any other.
+fn ascii_one(b: u8) -> u8
+    ensures { λ r. ⌜ Count 1 r (b < 128) ⌝ }
+{
+    if b < 128 { 1 } else { 0 }
+}
+
+// The count of such bytes among four.
+fn ascii_four(s: &[u8], at: usize) -> u8
+    requires { ⌜ at + 4 ≤ length (now s) ⌝ }
+    ensures { λ r. ⌜ Count 4 r (Run (pastAll charWidth (now (s .entry))) (now (s .entry)) at (at + 4)) ⌝ }
+{
+    ascii_one(s[at]) + ascii_one(s[at + 1]) + ascii_one(s[at + 2]) + ascii_one(s[at + 3])
+}
+
+// Whether sixteen bytes of ASCII stand at a place: they are counted, which is one test of a vector.
+fn is_ascii(s: &[u8], at: usize) -> bool
+    ensures { λ r. ⌜ (r ≡ true → Run (pastAll charWidth (now (s .entry))) (now (s .entry)) at (at + 16)) ⌝ }
+{
+    if s.len() < 16 {
+        return false;
+    }
+    if s.len() - 16 < at {
+        return false;
+    }
+    ascii_four(s, at) + ascii_four(s, at + 4) + ascii_four(s, at + 8) + ascii_four(s, at + 12) == 16
+}
+
+// Past ASCII, sixteen bytes at a time.
+fn ascii_sixteens(s: &[u8], from: usize) -> usize
+    ensures { λ r. ⌜ Run (pastAll charWidth (now (s .entry))) (now (s .entry)) from r ⌝ }
+{
+    let mut at = from;
+    while is_ascii(s, at) {
+        at += 16;
+    }
+    at
+}
+
+// Past ASCII, sixteen bytes at a time and then eight.
 fn ascii(s: &[u8], from: usize) -> usize
     ensures { λ r. ⌜ Run (pastAll charWidth (now (s .entry))) (now (s .entry)) from r ⌝ }
 {
     if s.len() < from {
         return from;
     }
-    let mut at = from;
+    let mut at = ascii_sixteens(s, from);
     loop {
         let e = ascii_of_eight(s, at);
         if e < at + 8 {

@@ -1,9 +1,10 @@
--- The answers of the steps, handed on; the `else` is told that the number was none or too large (`number-else`).
+-- The answers of the steps, handed on (`line-played`): a move and a time in the usual form go the short way, and all others the general one.
 -- Assumes nothing.
+use native.Mathlib.Omega.{arith}
 use mathlib.Core.Path.{sym}
-use borrow.Author.Needs.{needs}
 use Rattle.text.proofs.Answers.{number-else}
-use Rattle.moves.specs.Moves.{moveLineAt}
+use Rattle.moves.proofs.Usually.{line-played}
+use borrow.Author.Needs.{needs}
 use Rattle.moves.proofs.move_line.Statement.{statement}
 use Rattle.moves.proofs.move_line.Tie as tie
 
@@ -17,53 +18,34 @@ enum-known-ply : tie.Need-enum-known-ply
 enum-known-ply c = search needs
 
 returns : tie.Need-returns
-unfolding moveLineAt
-returns c = rw (← c .before .before .blanks .ensures, ← c .before .digits .ensures) (sym (number-else (c .before .digits .result) _ _ (c .match .keys2)))
+returns c = rw (line-played, ← c .before .before .blanks .ensures, ← c .before .digits .ensures) (sym (number-else (c .before .digits .result) _ _ (c .match .keys2)))
 
 blanks-requires-2 : tie.Need-blanks-requires-2
 blanks-requires-2 c κs = search needs
 
-what-requires : tie.Need-what-requires
-what-requires c κs = search needs
+usual-width-requires : tie.Need-usual-width-requires
+usual-width-requires c κs = search needs
 
-enum-known-entry : tie.Need-enum-known-entry
-enum-known-entry c = search needs
-
-enum-told : tie.Need-enum-told
-enum-told c = search needs
-
-returns-2 : tie.Need-returns-2
-unfolding moveLineAt
-returns-2 c = rw (← c .before .before .before .before .before .before .before .before .blanks .ensures, ← c .before .before .before .before .before .before .before .digits .ensures, c .before .before .before .before .before .ply .given .1, ← c .before .before .before .blanks2 .ensures, ← c .before .before .what .ensures, c .enum-told .given .1)
+add-t13 : tie.Need-add-t13
+add-t13 c = omega (arith, c .before .usual-width .ensures (c .if1 .taken) .room)
 
 blanks-requires-3 : tie.Need-blanks-requires-3
 blanks-requires-3 c κs = search needs
 
-time-requires : tie.Need-time-requires
-time-requires c κs = search needs
+is-usual-requires : tie.Need-is-usual-requires
+is-usual-requires c κs = search needs
 
-line-end-requires : tie.Need-line-end-requires
-line-end-requires c κs = search needs
+usual-line-requires : tie.Need-usual-line-requires
+usual-line-requires c κs = (c .before .before .before .before .usual-width .ensures (c .before .before .before .if1 .taken), c .before .is-usual .ensures (c .if2 .taken), c .before .before .blanks3 .ensures)
 
-enum-known-end : tie.Need-enum-known-end
-enum-known-end c = search needs
+returns-2 : tie.Need-returns-2
+returns-2 c = rw (line-played, ← c .before .before .before .before .before .before .before .before .before .before .before .blanks .ensures, ← c .before .before .before .before .before .before .before .before .before .before .digits .ensures, c .before .before .before .before .before .before .before .before .ply .given .1, ← c .before .before .before .before .before .before .blanks2 .ensures, ← c .usual-line .ensures)
 
-enum-told-2 : tie.Need-enum-told-2
-enum-told-2 c = search needs
+any-line-requires : tie.Need-any-line-requires
+any-line-requires c κs = search needs
 
 returns-3 : tie.Need-returns-3
-unfolding moveLineAt
-returns-3 c = rw (← c .before .before .before .before .before .before .before .before .before .before .before .before .before .before .blanks .ensures, ← c .before .before .before .before .before .before .before .before .before .before .before .before .before .digits .ensures, c .before .before .before .before .before .before .before .before .before .before .before .ply .given .1, ← c .before .before .before .before .before .before .before .before .before .blanks2 .ensures, ← c .before .before .before .before .before .before .before .before .what .ensures, c .before .before .before .before .before .before .entry .given .1, ← c .before .before .before .before .blanks3 .ensures, ← c .before .before .before .time .ensures, ← c .before .before .line-end .ensures, c .enum-told2 .given .1)
-
-color-requires : tie.Need-color-requires
-color-requires c κs = search needs
-
-finish-requires : tie.Need-finish-requires
-finish-requires c κs = search needs
-
-returns-4 : tie.Need-returns-4
-unfolding moveLineAt
-returns-4 c = rw (← c .before .before .before .before .before .before .before .before .before .before .before .before .before .before .before .before .before .blanks .ensures, ← c .before .before .before .before .before .before .before .before .before .before .before .before .before .before .before .before .digits .ensures, c .before .before .before .before .before .before .before .before .before .before .before .before .before .before .ply .given .1, ← c .before .before .before .before .before .before .before .before .before .before .before .before .blanks2 .ensures, ← c .before .before .before .before .before .before .before .before .before .before .before .what .ensures, c .before .before .before .before .before .before .before .before .before .entry .given .1, ← c .before .before .before .before .before .before .before .blanks3 .ensures, ← c .before .before .before .before .before .before .time .ensures, ← c .before .before .before .before .before .line-end .ensures, c .before .before .before .end .given .1, ← c .before .color .ensures, ← c .finish .ensures)
+returns-3 c = rw (line-played, ← c .before .before .before .before .before .before .before .before .blanks .ensures, ← c .before .before .before .before .before .before .before .digits .ensures, c .before .before .before .before .before .ply .given .1, ← c .before .before .before .blanks2 .ensures, ← c .any-line .ensures)
 
 pub move-line-spec : {M : Type 1} → statement M
 move-line-spec =
@@ -74,16 +56,11 @@ move-line-spec =
     enum-known-ply
     returns
     blanks-requires-2
-    what-requires
-    enum-known-entry
-    enum-told
-    returns-2
+    usual-width-requires
+    add-t13
     blanks-requires-3
-    time-requires
-    line-end-requires
-    enum-known-end
-    enum-told-2
-    returns-3
-    color-requires
-    finish-requires
-    returns-4)
+    is-usual-requires
+    usual-line-requires
+    returns-2
+    any-line-requires
+    returns-3)

@@ -1,8 +1,10 @@
--- The answers of the steps, handed on as the line's end goes without its time (`line-end-is`).
+-- The answers of the steps, handed on as the line's end goes without its time (`line-end-is`), past a move in the usual form by its width (`usual-what`).
 -- Assumes nothing.
+use native.Mathlib.Omega.{arith}
 use mathlib.Core.Path.{sym}
 use Rattle.text.proofs.Answers.{number-else}
 use Rattle.moves.proofs.Shortcuts.{line-end-is}
+use Rattle.moves.proofs.Usually.{usual-what}
 use borrow.Author.Needs.{needs}
 use Rattle.moves.proofs.move_line_end.Statement.{statement}
 use Rattle.moves.proofs.move_line_end.Tie as tie
@@ -22,6 +24,18 @@ returns c = rw (line-end-is, ← c .before .before .blanks .ensures, ← c .befo
 blanks-requires-2 : tie.Need-blanks-requires-2
 blanks-requires-2 c κs = search needs
 
+usual-width-requires : tie.Need-usual-width-requires
+usual-width-requires c κs = search needs
+
+add-t11 : tie.Need-add-t11
+add-t11 c = omega (arith, c .before .usual-width .ensures (c .if1 .taken) .room)
+
+line-end-requires : tie.Need-line-end-requires
+line-end-requires c κs = search needs
+
+returns-2 : tie.Need-returns-2
+returns-2 c = rw (line-end-is, ← c .before .before .before .before .before .before .before .before .blanks .ensures, ← c .before .before .before .before .before .before .before .digits .ensures, c .before .before .before .before .before .numbered .given .1, ← c .before .before .before .blanks2 .ensures, usual-what _ _ _ (c .before .before .usual-width .ensures (c .before .if1 .taken)), ← c .line-end .ensures)
+
 what-requires : tie.Need-what-requires
 what-requires c κs = search needs
 
@@ -31,14 +45,14 @@ enum-known-played c = search needs
 enum-told : tie.Need-enum-told
 enum-told c = search needs
 
-returns-2 : tie.Need-returns-2
-returns-2 c = rw (line-end-is, ← c .before .before .before .before .before .before .before .before .blanks .ensures, ← c .before .before .before .before .before .before .before .digits .ensures, c .before .before .before .before .before .numbered .given .1, ← c .before .before .before .blanks2 .ensures, ← c .before .before .what .ensures, c .enum-told .given .1)
-
-line-end-requires : tie.Need-line-end-requires
-line-end-requires c κs = search needs
-
 returns-3 : tie.Need-returns-3
-returns-3 c = rw (line-end-is, ← c .before .before .before .before .before .before .before .before .before .before .blanks .ensures, ← c .before .before .before .before .before .before .before .before .before .digits .ensures, c .before .before .before .before .before .before .before .numbered .given .1, ← c .before .before .before .before .before .blanks2 .ensures, ← c .before .before .before .before .what .ensures, c .before .before .played .given .1, ← c .line-end .ensures)
+returns-3 c = rw (line-end-is, ← c .before .before .before .before .before .before .before .before .before .before .blanks .ensures, ← c .before .before .before .before .before .before .before .before .before .digits .ensures, c .before .before .before .before .before .before .before .numbered .given .1, ← c .before .before .before .before .before .blanks2 .ensures, ← c .before .before .what .ensures, c .enum-told .given .1)
+
+line-end-requires-2 : tie.Need-line-end-requires-2
+line-end-requires-2 c κs = search needs
+
+returns-4 : tie.Need-returns-4
+returns-4 c = rw (line-end-is, ← c .before .before .before .before .before .before .before .before .before .before .before .before .blanks .ensures, ← c .before .before .before .before .before .before .before .before .before .before .before .digits .ensures, c .before .before .before .before .before .before .before .before .before .numbered .given .1, ← c .before .before .before .before .before .before .before .blanks2 .ensures, ← c .before .before .before .before .what .ensures, c .before .before .played .given .1, ← c .line-end2 .ensures)
 
 pub move-line-end-spec : {M : Type 1} → statement M
 move-line-end-spec =
@@ -49,9 +63,13 @@ move-line-end-spec =
     enum-known-numbered
     returns
     blanks-requires-2
+    usual-width-requires
+    add-t11
+    line-end-requires
+    returns-2
     what-requires
     enum-known-played
     enum-told
-    returns-2
-    line-end-requires
-    returns-3)
+    returns-3
+    line-end-requires-2
+    returns-4)

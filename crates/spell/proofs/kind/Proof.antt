@@ -1,23 +1,23 @@
--- The row in the slot of the key has the key and its number, or only a kind of two characters can stand here (`row-first`, `row-longer`).
+-- The three bytes are a kind, and that is the one here, or only a kind of two characters can stand here (`slot-first`, `slot-longer`).
 -- Assumes nothing.
-use Prim.Native.Nat.{ℕ, _+_, _%_}
+use Prim.Native.Nat.{_+_, _≤_}
 use native.Mathlib.Omega.{arith}
-use mathlib.Core.Path.{_≡_, refl, sym, ap, _∙_}
+use mathlib.Core.Path.{refl, sym, _∙_}
 use lib.ListN.{length}
 use denote.Ref.{now}
 use borrow.Author.Tests.{ltb-true, ltb-false}
 use Rattle.spell.specs.Tables.{kinds}
 use Rattle.spell.specs.Spell.{keyAt}
-use Rattle.spell.specs.Slots.{look, kindSlots}
+use Rattle.spell.specs.Slots.{kindSlots}
 use Rattle.spell.proofs.Keys.{near}
-use Rattle.spell.proofs.Lookups.{short-first, row-first, row-longer}
+use Rattle.spell.proofs.Lookups.{short-first, slot-first, slot-longer}
 use borrow.Author.Needs.{needs}
 use Rattle.spell.proofs.kind.Statement.{statement}
 use Rattle.spell.proofs.kind.Tie as tie
 
--- the row is that of the key at the place
-slot : (c : tie.After-kind-row) → c .kind-row .result ≡ look kindSlots (keyAt (now (c .before .before .before .before .before .args .s)) (c .before .before .before .before .before .args .c .at) % 35)
-slot c = c .kind-row .ensures ∙ ap (λ (x : ℕ). look kindSlots (x % 35)) (c .before .key-at .ensures)
+-- three bytes stand here
+room : (c : tie.Else1) → c .before .before .before .args .c .at + 3 ≤ length (now (c .before .before .before .args .s))
+room c = ltb-false _ _ (sym (c .before .is-short .ensures) ∙ c .if1 .left)
 
 is-short-requires : tie.Need-is-short-requires
 is-short-requires c κs = search needs
@@ -25,34 +25,45 @@ is-short-requires c κs = search needs
 returns : tie.Need-returns
 returns c = sym (short-first kinds refl _ _ (ltb-true _ _ (sym (c .before .is-short .ensures) ∙ c .if1 .taken)))
 
-key-at-requires : tie.Need-key-at-requires
-key-at-requires c κs = ltb-false _ _ (sym (c .before .is-short .ensures) ∙ c .if1 .left)
+shared-slice-read-kind-of : tie.Need-shared-slice-read-kind-of
+shared-slice-read-kind-of c = omega (arith, room (c .before))
 
-kind-row-requires : tie.Need-kind-row-requires
-kind-row-requires c κs = search needs
+add-kind-of : tie.Need-add-kind-of
+add-kind-of c = omega (arith, room (c .before))
+
+shared-slice-read-kind-of-2 : tie.Need-shared-slice-read-kind-of-2
+shared-slice-read-kind-of-2 c = omega (arith, room (c .before .before))
+
+add-kind-of-2 : tie.Need-add-kind-of-2
+add-kind-of-2 c = omega (arith, room (c .before .before))
+
+shared-slice-read-kind-of-3 : tie.Need-shared-slice-read-kind-of-3
+shared-slice-read-kind-of-3 c = omega (arith, room (c .before .before .before))
+
+kind-of-requires : tie.Need-kind-of-requires
+kind-of-requires c κs = search needs
 
 promoted-requires : tie.Need-promoted-requires
 promoted-requires c κs = search needs
 
 returns-2 : tie.Need-returns-2
+unfolding keyAt
 returns-2 c =
-    let k = c .before .before .before .before .before .before in
+    let k = c .before .before .before .before .before .before .before .before in
     let a = k .before .args in
     let near₁ = near (now (a .s)) (a .c .at) (λ i. omega (arith, k .shared-slice-known .given i)) in
-    c .promoted .ensures ∙ sym (row-longer kinds kindSlots 35 refl refl refl (now (a .s)) (a .c .at) near₁ _ (slot (c .before .before)) (λ q. c .before .if2 .taken (q ∙ sym (c .before .before .before .key-at .ensures))))
+    c .promoted .ensures ∙ sym (slot-longer kinds kindSlots 35 refl refl refl (now (a .s)) (a .c .at) near₁ _ (c .before .before .kind-of .ensures) (c .before .if2 .taken))
 
-cast-t9 : tie.Need-cast-t9
-cast-t9 c = search needs
-
-add-t10 : tie.Need-add-t10
-add-t10 c = omega (arith, ltb-false (length (now (c .before .before .before .before .before .before .args .s))) (c .before .before .before .before .before .before .args .c .at + 3) (sym (c .before .before .before .before .is-short .ensures) ∙ c .before .before .before .if1 .left))
+add-t8 : tie.Need-add-t8
+add-t8 c = omega (arith, room (c .before .before .before .before .before))
 
 returns-3 : tie.Need-returns-3
+unfolding keyAt
 returns-3 c =
-    let k = c .before .before .before .before .before in
+    let k = c .before .before .before .before .before .before .before in
     let a = k .before .args in
     let near₁ = near (now (a .s)) (a .c .at) (λ i. omega (arith, k .shared-slice-known .given i)) in
-    sym (row-first kinds kindSlots 35 refl refl refl (now (a .s)) (a .c .at) near₁ _ (slot (c .before)) (c .if2 .left ∙ c .before .before .key-at .ensures))
+    sym (slot-first kinds kindSlots 35 refl refl refl (now (a .s)) (a .c .at) near₁ _ (c .before .kind-of .ensures) (c .if2 .left))
 
 pub kind-spec : {M : Type 1} → statement M
 kind-spec =
@@ -60,10 +71,13 @@ kind-spec =
     (tie.spec
     is-short-requires
     returns
-    key-at-requires
-    kind-row-requires
+    shared-slice-read-kind-of
+    add-kind-of
+    shared-slice-read-kind-of-2
+    add-kind-of-2
+    shared-slice-read-kind-of-3
+    kind-of-requires
     promoted-requires
     returns-2
-    cast-t9
-    add-t10
+    add-t8
     returns-3)

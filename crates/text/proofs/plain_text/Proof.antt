@@ -1,4 +1,4 @@
--- What was passed from the start to here, and then eight bytes more or fewer, is one run.
+-- What was passed from the start to here, at first sixteen bytes at a time, and then eight bytes more or fewer, is one run.
 -- Assumes nothing.
 use Prim.Native.Nat.{_-_, _≤_}
 use native.Mathlib.Omega.{arith}
@@ -19,8 +19,11 @@ abbrev μ-loop : tie.MeasureT-loop
 returns : tie.Need-returns Inv-loop μ-loop
 returns c = run-none _ _ _
 
+plain-sixteens-requires : tie.Need-plain-sixteens-requires Inv-loop μ-loop
+plain-sixteens-requires c κs = search needs
+
 loop-holds : tie.Need-loop-holds Inv-loop μ-loop
-loop-holds c = (run-none _ _ _, omega arith)
+loop-holds c = (c .plain-sixteens .ensures, omega arith)
 
 text-of-eight-requires : tie.Need-text-of-eight-requires Inv-loop μ-loop
 text-of-eight-requires c κs = search needs
@@ -44,6 +47,7 @@ plain-text-spec =
     Inv-loop
     μ-loop
     returns
+    plain-sixteens-requires
     loop-holds
     text-of-eight-requires
     add-if2

@@ -1,14 +1,14 @@
--- `attach` answers by the rows from the table's start on, which are the starts and counts of the block (`Lining`).
+-- `attach` answers by the rows from the table's start on, which are the starts, counts and parents of the block (`Lining`).
 -- Assumes nothing.
 use Prim.Native.Nat.{ℕ}
-use mathlib.Core.Path.{_≡_, sym, ap, _∙_}
+use mathlib.Core.Path.{_≡_, sym, ap, _∙_, subst}
 use mathlib.Core.List.{List}
 use lib.ListN.{drop}
 use lib.Dec.{eqb}
 use denote.Ref.{now}
 use borrow.Author.Tests.{eq-eqb, ne-eqb}
 use borrow.Author.Needs.{needs}
-use Rattle.jkf.specs.Attaching.{hangs, startAt, countAt}
+use Rattle.jkf.specs.Attaching.{hangs, startAt, countAt, Linked}
 use Rattle.block.specs.Decode.{startOf, entryCount}
 use Rattle.block.proofs.Lining.{table-hangs}
 use Rattle.block.proofs.places.hangs_right.Statement.{statement}
@@ -22,7 +22,8 @@ found c =
     let a = c .before .before .before .before .before .before .args in
     let b = now (a .b) in
     let s = c .before .start-of2 .result in
-    c .attach .ensures ∙ ap (λ (l : List ℕ). hangs (startAt l) (countAt l) s (a .k)) (c .before .before .rest .ensures ∙ ap (λ (p : ℕ). drop p b) (c .before .before .before .line-place .ensures .0))
+    let e = c .before .before .rest .ensures ∙ ap (λ (p : ℕ). drop p b) (c .before .before .before .line-place .ensures .0) in
+    c .attach .ensures (subst (λ (l : List ℕ). Linked l (a .k)) (sym e) (c .before .before .before .before .before .before .pre .1)) ∙ ap (λ (l : List ℕ). hangs (startAt l) (countAt l) s (a .k)) e
     ∙ table-hangs b s (a .k) ∙ ap (λ (n : ℕ). hangs (startOf b) (entryCount b) n (a .k)) (c .before .start-of2 .ensures .0)
 
 start-of-requires : tie.Need-start-of-requires

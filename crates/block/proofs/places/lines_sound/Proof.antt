@@ -1,4 +1,4 @@
--- The lines passed all hold, and their entries end at `at` (`Passing`).
+-- The lines passed all hold, and their entries end at `at` (`Passing`); so their parents are right, and the next line's is found by them.
 -- Assumes nothing.
 use Prim.Native.Nat.{_*_, _-_, _≤_}
 use native.Mathlib.Omega.{arith}
@@ -6,8 +6,11 @@ use native.Mathlib.Nat.{zero-add}
 use mathlib.Core.Path.{sym, _∙_}
 use denote.Ref.{now}
 use borrow.Author.Tests.{not-true, not-false}
+use Rattle.lists.specs.Test.{each}
+use Rattle.lists.proofs.Tests.{says}
 use Rattle.block.specs.Decode.{linesIn, entryCount}
 use Rattle.block.specs.Sound.{lineTest}
+use Rattle.block.proofs.Hanging.{lines-linked}
 use Rattle.block.proofs.Passing.{Passed, passed-start, passed-more, passed-not, passed-all}
 use Rattle.block.proofs.places.lines_sound.Statement.{statement}
 use Rattle.block.proofs.places.lines_sound.Tie as tie
@@ -25,7 +28,10 @@ loop-holds : tie.Need-loop-holds Inv-loop μ-loop
 loop-holds c = (omega arith, omega arith, passed-start _ _ 0 0 (omega arith))
 
 line-sound-requires : tie.Need-line-sound-requires Inv-loop μ-loop
-line-sound-requires c κs = (omega (arith, c .before .before .lines .ensures), c .before .loop .inv .2 .sums ∙ zero-add _)
+line-sound-requires c κs =
+    let l = c .before .loop in
+    let b = now (c .before .before .before .before .args .b) in
+    (omega (arith, c .before .before .lines .ensures), l .inv .2 .sums ∙ zero-add _, lines-linked b (l .k) (says (each (l .k) (lineTest b)) (l .inv .2 .sound)))
 
 returns : tie.Need-returns Inv-loop μ-loop
 returns c = sym (passed-not (lineTest (now (c .before .before .before .before .before .before .args .b))) (λ j. 0) (linesIn (now (c .before .before .before .before .before .before .args .b))) (c .before .before .before .loop .k) (omega (arith, c .before .before .before .before .lines .ensures)) (sym (c .before .line-sound .ensures) ∙ not-true _ (c .if1 .taken)))

@@ -7,6 +7,7 @@ use mathlib.Core.Bool.{true, false}
 use denote.Ref.{now}
 use borrow.Author.Needs.{needs}
 use borrow.Author.Tests.{not-true, not-false}
+use Rattle.jkf.specs.Entries.{entryIn}
 use Rattle.block.specs.Decode.{run, notedIn}
 use Rattle.converter.specs.Entries.{canWrite}
 use Rattle.converter.specs.Show.{entryObstacle}
@@ -23,24 +24,24 @@ abbrev μ-loop : tie.MeasureT-loop
 loop-holds : tie.Need-loop-holds Inv-loop μ-loop
 loop-holds c = (omega arith, entry-first (c .before .args .line) (notedIn (now (c .before .args .b))) (c .before .args .first) (c .before .args .count) 0)
 
-add-entry-of : tie.Need-add-entry-of Inv-loop μ-loop
-add-entry-of c = omega (arith, c .before .before .before .pre)
+add-row-of : tie.Need-add-row-of Inv-loop μ-loop
+add-row-of c = omega (arith, c .before .before .before .pre)
 
-cast-entry-of : tie.Need-cast-entry-of Inv-loop μ-loop
-cast-entry-of c = omega (arith, c .before .before .before .pre)
+cast-row-of : tie.Need-cast-row-of Inv-loop μ-loop
+cast-row-of c = omega (arith, c .before .before .before .pre)
 
-entry-of-requires : tie.Need-entry-of-requires Inv-loop μ-loop
-entry-of-requires c κs = search needs
+row-of-requires : tie.Need-row-of-requires Inv-loop μ-loop
+row-of-requires c κs = search needs
 
-can-write-requires : tie.Need-can-write-requires Inv-loop μ-loop
-can-write-requires c κs = search needs
+row-fits-requires : tie.Need-row-fits-requires Inv-loop μ-loop
+row-fits-requires c κs = search needs
 
 returns : tie.Need-returns Inv-loop μ-loop
 returns c =
     let l = c .before .before .before .before .loop in
     let a = c .before .before .before .before .before .before .args in
     let b = now (a .b) in
-    let w : canWrite (notedIn b (a .first + l .i) .what) ≡ false = ap canWrite (sym (c .before .before .entry-of .ensures)) ∙ sym (c .before .can-write .ensures) ∙ not-true _ (c .if1 .taken) in
+    let w : canWrite (notedIn b (a .first + l .i) .what) ≡ false = ap (λ l. canWrite (entryIn l)) (sym (c .before .before .row-of .ensures)) ∙ sym (c .before .row-fits .ensures) ∙ not-true _ (c .if1 .taken) in
     sym (l .inv .1 ∙ entry-more (a .line) (notedIn b) (a .first) (a .count) (l .i) (c .before .before .before .loop-test .taken) ∙ rw w)
 
 add-i : tie.Need-add-i Inv-loop μ-loop
@@ -54,7 +55,7 @@ loop-again c =
     let l = c .before .before .before .before .loop in
     let a = c .before .before .before .before .before .before .args in
     let b = now (a .b) in
-    let w : canWrite (notedIn b (a .first + l .i) .what) ≡ true = ap canWrite (sym (c .before .before .entry-of .ensures)) ∙ sym (c .before .can-write .ensures) ∙ not-false _ (c .if1 .left) in
+    let w : canWrite (notedIn b (a .first + l .i) .what) ≡ true = ap (λ l. canWrite (entryIn l)) (sym (c .before .before .row-of .ensures)) ∙ sym (c .before .row-fits .ensures) ∙ not-false _ (c .if1 .left) in
     (omega arith, l .inv .1 ∙ entry-more (a .line) (notedIn b) (a .first) (a .count) (l .i) (c .before .before .before .loop-test .taken) ∙ rw w)
 
 returns-2 : tie.Need-returns-2 Inv-loop μ-loop
@@ -69,10 +70,10 @@ entry-obstacle-spec =
     Inv-loop
     μ-loop
     loop-holds
-    add-entry-of
-    cast-entry-of
-    entry-of-requires
-    can-write-requires
+    add-row-of
+    cast-row-of
+    row-of-requires
+    row-fits-requires
     returns
     add-i
     loop-less

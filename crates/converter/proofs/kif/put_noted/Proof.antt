@@ -1,64 +1,100 @@
--- The line of the entry that was read and its comments are the two pieces of its text.
+-- The line of the entry and the comments that its row says are the two pieces of its text; where it says none, the line is all.
 -- Assumes nothing.
+use native.Mathlib.Omega.{arith}
+use mathlib.Core.Path.{refl}
 use denote.Ref.{now}
-use borrow.Author.Needs.{needs}
-use Rattle.block.specs.Decode.{notedIn}
+use Rattle.jkf.specs.Entries.{entryIn}
+use Rattle.block.specs.Decode.{run, commentOf, notedIn}
 use Rattle.lent.proofs.Writes.{as-text, then}
 use Rattle.converter.specs.Entries.{entryLine, remarksText}
-use Rattle.converter.proofs.Playing.{noted-text}
+use Rattle.converter.proofs.Playing.{row-number, noted-text, noted-bare}
 use Rattle.converter.proofs.Room.{room-after, room-as, room-front}
+use Rattle.converter.proofs.Within.{comments-within, comments-small}
+use borrow.Author.Needs.{needs}
 use Rattle.converter.proofs.kif.put_noted.Statement.{statement}
 use Rattle.converter.proofs.kif.put_noted.Tie as tie
 
-cast-entry-of : tie.Need-cast-entry-of
-cast-entry-of c = search needs
+cast-row-of : tie.Need-cast-row-of
+cast-row-of c = search needs
 
-entry-of-requires : tie.Need-entry-of-requires
-entry-of-requires c κs = search needs
+row-of-requires : tie.Need-row-of-requires
+row-of-requires c κs = search needs
 
-put-entry-line-requires : tie.Need-put-entry-line-requires
-put-entry-line-requires c κs =
-    let a = c .before .before .before .before .args in
-    let h = room-as (noted-text (now (a .b)) (a .ply) (a .k) (c .entry-of .ensures)) (c .before .before .before .before .pre .2) in
-    room-front (entryLine (a .ply) (c .entry-of .result)) (remarksText (notedIn (now (a .b)) (a .k) .comments)) h
+put-row-requires : tie.Need-put-row-requires
+put-row-requires c κs =
+    let s = c .before .before .before .before in
+    let b = now (s .args .b) in
+    let h = room-as (noted-text b (s .args .ply) (s .args .k) (c .before .row-of .ensures) refl refl) (s .pre .2) in
+    room-front (entryLine (s .args .ply) (entryIn (now (c .before .row-of .result)))) (remarksText (notedIn b (s .args .k) .comments)) h
 
-sub-put-comments : tie.Need-sub-put-comments
-sub-put-comments c = search needs
-
-part-put-comments-start : tie.Need-part-put-comments-start
-part-put-comments-start c = search needs
-
-part-put-comments-end : tie.Need-part-put-comments-end
-part-put-comments-end c = search needs
-
-put-comments-requires : tie.Need-put-comments-requires
-put-comments-requires c κs =
-    let a = c .before .before .before .before .before .before .before .before .args in
-    let h = room-as (noted-text (now (a .b)) (a .ply) (a .k) (c .before .before .before .before .entry-of .ensures)) (c .before .before .before .before .before .before .before .before .pre .2) in
-    (c .before .before .before .before .before .before .before .before .pre .0, c .before .before .before .before .before .before .before .before .pre .1, room-after (remarksText (notedIn (now (a .b)) (a .k) .comments)) (c .before .before .before .put-entry-line .ensures) h)
-
-add-result : tie.Need-add-result
-add-result c = search needs
+get16-requires : tie.Need-get16-requires
+get16-requires c κs = search needs
 
 same-length : tie.Need-same-length
 same-length c = search needs
 
 returns : tie.Need-returns
 returns c =
-    let a = c .before .before .before .before .before .before .before .before .before .before .before .args in
-    as-text (noted-text (now (a .b)) (a .ply) (a .k) (c .before .before .before .before .before .before .before .entry-of .ensures)) (then (c .before .before .before .before .before .before .put-entry-line .ensures) (c .before .before .put-comments .ensures))
+    let s = c .before .before .before .before .before .before .before .before .before in
+    let b = now (s .args .b) in
+    let r = c .before .before .before .before .before .before .row-of .ensures in
+    as-text (noted-bare b (s .args .ply) (s .args .k) r (row-number b (s .args .k) 18 r (c .before .get16 .ensures .0)) (c .if1 .taken)) (c .before .before .before .before .put-row .ensures)
+
+sub-put-remarks : tie.Need-sub-put-remarks
+sub-put-remarks c = search needs
+
+part-put-remarks-start : tie.Need-part-put-remarks-start
+part-put-remarks-start c = search needs
+
+part-put-remarks-end : tie.Need-part-put-remarks-end
+part-put-remarks-end c = search needs
+
+get16-requires-2 : tie.Need-get16-requires-2
+get16-requires-2 c κs = search needs
+
+put-remarks-requires : tie.Need-put-remarks-requires
+put-remarks-requires c κs =
+    let s = c .before .before .before .before .before .before .before .before .before .before .before in
+    let b = now (s .args .b) in
+    let k = s .args .k in
+    let r = c .before .before .before .before .before .before .before .before .row-of .ensures in
+    let e = row-number b k 16 r (c .get162 .ensures .0) in
+    let f = row-number b k 18 r (c .before .before .before .get16 .ensures .0) in (
+      omega (arith, comments-within b (s .pre .0) k (s .pre .1), comments-small b (s .pre .0)),
+      room-after (remarksText (run (commentOf b) (c .get162 .result) (c .before .before .before .get16 .result))) (c .before .before .before .before .before .before .put-row .ensures) (room-as (noted-text b (s .args .ply) k r e f) (s .pre .2)),
+    )
+
+add-result : tie.Need-add-result
+add-result c = search needs
+
+same-length-2 : tie.Need-same-length-2
+same-length-2 c = search needs
+
+returns-2 : tie.Need-returns-2
+returns-2 c =
+    let s = c .before .before .before .before .before .before .before .before .before .before .before .before .before .before in
+    let b = now (s .args .b) in
+    let k = s .args .k in
+    let r = c .before .before .before .before .before .before .before .before .before .before .before .row-of .ensures in
+    let e = row-number b k 16 r (c .before .before .before .get162 .ensures .0) in
+    let f = row-number b k 18 r (c .before .before .before .before .before .before .get16 .ensures .0) in
+    as-text (noted-text b (s .args .ply) k r e f) (then (c .before .before .before .before .before .before .before .before .before .put-row .ensures) (c .before .before .put-remarks .ensures))
 
 pub put-noted-spec : {M : Type 1} → statement M
 put-noted-spec =
     tie.close
     (tie.spec
-    cast-entry-of
-    entry-of-requires
-    put-entry-line-requires
-    sub-put-comments
-    part-put-comments-start
-    part-put-comments-end
-    put-comments-requires
-    add-result
+    cast-row-of
+    row-of-requires
+    put-row-requires
+    get16-requires
     same-length
-    returns)
+    returns
+    sub-put-remarks
+    part-put-remarks-start
+    part-put-remarks-end
+    get16-requires-2
+    put-remarks-requires
+    add-result
+    same-length-2
+    returns-2)

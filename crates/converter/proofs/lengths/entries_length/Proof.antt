@@ -1,13 +1,12 @@
 -- The loop's invariant: the number is how long the entries passed are, at most 4295032897 each.
 -- Assumes nothing.
-use Prim.Native.Nat.{_+_, _*_, _-_, _≤_}
 use native.Mathlib.Omega.{arith}
+use Prim.Native.Nat.{_*_, _-_, _≤_}
 use mathlib.Core.Path.{_≡_, ap, _∙_}
 use lib.ListN.{length}
 use denote.Ref.{now}
 use Rattle.block.specs.Decode.{run, notedIn}
-use Rattle.converter.specs.Entries.{entryLine, notedText, entriesText}
-use Rattle.converter.proofs.Lengthy.{noted-parts}
+use Rattle.converter.specs.Entries.{entriesText}
 use Rattle.converter.proofs.Counted.{entries-zero, entries-next}
 use Rattle.converter.proofs.Within.{moves-small}
 use Rattle.converter.proofs.lengths.entries_length.Statement.{statement}
@@ -20,32 +19,19 @@ abbrev μ-loop : tie.MeasureT-loop
 μ-loop b ply first count n₀ i₀ n i = count - i
 
 loop-holds : tie.Need-loop-holds Inv-loop μ-loop
-loop-holds c = (omega arith, entries-zero (c .before .args .ply) (notedIn (c .before .args .b .now)) (c .before .args .first), omega arith)
+loop-holds c = (omega arith, entries-zero (c .before .args .ply) (notedIn (now (c .before .args .b))) (c .before .args .first), omega arith)
 
-add-k : tie.Need-add-k Inv-loop μ-loop
-add-k c = omega (arith, moves-small (now (c .before .before .before .args .b)) (c .before .before .before .pre .0))
+add-noted-length : tie.Need-add-noted-length Inv-loop μ-loop
+add-noted-length c = omega (arith, moves-small (now (c .before .before .before .args .b)) (c .before .before .before .pre .0))
 
-add-entry-length : tie.Need-add-entry-length Inv-loop μ-loop
-add-entry-length c = omega (arith, moves-small (now (c .before .before .before .args .b)) (c .before .before .before .pre .0))
+add-noted-length-2 : tie.Need-add-noted-length-2 Inv-loop μ-loop
+add-noted-length-2 c = omega (arith, moves-small (now (c .before .before .before .args .b)) (c .before .before .before .pre .0))
 
-cast-entry-of : tie.Need-cast-entry-of Inv-loop μ-loop
-cast-entry-of c = omega (arith, moves-small (now (c .before .before .before .args .b)) (c .before .before .before .pre .0))
-
-entry-of-requires : tie.Need-entry-of-requires Inv-loop μ-loop
-entry-of-requires c κs = tt
-
-entry-length-requires : tie.Need-entry-length-requires Inv-loop μ-loop
-entry-length-requires c κs = omega (arith, moves-small (now (c .before .before .before .before .args .b)) (c .before .before .before .before .pre .0))
-
-comments-length-requires : tie.Need-comments-length-requires Inv-loop μ-loop
-comments-length-requires c κs = (c .before .before .before .before .before .pre .0, omega arith)
+noted-length-requires : tie.Need-noted-length-requires Inv-loop μ-loop
+noted-length-requires c κs = (c .before .before .before .pre .0, omega arith, omega (arith, moves-small (now (c .before .before .before .args .b)) (c .before .before .before .pre .0)))
 
 add-n : tie.Need-add-n Inv-loop μ-loop
-add-n c = omega arith
-
-add-n-2 : tie.Need-add-n-2 Inv-loop μ-loop
-add-n-2 c =
-    omega (arith, moves-small (now (c .before .before .before .before .before .before .args .b)) (c .before .before .before .before .before .before .pre .0))
+add-n c = omega (arith, moves-small (now (c .before .before .before .before .args .b)) (c .before .before .before .before .pre .0))
 
 add-i : tie.Need-add-i Inv-loop μ-loop
 add-i c = omega arith
@@ -55,14 +41,9 @@ loop-less c = omega arith
 
 loop-again : tie.Need-loop-again Inv-loop μ-loop
 loop-again c =
-    let a = c .before .before .before .before .before .before .args in
-    let b = now (a .b) in
-    let l = c .before .before .before .before .loop in
-    let e = c .before .entry-length .result in
-    let m = c .comments-length .result in
-    let h = ap (λ x. length (entryLine (a .ply + l .i) x)) (c .before .before .entry-of .ensures) in
-    let r : e + m ≡ length (notedText (a .ply + l .i) (notedIn b (a .first + l .i))) = omega (arith, noted-parts (a .ply + l .i) (notedIn b (a .first + l .i))) in
-    (omega arith, entries-next (a .ply) (notedIn b) (a .first) (l .i) (l .n) (e + m) (l .inv .1) r, omega arith)
+    let a = c .before .before .before .before .args in
+    let l = c .before .before .loop in
+    (omega arith, entries-next (a .ply) (notedIn (now (a .b))) (a .first) (l .i) (l .n) (c .noted-length .result) (l .inv .1) (c .noted-length .ensures .0), omega arith)
 
 returns : tie.Need-returns Inv-loop μ-loop
 returns c =
@@ -78,14 +59,10 @@ entries-length-spec =
     Inv-loop
     μ-loop
     loop-holds
-    add-k
-    add-entry-length
-    cast-entry-of
-    entry-of-requires
-    entry-length-requires
-    comments-length-requires
+    add-noted-length
+    add-noted-length-2
+    noted-length-requires
     add-n
-    add-n-2
     add-i
     loop-less
     loop-again

@@ -5,19 +5,11 @@ use mathlib.Core.List.{[], _∷_, _++_}
 use lib.ListN.{length}
 use denote.Ref.{now}
 use borrow.Author.Needs.{needs}
-use Rattle.lent.proofs.Writes.{wrote-all}
 use Rattle.text.specs.Text.{wideColon}
-use Rattle.block.specs.Decode.{keyOf, valueOf}
 use Rattle.converter.specs.Headers.{headerLine}
 use Rattle.converter.proofs.starts.put_header.Statement.{statement}
 use Rattle.converter.proofs.starts.put_header.Tie as tie
-use Rattle.converter.proofs.Room.{then-piece, room-front}
-
-cast-key-of : tie.Need-cast-key-of
-cast-key-of c = search needs
-
-key-of-requires : tie.Need-key-of-requires
-key-of-requires c κs = search needs
+use Rattle.converter.proofs.Room.{then-piece, three-of, room-front}
 
 put-bytes-requires : tie.Need-put-bytes-requires
 put-bytes-requires c κs = search needs
@@ -49,12 +41,6 @@ part-put-bytes-start-2 c = search needs
 part-put-bytes-end-2 : tie.Need-part-put-bytes-end-2
 part-put-bytes-end-2 c = search needs
 
-cast-value-of : tie.Need-cast-value-of
-cast-value-of c = search needs
-
-value-of-requires : tie.Need-value-of-requires
-value-of-requires c κs = search needs
-
 put-bytes-requires-3 : tie.Need-put-bytes-requires-3
 put-bytes-requires-3 c κs = search needs
 
@@ -85,23 +71,18 @@ same-length c = search needs
 returns : tie.Need-returns
 unfolding headerLine
 returns c =
-    let a = c .before .before .before .before .before .before .before .before .before .before .before .before .before .before .before .before .before .before .before .before .before .before .args in
-    let o = now (a .out) in
-    let k = keyOf (now (a .b)) (a .k) in
-    let v = valueOf (now (a .b)) (a .k) in
-    let r₄ : length (((k ++ wideColon) ++ v) ++ (10 ∷ [])) ≤ length o = c .before .before .before .before .before .before .before .before .before .before .before .before .before .before .before .before .before .before .before .before .before .before .pre .1 in
+    let a = c .before .before .before .before .before .before .before .before .before .before .before .before .before .before .before .before .before .before .before .before .before .args in
+    let k = now (a .key) in
+    let v = now (a .value) in
+    let r₄ : length (((k ++ wideColon) ++ v) ++ (10 ∷ [])) ≤ length (now (a .out)) = c .before .before .before .before .before .before .before .before .before .before .before .before .before .before .before .before .before .before .before .before .before .pre in
     let r₃ = room-front ((k ++ wideColon) ++ v) (10 ∷ []) r₄ in
-    let r₂ = room-front (k ++ wideColon) v r₃ in
-    let w₁ = rw (c .before .before .before .before .before .before .before .before .before .before .before .before .before .before .before .before .before .before .key-of .ensures) at (c .before .before .before .before .before .before .before .before .before .before .before .before .before .before .before .before .before .put-bytes .ensures) in
-    let w₃ = rw (c .before .before .before .before .before .before .before .before .value-of .ensures) at (c .before .before .before .before .before .before .before .put-bytes3 .ensures) in
-    then-piece (10 ∷ []) (then-piece v (then-piece wideColon (wrote-all (room-front k wideColon r₂) w₁) r₂ (c .before .before .before .before .before .before .before .before .before .before .before .before .put-bytes2 .ensures)) r₃ w₃) r₄ (c .before .before .put-bytes4 .ensures)
+    let w₃ = three-of k wideColon v r₃ (c .before .before .before .before .before .before .before .before .before .before .before .before .before .before .before .before .put-bytes .ensures) (c .before .before .before .before .before .before .before .before .before .before .before .put-bytes2 .ensures) (c .before .before .before .before .before .before .before .put-bytes3 .ensures) in
+    then-piece (10 ∷ []) w₃ r₄ (c .before .before .put-bytes4 .ensures)
 
 pub put-header-spec : {M : Type 1} → statement M
 put-header-spec =
     tie.close
     (tie.spec
-    cast-key-of
-    key-of-requires
     put-bytes-requires
     sub-put-bytes
     part-put-bytes-start
@@ -112,8 +93,6 @@ put-header-spec =
     sub-put-bytes-2
     part-put-bytes-start-2
     part-put-bytes-end-2
-    cast-value-of
-    value-of-requires
     put-bytes-requires-3
     add-e
     sub-put-bytes-3

@@ -10,17 +10,20 @@ use Rattle.lent.specs.Bytes.{Wrote}
 use Rattle.lent.proofs.Writes.{then, as-text, nothing, wrote-length}
 use Rattle.block.specs.Decode.{headerIn}
 use Rattle.converter.specs.Headers.{headerLine}
-use Rattle.converter.proofs.Heading.{leads, lead-none, lead-some, lead-room, wrote-as}
+use Rattle.converter.proofs.Heading.{line-in, leads, lead-none, lead-some, lead-room, wrote-as}
 use Rattle.converter.proofs.starts.put_leading.Statement.{statement}
 use Rattle.converter.proofs.starts.put_leading.Tie as tie
 use Rattle.converter.proofs.Runs.{concat-none}
-use Rattle.converter.proofs.Room.{room-after}
+use Rattle.converter.proofs.Room.{room-after, room-as}
 
 abbrev Inv-loop : tie.InvT-loop
-Inv-loop out₀ b places at₀ n₀ out at n = (n ≤ 12) × Wrote (leads b n) out₀ out at
+Inv-loop out₀ b places texts at₀ n₀ out at n = (n ≤ 12) × Wrote (leads b n) out₀ out at
 
 abbrev μ-loop : tie.MeasureT-loop
-μ-loop out₀ b places at₀ n₀ out at n = 12 - n
+μ-loop out₀ b places texts at₀ n₀ out at n = 12 - n
+
+texts-of-requires : tie.Need-texts-of-requires Inv-loop μ-loop
+texts-of-requires c κs = tt
 
 loop-holds : tie.Need-loop-holds Inv-loop μ-loop
 loop-holds c = (omega arith, as-text (sym (concat-none _ _ 1)) (nothing _))
@@ -30,10 +33,10 @@ mul-place c = omega arith
 
 shared-slice-read-place : tie.Need-shared-slice-read-place Inv-loop μ-loop
 shared-slice-read-place c =
-    let e = c .before .before .before .before .before .before .pre .0 .size in omega arith
+    let e = c .before .before .before .before .before .before .before .pre .0 .size in omega arith
 
-cast-place : tie.Need-cast-place Inv-loop μ-loop
-cast-place c = omega (arith, c .shared-slice-known3 .given (c .before .before .loop .n))
+sub-i : tie.Need-sub-i Inv-loop μ-loop
+sub-i c = omega arith
 
 sub-put-header : tie.Need-sub-put-header Inv-loop μ-loop
 sub-put-header c =
@@ -47,20 +50,23 @@ part-put-header-end : tie.Need-part-put-header-end Inv-loop μ-loop
 part-put-header-end c =
     let w = c .before .before .before .loop .inv .1 in omega (arith, wrote-length w, w .fits)
 
-sub-put-header-2 : tie.Need-sub-put-header-2 Inv-loop μ-loop
-sub-put-header-2 c = omega arith
+key-in-requires : tie.Need-key-in-requires Inv-loop μ-loop
+key-in-requires c κs = tt
+
+value-in-requires : tie.Need-value-in-requires Inv-loop μ-loop
+value-in-requires c κs = tt
 
 put-header-requires : tie.Need-put-header-requires Inv-loop μ-loop
 put-header-requires c κs =
-    let l = c .before .before .before .before .loop in
-    let a = c .before .before .before .before .before .before .before .before .args in
-    let b = now (a .b) in
-    let k = getD (now (a .places)) (l .n) 0 - 1 in
-    (omega (arith, c .before .before .shared-slice-known3 .given (l .n)), room-after (headerLine (headerIn b k)) (l .inv .1) (lead-room (c .before .before .before .before .before .before .before .before .pre .0) (l .n) (omega arith) (omega arith) (c .before .before .before .before .before .before .before .before .pre .1)))
+    let l = c .before .before .before .before .before .before .loop in
+    let p = c .before .before .before .before .before .before .before .before .before .before .before .pre in
+    let b = now (c .before .before .before .before .before .before .before .before .before .before .before .args .b) in
+    let k = getD (now (c .before .before .before .before .before .before .before .before .before .before .before .args .places)) (l .n) 0 - 1 in
+    room-as (line-in b k (c .before .before .before .before .before .before .before .texts-of .ensures) (c .before .key-in .ensures) (c .value-in .ensures)) (room-after (headerLine (headerIn b k)) (l .inv .1) (lead-room (p .0) (l .n) (omega arith) (omega arith) (p .1)))
 
 add-at : tie.Need-add-at Inv-loop μ-loop
 add-at c =
-    let w = then (c .before .before .before .before .before .before .before .loop .inv .1) (c .before .before .put-header .ensures) in omega (arith, w .fits)
+    let w = then (c .before .before .before .before .before .before .before .before .before .loop .inv .1) (c .before .before .put-header .ensures) in omega (arith, w .fits)
 
 add-n : tie.Need-add-n Inv-loop μ-loop
 add-n c = omega arith
@@ -71,10 +77,11 @@ loop-less c = omega arith
 loop-again : tie.Need-loop-again Inv-loop μ-loop
 loop-again c =
     let l = c .before .before .before .loop in
-    let p = c .before .before .before .before .before .before .before .pre .0 in (
+    let p = c .before .before .before .before .before .before .before .before .pre .0 in
+    let k = getD (now (c .before .before .before .before .before .before .before .before .args .places)) (l .n) 0 - 1 in (
       omega arith,
       ⊎-elim
-          (λ w. wrote-as (lead-some p (l .n) (omega arith) (w .0 .taken)) (w .5) (w .6) (then (l .inv .1) (w .2 .ensures)))
+          (λ w. wrote-as (lead-some p (l .n) (omega arith) (w .0 .taken)) (w .7) (w .8) (then (l .inv .1) (as-text (line-in (now (c .before .before .before .before .before .before .before .before .args .b)) k (c .before .before .before .before .texts-of .ensures) (w .2 .ensures) (w .3 .ensures)) (w .4 .ensures))))
           (λ w. wrote-as (lead-none p (l .n) (omega arith) (omega (arith, w .0 .left))) (w .1) (w .2) (l .inv .1))
           (c .if1 .came),
     )
@@ -86,7 +93,7 @@ returns : tie.Need-returns Inv-loop μ-loop
 returns c =
     let l = c .before .loop in
     let e : l .n ≡ 12 = omega arith in
-    as-text (ap (leads (now (c .before .before .before .before .before .args .b))) e) (l .inv .1)
+    as-text (ap (leads (now (c .before .before .before .before .before .before .args .b))) e) (l .inv .1)
 
 pub put-leading-spec : {M : Type 1} → statement M
 put-leading-spec =
@@ -94,14 +101,16 @@ put-leading-spec =
     (tie.spec
     Inv-loop
     μ-loop
+    texts-of-requires
     loop-holds
     mul-place
     shared-slice-read-place
-    cast-place
+    sub-i
     sub-put-header
     part-put-header-start
     part-put-header-end
-    sub-put-header-2
+    key-in-requires
+    value-in-requires
     put-header-requires
     add-at
     add-n

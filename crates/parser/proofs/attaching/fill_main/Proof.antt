@@ -14,16 +14,16 @@ skipped-requires c κs = search needs
 moved-to-requires : tie.Need-moved-to-requires
 moved-to-requires c κs = search needs
 
-fill-noted-requires : tie.Need-fill-noted-requires
-fill-noted-requires c κs = let a = c .before .before .before .before .before in slot-fit (a .args .s .now) (a .args .w) (a .pre) (c .before .before .skipped .result) (c .before .moved-to .result) (c .before .before .skipped .ensures) (c .before .moved-to .ensures)
+fill-slot-requires : tie.Need-fill-slot-requires
+fill-slot-requires c κs = let a = c .before .before .before .before .before in slot-fit (a .args .s .now) (a .args .w) (a .pre) (c .before .before .skipped .result) (c .before .moved-to .result) (c .before .before .skipped .ensures) (c .before .moved-to .ensures)
 
 fill-entries-requires : tie.Need-fill-entries-requires
 fill-entries-requires c κs = let a = c .before .before .before .before .before .before .before .before .before in
-    main-rest (a .args .s .now) (a .args .w) (a .pre) (c .before .before .before .before .before .before .skipped .result) (c .before .before .before .before .before .moved-to .result) (c .before .before .before .fill-noted .result) (c .before .before .before .before .before .before .skipped .ensures) (c .before .before .before .before .before .moved-to .ensures) (c .before .before .before .fill-noted .ensures)
+    main-rest (a .args .s .now) (a .args .w) (a .pre) (c .before .before .before .before .before .before .skipped .result) (c .before .before .before .before .before .moved-to .result) (c .before .before .before .fill-slot .result) (c .before .before .before .before .before .before .skipped .ensures) (c .before .before .before .before .before .moved-to .ensures) (c .before .before .before .fill-slot .ensures)
 
 sub-count : tie.Need-sub-count
 sub-count c = let a = c .before .before .before .before .before .before .before .before .before .before .before .before .before .before in
-    omega (arith, c .before .before .before .before .fill-entries .ensures .entries, c .before .before .before .before .before .before .before .before .fill-noted .ensures .entries, ap (λ (x : Walk). x .entries) (c .before .before .before .before .before .before .before .before .before .before .moved-to .ensures))
+    omega (arith, c .before .before .before .before .fill-entries .ensures .entries, c .before .before .before .before .before .before .before .before .fill-slot .ensures .entries, ap (λ (x : Walk). x .entries) (c .before .before .before .before .before .before .before .before .before .before .moved-to .ensures))
 
 put-line-requires : tie.Need-put-line-requires
 put-line-requires c κs = search needs
@@ -40,7 +40,7 @@ same-length c = search needs
 returns : tie.Need-returns
 returns c = let a = c .before .before .before .before .before .before .before .before .before .before .before .before .before .before .before .before .before .before .before .before in
     rw (c .moved-to2 .ensures)
-    (main-lined (a .args .s .now) (a .args .w) (a .pre) (c .before .before .before .before .before .before .before .before .before .before .before .before .before .before .before .before .before .skipped .result) (c .before .before .before .before .before .before .before .before .before .before .before .before .before .before .before .before .moved-to .result) (c .before .before .before .before .before .before .before .before .before .before .before .before .before .before .fill-noted .result) (c .before .before .before .before .before .before .before .before .before .before .before .before .before .before .before .before .before .skipped .ensures) (c .before .before .before .before .before .before .before .before .before .before .before .before .before .before .before .before .moved-to .ensures) (c .before .before .before .before .before .before .before .before .before .before .before .before .before .before .fill-noted .ensures)
+    (main-lined (a .args .s .now) (a .args .w) (a .pre) (c .before .before .before .before .before .before .before .before .before .before .before .before .before .before .before .before .before .skipped .result) (c .before .before .before .before .before .before .before .before .before .before .before .before .before .before .before .before .moved-to .result) (c .before .before .before .before .before .before .before .before .before .before .before .before .before .before .fill-slot .result) (c .before .before .before .before .before .before .before .before .before .before .before .before .before .before .before .before .before .skipped .ensures) (c .before .before .before .before .before .before .before .before .before .before .before .before .before .before .before .before .moved-to .ensures) (c .before .before .before .before .before .before .before .before .before .before .before .before .before .before .fill-slot .ensures)
     (c .before .before .before .before .before .before .before .before .before .before .fill-entries .result) (c .before .past-entries .result) (c .before .before .before .before .before .before .before .before .before .before .fill-entries .ensures) (c .before .past-entries .ensures) (c .before .before .before .before .put-line .ensures))
 
 pub fill-main-spec : {M : Type 1} → statement M
@@ -49,7 +49,7 @@ fill-main-spec =
     (tie.spec
     skipped-requires
     moved-to-requires
-    fill-noted-requires
+    fill-slot-requires
     fill-entries-requires
     sub-count
     put-line-requires

@@ -1,65 +1,40 @@
--- The sum of the definition.
+-- The key of the three bytes.
 -- Assumes nothing.
-use native.Mathlib.Omega.{arith}
 use Rattle.spell.specs.Spell.{keyAt}
 use borrow.Author.Needs.{needs}
 use Rattle.spell.proofs.digits.key_at.Statement.{statement}
 use Rattle.spell.proofs.digits.key_at.Tie as tie
 
-shared-slice-read-wide32 : tie.Need-shared-slice-read-wide32
-shared-slice-read-wide32 c = search needs
+shared-slice-read-key : tie.Need-shared-slice-read-key
+shared-slice-read-key c = search needs
 
-wide32-requires : tie.Need-wide32-requires
-wide32-requires c κs = search needs
+add-key : tie.Need-add-key
+add-key c = search needs
 
-mul-result : tie.Need-mul-result
-mul-result c = search needs
+shared-slice-read-key-2 : tie.Need-shared-slice-read-key-2
+shared-slice-read-key-2 c = search needs
 
-add-wide32 : tie.Need-add-wide32
-add-wide32 c = search needs
+add-key-2 : tie.Need-add-key-2
+add-key-2 c = search needs
 
-shared-slice-read-wide32-2 : tie.Need-shared-slice-read-wide32-2
-shared-slice-read-wide32-2 c = search needs
+shared-slice-read-key-3 : tie.Need-shared-slice-read-key-3
+shared-slice-read-key-3 c = search needs
 
-wide32-requires-2 : tie.Need-wide32-requires-2
-wide32-requires-2 c κs = search needs
-
-mul-result-2 : tie.Need-mul-result-2
-mul-result-2 c = search needs
-
-add-result : tie.Need-add-result
-add-result c = search needs
-
-add-wide32-2 : tie.Need-add-wide32-2
-add-wide32-2 c = search needs
-
-shared-slice-read-wide32-3 : tie.Need-shared-slice-read-wide32-3
-shared-slice-read-wide32-3 c = search needs
-
-wide32-requires-3 : tie.Need-wide32-requires-3
-wide32-requires-3 c κs = search needs
-
-add-result-2 : tie.Need-add-result-2
-add-result-2 c = search needs
+key-requires : tie.Need-key-requires
+key-requires c κs = search needs
 
 returns : tie.Need-returns
 unfolding keyAt
-returns c = omega arith
+returns c = c .key .ensures
 
 pub key-at-spec : {M : Type 1} → statement M
 key-at-spec =
     tie.close
     (tie.spec
-    shared-slice-read-wide32
-    wide32-requires
-    mul-result
-    add-wide32
-    shared-slice-read-wide32-2
-    wide32-requires-2
-    mul-result-2
-    add-result
-    add-wide32-2
-    shared-slice-read-wide32-3
-    wide32-requires-3
-    add-result-2
+    shared-slice-read-key
+    add-key
+    shared-slice-read-key-2
+    add-key-2
+    shared-slice-read-key-3
+    key-requires
     returns)

@@ -1,23 +1,23 @@
--- The row in the slot of the key has the key and its number, or no numeral has the key (`row-first`, `row-not`).
+-- The three bytes are a numeral, and that is the one here, or none is here (`slot-first`, `slot-not`).
 -- Assumes nothing.
-use Prim.Native.Nat.{ℕ, _+_, _%_}
+use Prim.Native.Nat.{_+_, _≤_}
 use native.Mathlib.Omega.{arith}
-use mathlib.Core.Path.{_≡_, refl, sym, ap, _∙_}
+use mathlib.Core.Path.{refl, sym, _∙_}
 use lib.ListN.{length}
 use denote.Ref.{now}
 use borrow.Author.Tests.{ltb-true, ltb-false}
 use Rattle.spell.specs.Tables.{numerals}
 use Rattle.spell.specs.Spell.{keyAt}
-use Rattle.spell.specs.Slots.{look, numeralSlots}
+use Rattle.spell.specs.Slots.{numeralSlots}
 use Rattle.spell.proofs.Keys.{near}
-use Rattle.spell.proofs.Lookups.{short-first, row-first, row-not}
+use Rattle.spell.proofs.Lookups.{short-first, slot-first, slot-not}
 use borrow.Author.Needs.{needs}
 use Rattle.spell.proofs.digits.numeral.Statement.{statement}
 use Rattle.spell.proofs.digits.numeral.Tie as tie
 
--- the row is that of the key at the place
-slot : (c : tie.After-numeral-row) → c .numeral-row .result ≡ look numeralSlots (keyAt (now (c .before .before .before .before .before .args .s)) (c .before .before .before .before .before .args .c .at) % 17)
-slot c = c .numeral-row .ensures ∙ ap (λ (x : ℕ). look numeralSlots (x % 17)) (c .before .key-at .ensures)
+-- three bytes stand here
+room : (c : tie.Else1) → c .before .before .before .args .c .at + 3 ≤ length (now (c .before .before .before .args .s))
+room c = ltb-false _ _ (sym (c .before .is-short .ensures) ∙ c .if1 .left)
 
 is-short-requires : tie.Need-is-short-requires
 is-short-requires c κs = search needs
@@ -25,31 +25,42 @@ is-short-requires c κs = search needs
 returns : tie.Need-returns
 returns c = sym (short-first numerals refl _ _ (ltb-true _ _ (sym (c .before .is-short .ensures) ∙ c .if1 .taken)))
 
-key-at-requires : tie.Need-key-at-requires
-key-at-requires c κs = ltb-false _ _ (sym (c .before .is-short .ensures) ∙ c .if1 .left)
+shared-slice-read-numeral-of : tie.Need-shared-slice-read-numeral-of
+shared-slice-read-numeral-of c = omega (arith, room (c .before))
 
-numeral-row-requires : tie.Need-numeral-row-requires
-numeral-row-requires c κs = search needs
+add-numeral-of : tie.Need-add-numeral-of
+add-numeral-of c = omega (arith, room (c .before))
+
+shared-slice-read-numeral-of-2 : tie.Need-shared-slice-read-numeral-of-2
+shared-slice-read-numeral-of-2 c = omega (arith, room (c .before .before))
+
+add-numeral-of-2 : tie.Need-add-numeral-of-2
+add-numeral-of-2 c = omega (arith, room (c .before .before))
+
+shared-slice-read-numeral-of-3 : tie.Need-shared-slice-read-numeral-of-3
+shared-slice-read-numeral-of-3 c = omega (arith, room (c .before .before .before))
+
+numeral-of-requires : tie.Need-numeral-of-requires
+numeral-of-requires c κs = search needs
 
 returns-2 : tie.Need-returns-2
+unfolding keyAt
 returns-2 c =
-    let k = c .before .before .before .before .before in
+    let k = c .before .before .before .before .before .before .before in
     let a = k .before .args in
     let near₁ = near (now (a .s)) (a .c .at) (λ i. omega (arith, k .shared-slice-known .given i)) in
-    sym (row-not numerals numeralSlots 17 refl refl refl (now (a .s)) (a .c .at) near₁ _ (slot (c .before)) refl (λ q. c .if2 .taken (q ∙ sym (c .before .before .key-at .ensures))))
+    sym (slot-not numerals numeralSlots 17 refl refl refl (now (a .s)) (a .c .at) near₁ _ (c .before .numeral-of .ensures) refl (c .if2 .taken))
 
-cast-t9 : tie.Need-cast-t9
-cast-t9 c = search needs
-
-add-t10 : tie.Need-add-t10
-add-t10 c = omega (arith, ltb-false (length (now (c .before .before .before .before .before .before .args .s))) (c .before .before .before .before .before .before .args .c .at + 3) (sym (c .before .before .before .before .is-short .ensures) ∙ c .before .before .before .if1 .left))
+add-t8 : tie.Need-add-t8
+add-t8 c = omega (arith, room (c .before .before .before .before .before))
 
 returns-3 : tie.Need-returns-3
+unfolding keyAt
 returns-3 c =
-    let k = c .before .before .before .before .before in
+    let k = c .before .before .before .before .before .before .before in
     let a = k .before .args in
     let near₁ = near (now (a .s)) (a .c .at) (λ i. omega (arith, k .shared-slice-known .given i)) in
-    sym (row-first numerals numeralSlots 17 refl refl refl (now (a .s)) (a .c .at) near₁ _ (slot (c .before)) (c .if2 .left ∙ c .before .before .key-at .ensures))
+    sym (slot-first numerals numeralSlots 17 refl refl refl (now (a .s)) (a .c .at) near₁ _ (c .before .numeral-of .ensures) (c .if2 .left))
 
 pub numeral-spec : {M : Type 1} → statement M
 numeral-spec =
@@ -57,9 +68,12 @@ numeral-spec =
     (tie.spec
     is-short-requires
     returns
-    key-at-requires
-    numeral-row-requires
+    shared-slice-read-numeral-of
+    add-numeral-of
+    shared-slice-read-numeral-of-2
+    add-numeral-of-2
+    shared-slice-read-numeral-of-3
+    numeral-of-requires
     returns-2
-    cast-t9
-    add-t10
+    add-t8
     returns-3)

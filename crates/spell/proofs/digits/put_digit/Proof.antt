@@ -7,8 +7,8 @@ use mathlib.Core.Path.{_≡_, sym, _∙_, ap}
 use lib.ListN.{length, getD}
 use denote.Ref.{now}
 use borrow.Author.Needs.{needs}
-use Rattle.spell.proofs.Keys.{bytesOf, keys-length, digit-spelled, digit-unspelled}
-use Rattle.spell.specs.Spell.{keys}
+use Rattle.spell.proofs.Keys.{keys-length, digit-spelled, digit-unspelled}
+use Rattle.spell.specs.Spell.{bytesOf, keys}
 use Rattle.lent.proofs.Writes.{as-text, nothing, fitting-nothing}
 use Rattle.lent.specs.Bytes.{fitting}
 use Rattle.spell.proofs.digits.put_digit.Statement.{statement}

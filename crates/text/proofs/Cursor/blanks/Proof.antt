@@ -1,15 +1,13 @@
--- The span from the start is the span from here; a byte past the end is no blank.
+-- The span from the start is the span from here.
 -- Assumes nothing.
-use Prim.Native.Nat.{ℕ, _-_, _<_}
+use Prim.Native.Nat.{_-_}
 use native.Mathlib.Omega.{arith}
-use mathlib.Core.Path.{_≡_, refl, sym, ap, _∙_}
-use mathlib.Core.List.{List}
-use mathlib.Core.Bool.{true}
-use lib.ListN.{length, getD}
-use denote.Ref.{now}
-use Rattle.lists.proofs.Laws.{class-in}
-use Rattle.text.specs.Text.{isBlank, blanksAt}
-use Rattle.text.proofs.Laws.{span-go, span-stop}
+use mathlib.Core.Path.{_≡_, refl, sym, _∙_}
+use lib.ListN.{length}
+use borrow.Author.Needs.{needs}
+use borrow.Author.Tests.{not-true, not-false}
+use Rattle.text.specs.Text.{blanksAt}
+use Rattle.text.proofs.Laws.{span-end, span-on, span-off}
 use Rattle.text.proofs.Cursor.blanks.Statement.{statement}
 use Rattle.text.proofs.Cursor.blanks.Tie as tie
 
@@ -19,42 +17,33 @@ Inv-loop s at₀ at = blanksAt s at₀ ≡ blanksAt s at
 abbrev μ-loop : tie.MeasureT-loop
 μ-loop s at₀ at = length s - at
 
--- in a turn: the text, the place, and that a blank stands there
-abbrev S : tie.Then1 Inv-loop μ-loop → List ℕ
-S c = now (c .before .before .before .before .before .args .s)
-
-abbrev I : tie.Then1 Inv-loop μ-loop → ℕ
-I c = c .before .before .before .loop .at
-
-blank : (c : tie.Then1 Inv-loop μ-loop) → isBlank (getD (S c) (I c) 0) ≡ true
-blank c = ap isBlank (sym (c .before .before .peek .ensures)) ∙ sym (c .before .is-blank .ensures) ∙ c .if1 .taken
-
-inside : (c : tie.Then1 Inv-loop μ-loop) → I c < length (S c)
-inside c = class-in isBlank (S c) (I c) refl (blank c)
-
 loop-holds : tie.Need-loop-holds Inv-loop μ-loop
 loop-holds c = refl
 
-peek-requires : tie.Need-peek-requires Inv-loop μ-loop
-peek-requires c κs = tt
+shared-slice-read-is-blank : tie.Need-shared-slice-read-is-blank Inv-loop μ-loop
+shared-slice-read-is-blank c = omega arith
 
 is-blank-requires : tie.Need-is-blank-requires Inv-loop μ-loop
-is-blank-requires c κs = tt
-
-add-at : tie.Need-add-at Inv-loop μ-loop
-add-at c = omega (arith, inside c)
-
-loop-less : tie.Need-loop-less Inv-loop μ-loop
-loop-less c = omega (arith, inside c)
-
-loop-again : tie.Need-loop-again Inv-loop μ-loop
-loop-again c = c .before .before .before .loop .inv ∙ span-go isBlank (S c) (I c) refl (blank c)
+is-blank-requires c κs = search needs
 
 returns : tie.Need-returns Inv-loop μ-loop
 returns c =
-    let l = c .before .before .before in
-    let e = ap isBlank (sym (c .before .before .peek .ensures)) ∙ sym (c .before .is-blank .ensures) ∙ c .if1 .left in
-    sym (l .loop .inv ∙ span-stop isBlank (now (l .before .before .args .s)) (l .loop .at) refl e)
+    let l = c .before .before .before .before in
+    sym (l .loop .inv ∙ span-off _ _ _ (omega arith) (sym (c .before .is-blank .ensures) ∙ not-true _ (c .if1 .taken)))
+
+add-at : tie.Need-add-at Inv-loop μ-loop
+add-at c = omega arith
+
+loop-less : tie.Need-loop-less Inv-loop μ-loop
+loop-less c = omega arith
+
+loop-again : tie.Need-loop-again Inv-loop μ-loop
+loop-again c =
+    let l = c .before .before .before .before in
+    l .loop .inv ∙ span-on _ _ _ (omega arith) (sym (c .before .is-blank .ensures) ∙ not-false _ (c .if1 .left))
+
+returns-2 : tie.Need-returns-2 Inv-loop μ-loop
+returns-2 c = sym (c .before .loop .inv ∙ span-end _ _ _ (c .loop-test .left))
 
 pub blanks-spec : {M : Type 1} → statement M
 blanks-spec =
@@ -63,9 +52,10 @@ blanks-spec =
     Inv-loop
     μ-loop
     loop-holds
-    peek-requires
+    shared-slice-read-is-blank
     is-blank-requires
+    returns
     add-at
     loop-less
     loop-again
-    returns)
+    returns-2)

@@ -1,4 +1,4 @@
--- What was passed from the start to here, and then eight bytes more or fewer, is one run.
+-- What was passed from the start to here, at first sixteen bytes at a time, and then eight bytes more or fewer, is one run.
 -- Assumes nothing.
 use Prim.Native.Nat.{_-_, _≤_}
 use native.Mathlib.Omega.{arith}
@@ -20,8 +20,11 @@ abbrev μ-loop : tie.MeasureT-loop
 returns : tie.Need-returns Inv-loop μ-loop
 returns c = run-none _ _ _
 
+ascii-sixteens-requires : tie.Need-ascii-sixteens-requires Inv-loop μ-loop
+ascii-sixteens-requires c κs = search needs
+
 loop-holds : tie.Need-loop-holds Inv-loop μ-loop
-loop-holds c = (run-none _ _ _, omega arith)
+loop-holds c = (c .ascii-sixteens .ensures, omega arith)
 
 ascii-of-eight-requires : tie.Need-ascii-of-eight-requires Inv-loop μ-loop
 ascii-of-eight-requires c κs = search needs
@@ -45,6 +48,7 @@ ascii-spec =
     Inv-loop
     μ-loop
     returns
+    ascii-sixteens-requires
     loop-holds
     ascii-of-eight-requires
     add-if2

@@ -1,0 +1,427 @@
+-- The line of an entry of the usual form: what its row says, and the bytes of each of its three pieces.
+-- Assumes nothing.
+use Prim.Native.Nat.{ℕ, _+_, _-_, _/_, _%_, _≤_, _<_}
+use native.Mathlib.Omega.{arith}
+use native.Mathlib.Decide.{decLt, ℕ-discrete}
+use mathlib.Core.Path.{_≡_, refl, sym, ap, ap₂, subst, _∙_}
+use mathlib.Core.List.{List, [], _∷_, _++_, append-assoc, append-nil}
+use mathlib.Core.Bool.{Bool, true, false, true≢false}
+use lib.ListN.{length, getD, replicate}
+use lib.Dec.{eqb, leb, ltb}
+use borrow.Author.Tests.{ne-eqb, lt-ltb, le-ltb, eqb-true, eqb-false, ltb-false, le-leb, lt-leb, leb-true}
+use Rattle.lists.specs.Pick.{pick}
+use Rattle.lists.proofs.Laws.{pick-both}
+use Rattle.lent.specs.Numbers.{decimal, padded}
+use Rattle.lent.proofs.Digits.{decimal-one, decimal-more, decimal-length-one, padded-some}
+use Rattle.text.specs.Text.{wideSpace}
+use Rattle.spell.specs.Tables.{moveKinds, numerals, files}
+use Rattle.spell.specs.Spell.{spelled, keyOf, bytesOf}
+use Rattle.spell.proofs.Keys.{bytes-key}
+use Rattle.spell.proofs.Written.{file-bytes, promoted-bytes}
+use Rattle.jkf.specs.Entries.{marked, clockOf, timeIn, targetIn, originIn, moveIn, entryIn}
+use Rattle.jkf.specs.declared.Clock.the-variants.{Hms, Ms}
+use Rattle.jkf.specs.declared.Time.the-variants.{Untimed, Timed}
+use Rattle.jkf.specs.declared.Target.the-variants.{Same, Square}
+use Rattle.jkf.specs.declared.Origin.the-variants.{Unknown, From}
+use Rattle.jkf.specs.declared.Entry.{Entry}
+use Rattle.jkf.specs.declared.Entry.the-variants.{Play}
+use Rattle.moves.specs.Moves.{sameWord, promotes}
+use Rattle.converter.specs.Entries.{targetText, promoteText, originText, moveText, moveWidth, nowText, totalText, timeText, playText, widthOf, entryLine, padding, within, targetFits, timeFits, canWrite}
+use Rattle.converter.specs.Usuals.{UsualRow, isLong, spaced, startText, nameText, clocksText}
+use Rattle.converter.proofs.Room.{room-front, room-as}
+use Rattle.converter.proofs.Lengthy.{digits-three, padded-wide, figure-two, place-three, kind-plain, kind-long, same-length, square-length, promote-three, promote-none, from-length, move-length, now-parts, total-parts, timed-length, entry-parts}
+
+-- ---- numbers
+
+-- a number of two digits
+decimal-two : (v : ℕ) → 10 ≤ v → v < 100 → decimal v ≡ (48 + v / 10) ∷ (48 + v % 10) ∷ []
+decimal-two v l h = decimal-more v l ∙ ap (λ (t : List ℕ). t ++ ((48 + v % 10) ∷ [])) (decimal-one (v / 10) (omega arith))
+
+-- a number of three
+decimal-three : (v : ℕ) → 100 ≤ v → v < 1000 → decimal v ≡ (48 + v / 10 / 10) ∷ (48 + v / 10 % 10) ∷ (48 + v % 10) ∷ []
+decimal-three v l h =
+    decimal-more v (omega arith) ∙ ap (λ (t : List ℕ). t ++ ((48 + v % 10) ∷ [])) (decimal-two (v / 10) (omega arith) (omega arith))
+
+-- a number to a width, by its digits
+padded-as : (w fill v : ℕ) {t : List ℕ} → decimal v ≡ t → padded w fill v ≡ replicate (w - length t) fill ++ t
+padded-as w fill v e = padded-some w fill v ∙ ap (λ (t : List ℕ). replicate (w - length t) fill ++ t) e
+
+-- two places: the tens, or what fills them
+tens : (fill v : ℕ) → v < 100 → padded 2 fill v ≡ pick (ltb v 10) fill (48 + v / 10) ∷ (48 + v % 10) ∷ []
+tens fill v h = go (decLt v 10)
+  where
+    go : Dec (v < 10) → padded 2 fill v ≡ pick (ltb v 10) fill (48 + v / 10) ∷ (48 + v % 10) ∷ []
+    go (yes l) =
+        let e : 48 + v ≡ 48 + v % 10 = omega arith in
+        padded-as 2 fill v (decimal-one v l) ∙ rw (lt-ltb v 10 l) (ap (λ (d : ℕ). fill ∷ d ∷ []) e)
+    go (no l) = let g : 10 ≤ v = omega arith in padded-as 2 fill v (decimal-two v g h) ∙ rw (le-ltb v 10 g)
+
+-- the byte in the tens' place: a space below 10
+pub blank-none : {b v : ℕ} → v < 10 → b ≡ 32 → b ≡ pick (ltb v 10) 32 (48 + v / 10)
+blank-none h e = rw (lt-ltb _ _ h) e
+
+-- and a digit from 10 on
+pub blank-some : {b v : ℕ} → 10 ≤ v → b ≡ 48 + v / 10 → b ≡ pick (ltb v 10) 32 (48 + v / 10)
+blank-some h e = rw (le-ltb _ _ h) e
+
+-- with zeros the tens are always written
+zeros : (v : ℕ) → v < 100 → padded 2 48 v ≡ (48 + v / 10) ∷ (48 + v % 10) ∷ []
+zeros v h = tens 48 v h ∙ ap (λ (d : ℕ). d ∷ (48 + v % 10) ∷ []) (go (decLt v 10))
+  where
+    go : Dec (v < 10) → pick (ltb v 10) 48 (48 + v / 10) ≡ 48 + v / 10
+    go (yes l) = let e : 48 ≡ 48 + v / 10 = omega arith in rw (lt-ltb v 10 l) e
+    go (no l) = let g : 10 ≤ v = omega arith in rw (le-ltb v 10 g)
+
+-- a ply to four places
+places : (v : ℕ) → v < 1000 → padded 4 32 v ≡ 32 ∷ spaced v 100 ∷ spaced v 10 ∷ (48 + v % 10) ∷ []
+unfolding spaced
+places v h = go (decLt v 10) (decLt v 100)
+  where
+    go : Dec (v < 10) → Dec (v < 100) → padded 4 32 v ≡ 32 ∷ spaced v 100 ∷ spaced v 10 ∷ (48 + v % 10) ∷ []
+    go (yes l) _ =
+        let m : v < 100 = omega arith in
+        let e : 48 + v ≡ 48 + v % 10 = omega arith in
+        padded-as 4 32 v (decimal-one v l) ∙ rw (lt-ltb v 10 l, lt-ltb v 100 m) (ap (λ (d : ℕ). 32 ∷ 32 ∷ 32 ∷ d ∷ []) e)
+    go (no l) (yes m) =
+        let g : 10 ≤ v = omega arith in
+        let e : 48 + v / 10 ≡ 48 + v / 10 % 10 = omega arith in
+        padded-as 4 32 v (decimal-two v g m) ∙ rw (le-ltb v 10 g, lt-ltb v 100 m) (ap (λ (d : ℕ). 32 ∷ 32 ∷ d ∷ (48 + v % 10) ∷ []) e)
+    go (no l) (no m) =
+        let g : 10 ≤ v = omega arith in
+        let k : 100 ≤ v = omega arith in
+        let e : 48 + v / 10 / 10 ≡ 48 + v / 100 % 10 = omega arith in
+        padded-as 4 32 v (decimal-three v k h) ∙ rw (le-ltb v 10 g, le-ltb v 100 k) (ap (λ (d : ℕ). 32 ∷ d ∷ (48 + v / 10 % 10) ∷ (48 + v % 10) ∷ []) e)
+
+-- ---- what the row says
+
+-- two tests that failed, taken apart
+pick-neither : (t w : Bool) → pick t true w ≡ false → (t ≡ false) × (w ≡ false)
+pick-neither true w e = absurd (true≢false e)
+pick-neither false w e = (refl, e)
+
+-- a number of 1 to 9
+within-is : (x : ℕ) → (1 ≤ x) × (x ≤ 9) → within x ≡ true
+within-is x (h, k) = rw (le-leb 1 x h, le-leb x 9 k)
+
+-- and back
+pub within-of : {x : ℕ} → within x ≡ true → (1 ≤ x) × (x ≤ 9)
+within-of {x} t = let (p, q) = pick-both (leb 1 x) (leb x 9) t in (leb-true 1 x p, leb-true x 9 q)
+
+-- the two characters of the target
+abbrev pub fileText : List ℕ → List ℕ
+fileText row = pick (eqb (getD row 8 0) 23) sameWord (spelled files (getD row 4 0))
+
+abbrev pub rankText : List ℕ → List ℕ
+rankText row = pick (eqb (getD row 8 0) 23) wideSpace (spelled numerals (getD row 5 0))
+
+-- the two of a long name
+abbrev pub firstText : List ℕ → List ℕ
+firstText row = pick (ltb 9 (getD row 2 0)) promotes (spelled moveKinds (getD row 2 0))
+
+abbrev pub secondText : List ℕ → List ℕ
+secondText row = pick (ltb 9 (getD row 2 0)) (spelled moveKinds (getD row 2 0 - 8)) promotes
+
+module _ (row : List ℕ) (u : UsualRow row) where
+  -- its marks are one of two
+  by-marks : (P : ℕ → Type 0) → P 21 → P 23 → P (getD row 8 0)
+  by-marks P a b = go (ℕ-discrete (getD row 8 0) 23)
+    where
+      go : Dec (getD row 8 0 ≡ 23) → P (getD row 8 0)
+      go (yes e) = subst P (sym e) b
+      go (no n) = subst P (sym (u .target n .marks)) a
+
+  -- it is a move
+  play-is : entryIn row ≡ Play (moveIn row)
+  unfolding entryIn
+  play-is = rw (u .sort)
+
+  -- its time has minutes and seconds, and its total hours besides
+  time-is : timeIn row ≡ Timed (Ms (getD row 10 0) (getD row 11 0)) (Hms (getD row 12 0) (getD row 13 0) (getD row 14 0))
+  unfolding timeIn
+  time-is =
+      by-marks
+      (λ (m : ℕ).
+      pick (marked 4 m)
+      (Timed
+      (clockOf (marked 8 m) (getD row 9 0) (getD row 10 0) (getD row 11 0))
+      (clockOf (marked 16 m) (getD row 12 0) (getD row 13 0) (getD row 14 0)))
+      Untimed
+      ≡ Timed (Ms (getD row 10 0) (getD row 11 0)) (Hms (getD row 12 0) (getD row 13 0) (getD row 14 0)))
+      refl refl
+
+  -- its origin is known
+  origin-is : originIn row ≡ From (getD row 6 0) (getD row 7 0)
+  unfolding originIn
+  origin-is = by-marks (λ (m : ℕ). pick (eqb (m % 2) 1) (From (getD row 6 0) (getD row 7 0)) Unknown ≡ From (getD row 6 0) (getD row 7 0)) refl refl
+
+  -- its target is 同
+  same-is : getD row 8 0 ≡ 23 → targetIn row ≡ Same
+  unfolding targetIn
+  same-is e = rw e
+
+  -- or a square
+  square-is : (getD row 8 0 ≡ 23 → ⊥) → targetIn row ≡ Square (getD row 4 0) (getD row 5 0)
+  unfolding targetIn
+  square-is n = rw (u .target n .marks)
+
+  -- ---- the name
+
+  -- a name of one character
+  short-is : isLong row ≡ false → (getD row 2 0 ≤ 9) × (getD row 3 0 ≡ 2 → ⊥)
+  short-is e =
+      let (p, q) = pick-neither (ltb 9 (getD row 2 0)) (eqb (getD row 3 0) 2) e in
+      (ltb-false 9 (getD row 2 0) p, eqb-false (getD row 3 0) 2 q)
+
+  -- or of two, which is a promoted kind unless the kind is one of two characters
+  long-is : isLong row ≡ true → getD row 2 0 ≤ 9 → getD row 3 0 ≡ 2
+  long-is e h = eqb-true (getD row 3 0) 2 (rw (le-ltb 9 (getD row 2 0) h) at e)
+
+  -- how wide it is
+  width-short : isLong row ≡ false → moveWidth (moveIn row) ≡ 10
+  unfolding moveWidth moveIn
+  width-short e =
+      let (h, n) = short-is e in
+      let l : getD row 2 0 < 10 = omega arith in
+      rw (origin-is, lt-leb 10 (getD row 2 0) l, ne-eqb (getD row 3 0) 2 n)
+
+  -- of a kind of two characters
+  width-kind : 10 ≤ getD row 2 0 → moveWidth (moveIn row) ≡ 12
+  unfolding moveWidth moveIn
+  width-kind h =
+      let (m, n) = u .name .long h in
+      rw (origin-is, le-leb 10 (getD row 2 0) h, le-leb (getD row 2 0) 12 m, ne-eqb (getD row 3 0) 2 n)
+
+  -- of a kind that promotes
+  width-promoted : getD row 2 0 ≤ 9 → getD row 3 0 ≡ 2 → moveWidth (moveIn row) ≡ 12
+  unfolding moveWidth moveIn
+  width-promoted h e =
+      let l : getD row 2 0 < 10 = omega arith in
+      rw (origin-is, lt-leb 10 (getD row 2 0) l, e)
+
+  -- of either
+  width-long : isLong row ≡ true → moveWidth (moveIn row) ≡ 12
+  width-long e = go (decLt 9 (getD row 2 0))
+    where
+      go : Dec (9 < getD row 2 0) → moveWidth (moveIn row) ≡ 12
+      go (yes h) = width-kind h
+      go (no h) = let l : getD row 2 0 ≤ 9 = omega arith in width-promoted l (long-is e l)
+
+  -- there is room for a time
+  width-most : moveWidth (moveIn row) ≤ 13
+  width-most = go (isLong row) refl
+    where
+      go : (t : Bool) → isLong row ≡ t → moveWidth (moveIn row) ≤ 13
+      go true e = omega (arith, width-long e)
+      go false e = omega (arith, width-short e)
+
+  -- ---- it can be written
+
+  -- its target is 同 or a square of the board
+  target-fits : targetFits (targetIn row) ≡ true
+  target-fits = go (ℕ-discrete (getD row 8 0) 23)
+    where
+      go : Dec (getD row 8 0 ≡ 23) → targetFits (targetIn row) ≡ true
+      go (yes e) = rw (same-is e)
+      go (no n) = let s = u .target n in rw (square-is n, within-is (getD row 4 0) (s .file), within-is (getD row 5 0) (s .rank))
+
+  -- its time has room
+  time-fits : timeFits (moveWidth (moveIn row)) (timeIn row) ≡ true
+  time-fits = rw time-is (le-leb (moveWidth (moveIn row)) 13 width-most)
+
+  -- so it can be written
+  pub usual-fits : true ≡ canWrite (entryIn row)
+  unfolding canWrite moveIn
+  usual-fits = sym (rw (play-is, target-fits) time-fits)
+
+  -- ---- how long it is
+
+  -- two characters
+  target-six : 6 ≡ length (targetText (targetIn row))
+  target-six = go (ℕ-discrete (getD row 8 0) 23)
+    where
+      go : Dec (getD row 8 0 ≡ 23) → 6 ≡ length (targetText (targetIn row))
+      go (yes e) = same-length (same-is e)
+      go (no n) =
+          let s = u .target n in
+          omega (arith, square-length (square-is n), place-three (getD row 4 0) (within-is (getD row 4 0) (s .file)) .0, place-three (getD row 5 0) (within-is (getD row 5 0) (s .rank)) .1)
+
+  -- its clocks have 16 bytes
+  time-sixteen : (width : ℕ) → length (timeText width (timeIn row)) ≡ 13 - width + 16
+  time-sixteen width =
+      let c = u .clocks in
+      let m = getD row 10 0 in
+      let s = getD row 11 0 in
+      let h = getD row 12 0 in
+      let n = getD row 13 0 in
+      let z = getD row 14 0 in
+      omega (
+        arith,
+        timed-length width time-is,
+        now-parts (Ms m s),
+        figure-two m (omega arith) 32,
+        figure-two s (omega arith) 48,
+        total-parts (Hms h n z),
+        figure-two h (omega arith) 48,
+        figure-two n (omega arith) 48,
+        figure-two z (omega arith) 48,
+      )
+
+  -- all but the kind, its promotion and the padding
+  usual-parts : (ply : ℕ) → ply < 1000
+      → length (entryLine ply (entryIn row))
+      ≡ 32 + length (spelled moveKinds (getD row 2 0)) + length (promoteText (getD row 3 0)) + (13 - moveWidth (moveIn row))
+  unfolding playText widthOf moveIn
+  usual-parts ply h =
+      let x = getD row 6 0 in
+      let y = getD row 7 0 in
+      omega (
+        arith,
+        ap (λ (e : Entry). length (entryLine ply e)) play-is,
+        entry-parts ply (Play (moveIn row)),
+        padded-wide 4 ply (omega (arith, digits-three ply h)) 32,
+        move-length (moveIn row),
+        target-six,
+        from-length origin-is,
+        decimal-length-one x (omega (arith, u .origin .0)),
+        decimal-length-one y (omega (arith, u .origin .1)),
+        time-sixteen (moveWidth (moveIn row)),
+      )
+
+  -- with a name of one character
+  pub usual-short : isLong row ≡ false → (ply : ℕ) → ply < 1000 → 38 ≡ length (entryLine ply (entryIn row))
+  usual-short e ply h =
+      let (l, n) = short-is e in
+      omega (arith, usual-parts ply h, width-short e, kind-plain (getD row 2 0) (u .name .kind) (omega arith), promote-none (getD row 3 0) n)
+
+  -- with a name of two
+  pub usual-long : isLong row ≡ true → (ply : ℕ) → ply < 1000 → 39 ≡ length (entryLine ply (entryIn row))
+  usual-long e ply h = go (decLt 9 (getD row 2 0))
+    where
+      go : Dec (9 < getD row 2 0) → 39 ≡ length (entryLine ply (entryIn row))
+      go (yes g) =
+          let (m, n) = u .name .long g in
+          omega (arith, usual-parts ply h, width-long e, kind-long (getD row 2 0) g (omega arith), promote-none (getD row 3 0) n)
+      go (no g) =
+          let l : getD row 2 0 ≤ 9 = omega arith in
+          omega (arith, usual-parts ply h, width-long e, kind-plain (getD row 2 0) (u .name .kind) (omega arith), promote-three (getD row 3 0) (long-is e l))
+
+  -- ---- its pieces
+
+  -- the line is three
+  pub usual-line : (ply : ℕ) → entryLine ply (entryIn row) ≡ (startText ply row ++ nameText row) ++ clocksText row
+  unfolding entryLine startText nameText clocksText playText moveText timeText widthOf moveIn
+  usual-line ply = rw (play-is, time-is) (simp append-assoc)
+
+  -- where it fits they do
+  pub usual-room : (ply : ℕ) {n : ℕ} → length (entryLine ply (entryIn row)) ≤ n
+      → (length (startText ply row) ≤ n) × (length (startText ply row ++ nameText row) ≤ n) × (length ((startText ply row ++ nameText row) ++ clocksText row) ≤ n)
+  usual-room ply h =
+      let z = room-as (sym (usual-line ply)) h in
+      let y = room-front (startText ply row ++ nameText row) (clocksText row) z in
+      (room-front (startText ply row) (nameText row) y, y, z)
+
+  -- 同 in the file's place
+  pub file-same : {k : ℕ} → getD row 8 0 ≡ 23 → k ≡ 15044748 → bytesOf k ≡ fileText row
+  file-same m e = ap bytesOf e ∙ rw m
+
+  -- a file
+  pub file-square : {k : ℕ} → (getD row 8 0 ≡ 23 → ⊥) → k ≡ 15711376 + getD row 4 0 → bytesOf k ≡ fileText row
+  file-square {k} n e =
+      let x = getD row 4 0 in
+      let h = u .target n .file in
+      let f : k ≡ keyOf 239 188 (144 + x) = omega arith in
+      ap bytesOf f ∙ bytes-key 239 188 (144 + x) (omega arith) (omega arith) (omega arith) ∙ sym (file-bytes x (h .0) (h .1)) ∙ rw (ne-eqb (getD row 8 0) 23 n)
+
+  -- the space after 同
+  pub rank-same : {k : ℕ} → getD row 8 0 ≡ 23 → k ≡ 14909568 → bytesOf k ≡ rankText row
+  rank-same m e = ap bytesOf e ∙ rw m
+
+  -- a rank
+  pub rank-square : {k r : ℕ} → (getD row 8 0 ≡ 23 → ⊥) → (1 ≤ getD row 5 0 → getD row 5 0 ≤ 9 → spelled numerals (getD row 5 0) ≡ bytesOf r) → k ≡ r
+      → bytesOf k ≡ rankText row
+  rank-square n f e = let h = u .target n .rank in ap bytesOf e ∙ sym (f (h .0) (h .1)) ∙ rw (ne-eqb (getD row 8 0) 23 n)
+
+  -- the two are the target
+  target-text : fileText row ++ rankText row ≡ targetText (targetIn row)
+  unfolding targetText
+  target-text = go (ℕ-discrete (getD row 8 0) 23)
+    where
+      go : Dec (getD row 8 0 ≡ 23) → fileText row ++ rankText row ≡ targetText (targetIn row)
+      go (yes e) = rw (same-is e, e)
+      go (no n) = rw (square-is n, ne-eqb (getD row 8 0) 23 n)
+
+  -- the ply, a space and the target
+  pub start-text : {ply a b : ℕ} (f r : ℕ) → ply < 1000 → a ≡ spaced ply 100 → b ≡ spaced ply 10 → bytesOf f ≡ fileText row → bytesOf r ≡ rankText row
+      → (32 ∷ a ∷ b ∷ (48 + ply % 10) ∷ 32 ∷ []) ++ (bytesOf f ++ bytesOf r) ≡ startText ply row
+  unfolding startText
+  start-text {ply} f r h p q e g =
+      ap₂ (λ (t v : List ℕ). (t ++ (32 ∷ [])) ++ v)
+      (ap₂ (λ (i j : ℕ). 32 ∷ i ∷ j ∷ (48 + ply % 10) ∷ []) p q ∙ sym (places ply h))
+      (ap₂ (λ (t v : List ℕ). t ++ v) e g ∙ target-text)
+
+  -- two digits in brackets
+  origin-text : 40 ∷ (48 + getD row 6 0) ∷ (48 + getD row 7 0) ∷ 41 ∷ [] ≡ originText (originIn row)
+  unfolding originText
+  origin-text = let (h, k) = u .origin in sym (rw (origin-is, decimal-one (getD row 6 0) (omega arith), decimal-one (getD row 7 0) (omega arith)))
+
+  -- a name, the origin and the padding
+  name-text : {t : List ℕ} {n : ℕ} → t ≡ spelled moveKinds (getD row 2 0) ++ promoteText (getD row 3 0) → n ≡ moveWidth (moveIn row)
+      → (t ++ (40 ∷ (48 + getD row 6 0) ∷ (48 + getD row 7 0) ∷ 41 ∷ [])) ++ padding n ≡ nameText row
+  unfolding nameText
+  name-text {n = n} e w =
+      ap₂ (λ (t o : List ℕ). (t ++ o) ++ padding n) e origin-text
+      ∙ ap (λ (i : ℕ). ((spelled moveKinds (getD row 2 0) ++ promoteText (getD row 3 0)) ++ originText (originIn row)) ++ padding i) w
+
+  -- a kind that does not promote stands alone
+  not-promoted : (getD row 3 0 ≡ 2 → ⊥) → spelled moveKinds (getD row 2 0) ++ promoteText (getD row 3 0) ≡ spelled moveKinds (getD row 2 0)
+  unfolding promoteText
+  not-promoted n = rw (ne-eqb (getD row 3 0) 2 n) (append-nil (spelled moveKinds (getD row 2 0)))
+
+  -- a name of one character
+  pub short-text : (k : ℕ) → isLong row ≡ false → (1 ≤ getD row 2 0 → getD row 2 0 ≤ 9 → spelled moveKinds (getD row 2 0) ≡ bytesOf k)
+      → bytesOf k ++ (40 ∷ (48 + getD row 6 0) ∷ (48 + getD row 7 0) ∷ 41 ∷ 32 ∷ 32 ∷ 32 ∷ []) ≡ nameText row
+  short-text k e f =
+      let (h, n) = short-is e in
+      name-text (sym (not-promoted n ∙ f (u .name .kind) h)) (sym (width-short e))
+
+  -- 成 of a kind of two characters
+  pub first-promoted : {k : ℕ} → 9 < getD row 2 0 → k ≡ 15108240 → bytesOf k ≡ firstText row
+  first-promoted h e = ap bytesOf e ∙ rw (lt-ltb 9 (getD row 2 0) h)
+
+  -- the kind
+  pub first-kind : {k r : ℕ} → getD row 2 0 ≤ 9 → (1 ≤ getD row 2 0 → getD row 2 0 ≤ 9 → spelled moveKinds (getD row 2 0) ≡ bytesOf r) → k ≡ r
+      → bytesOf k ≡ firstText row
+  first-kind h f e = ap bytesOf e ∙ sym (f (u .name .kind) h) ∙ rw (le-ltb 9 (getD row 2 0) h)
+
+  -- and the kind that it promotes
+  pub second-kind : {k r : ℕ} → 9 < getD row 2 0 → (1 ≤ getD row 2 0 - 8 → getD row 2 0 - 8 ≤ 9 → spelled moveKinds (getD row 2 0 - 8) ≡ bytesOf r) → k ≡ r
+      → bytesOf k ≡ secondText row
+  second-kind h f e = let (m, n) = u .name .long h in ap bytesOf e ∙ sym (f (omega arith) (omega arith)) ∙ rw (lt-ltb 9 (getD row 2 0) h)
+
+  -- 成 after the kind
+  pub second-promoted : {k : ℕ} → getD row 2 0 ≤ 9 → k ≡ 15108240 → bytesOf k ≡ secondText row
+  second-promoted h e = ap bytesOf e ∙ rw (le-ltb 9 (getD row 2 0) h)
+
+  -- the two are the kind and its promotion
+  long-word : isLong row ≡ true → firstText row ++ secondText row ≡ spelled moveKinds (getD row 2 0) ++ promoteText (getD row 3 0)
+  unfolding promoteText
+  long-word e = go (decLt 9 (getD row 2 0))
+    where
+      go : Dec (9 < getD row 2 0) → firstText row ++ secondText row ≡ spelled moveKinds (getD row 2 0) ++ promoteText (getD row 3 0)
+      go (yes h) = let (m, n) = u .name .long h in rw (lt-ltb 9 (getD row 2 0) h) (sym (not-promoted n ∙ promoted-bytes (getD row 2 0) h m))
+      go (no h) = let l : getD row 2 0 ≤ 9 = omega arith in rw (le-ltb 9 (getD row 2 0) l, long-is e l)
+
+  -- a name of two characters
+  pub long-text : (k l : ℕ) → isLong row ≡ true → bytesOf k ≡ firstText row → bytesOf l ≡ secondText row
+      → (bytesOf k ++ bytesOf l) ++ (40 ∷ (48 + getD row 6 0) ∷ (48 + getD row 7 0) ∷ 41 ∷ 32 ∷ []) ≡ nameText row
+  long-text k l e p q = name-text (ap₂ (λ (t v : List ℕ). t ++ v) p q ∙ long-word e) (sym (width-long e))
+
+  -- the time
+  pub clocks-text : {b : ℕ} → b ≡ pick (ltb (getD row 10 0) 10) 32 (48 + getD row 10 0 / 10)
+      → 40 ∷ b ∷ (48 + getD row 10 0 % 10) ∷ 58 ∷ (48 + getD row 11 0 / 10) ∷ (48 + getD row 11 0 % 10) ∷ 47
+      ∷ (48 + getD row 12 0 / 10) ∷ (48 + getD row 12 0 % 10) ∷ 58 ∷ (48 + getD row 13 0 / 10) ∷ (48 + getD row 13 0 % 10) ∷ 58
+      ∷ (48 + getD row 14 0 / 10) ∷ (48 + getD row 14 0 % 10) ∷ 41 ∷ 10 ∷ [] ≡ clocksText row
+  unfolding clocksText nowText totalText
+  clocks-text e =
+      let c = u .clocks in
+      sym (rw (tens 32 (getD row 10 0) (omega arith), zeros (getD row 11 0) (omega arith), zeros (getD row 12 0) (omega arith), zeros (getD row 13 0) (omega arith), zeros (getD row 14 0) (omega arith), e))

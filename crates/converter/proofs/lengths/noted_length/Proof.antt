@@ -1,0 +1,78 @@
+-- An entry is its line and the comments that its row says, which lie among those of the block.
+-- Assumes nothing.
+use native.Mathlib.Omega.{arith}
+use mathlib.Core.Path.{ap, _∙_}
+use lib.ListN.{length, length-append}
+use denote.Ref.{now}
+use Rattle.jkf.specs.Entries.{entryIn}
+use Rattle.block.specs.Decode.{run, commentOf}
+use Rattle.converter.specs.Entries.{entryLine, remarksText}
+use Rattle.converter.proofs.Playing.{row-number, noted-text, noted-bare}
+use Rattle.converter.proofs.Within.{comments-within, comments-small}
+use borrow.Author.Needs.{needs}
+use Rattle.converter.proofs.lengths.noted_length.Statement.{statement}
+use Rattle.converter.proofs.lengths.noted_length.Tie as tie
+
+cast-row-of : tie.Need-cast-row-of
+cast-row-of c = search needs
+
+row-of-requires : tie.Need-row-of-requires
+row-of-requires c κs = search needs
+
+row-length-requires : tie.Need-row-length-requires
+row-length-requires c κs = search needs
+
+get16-requires : tie.Need-get16-requires
+get16-requires c κs = search needs
+
+returns : tie.Need-returns
+returns c =
+    let s = c .before .before .before .before .before in
+    let b = now (s .args .b) in
+    let r = c .before .before .before .row-of .ensures in
+    let e = noted-bare b (s .args .ply) (s .args .k) r (row-number b (s .args .k) 18 r (c .before .get16 .ensures .0)) (c .if1 .taken) in
+    (c .before .before .row-length .ensures .0 ∙ ap length e, omega arith)
+
+get16-requires-2 : tie.Need-get16-requires-2
+get16-requires-2 c κs = search needs
+
+remarks-length-requires : tie.Need-remarks-length-requires
+remarks-length-requires c κs =
+    let s = c .before .before .before .before .before .before in
+    let b = now (s .args .b) in
+    let k = s .args .k in
+    let r = c .before .before .before .before .row-of .ensures in
+    let e = row-number b k 16 r (c .get162 .ensures .0) in
+    let f = row-number b k 18 r (c .before .before .get16 .ensures .0) in
+    omega (arith, comments-within b (s .pre .0) k (s .pre .1), comments-small b (s .pre .0))
+
+add-result : tie.Need-add-result
+add-result c = search needs
+
+returns-2 : tie.Need-returns-2
+returns-2 c =
+    let s = c .before .before .before .before .before .before .before in
+    let b = now (s .args .b) in
+    let k = s .args .k in
+    let ply = s .args .ply in
+    let r = c .before .before .before .before .before .row-of .ensures in
+    let i = c .before .get162 in
+    let n = c .before .before .before .get16 in
+    let t = entryLine ply (entryIn (now (c .before .before .before .before .before .row-of .result))) in
+    let e = ap length (noted-text b ply k r (row-number b k 16 r (i .ensures .0)) (row-number b k 18 r (n .ensures .0))) in
+    let l = length-append t (remarksText (run (commentOf b) (i .result) (n .result))) in
+    (omega (arith, c .remarks-length .ensures .0, c .before .before .before .before .row-length .ensures .0), omega (arith, n .ensures .1, c .remarks-length .ensures .1, c .before .before .before .before .row-length .ensures .1))
+
+pub noted-length-spec : {M : Type 1} → statement M
+noted-length-spec =
+    tie.close
+    (tie.spec
+    cast-row-of
+    row-of-requires
+    row-length-requires
+    get16-requires
+    returns
+    get16-requires-2
+    remarks-length-requires
+    add-result
+    returns-2)

@@ -1,0 +1,84 @@
+-- A name of two characters is put by itself; the bytes of any other are its kind, its origin and spaces (`short-text`).
+-- Assumes nothing.
+use mathlib.Core.Path.{sym, _∙_}
+use denote.Ref.{now}
+use Rattle.converter.proofs.Room.{bytes-of}
+use Rattle.converter.proofs.Usually.{short-text}
+use borrow.Author.Needs.{needs}
+use Rattle.converter.proofs.usuals.put_name.Statement.{statement}
+use Rattle.converter.proofs.usuals.put_name.Tie as tie
+
+is-long-requires : tie.Need-is-long-requires
+is-long-requires c κs = search needs
+
+put-long-name-requires : tie.Need-put-long-name-requires
+put-long-name-requires c κs = (c .before .before .before .before .before .pre .0, sym (c .before .before .is-long .ensures) ∙ c .before .if1 .taken, c .before .before .before .before .before .pre .1)
+
+same-length : tie.Need-same-length
+same-length c = search needs
+
+returns : tie.Need-returns
+returns c = search needs
+
+shared-slice-read-kind-key : tie.Need-shared-slice-read-kind-key
+shared-slice-read-kind-key c = search needs
+
+kind-key-requires : tie.Need-kind-key-requires
+kind-key-requires c κs = search needs
+
+cast-t8 : tie.Need-cast-t8
+cast-t8 c = search needs
+
+cast-t16 : tie.Need-cast-t16
+cast-t16 c = search needs
+
+cast-t18 : tie.Need-cast-t18
+cast-t18 c = search needs
+
+shared-slice-read-t20 : tie.Need-shared-slice-read-t20
+shared-slice-read-t20 c = search needs
+
+add-t21 : tie.Need-add-t21
+add-t21 c = search needs
+
+shared-slice-read-t23 : tie.Need-shared-slice-read-t23
+shared-slice-read-t23 c = search needs
+
+add-t24 : tie.Need-add-t24
+add-t24 c = search needs
+
+slice-aggregate-put-bytes : tie.Need-slice-aggregate-put-bytes
+slice-aggregate-put-bytes c = search needs
+
+put-bytes-requires : tie.Need-put-bytes-requires
+put-bytes-requires c κs = search needs
+
+same-length-2 : tie.Need-same-length-2
+same-length-2 c = search needs
+
+returns-2 : tie.Need-returns-2
+returns-2 c =
+    let s = c .before .before .before .before .before .before .before .before .before .before .before .before .before in
+    bytes-of (short-text (now (s .args .row)) (s .pre .0) (c .before .before .before .before .before .before .before .kind-key .result) (sym (c .before .before .before .before .before .before .before .before .before .before .is-long .ensures) ∙ c .before .before .before .before .before .before .before .before .before .if1 .left) (c .before .before .before .before .before .before .before .kind-key .ensures)) (s .pre .1) (c .before .before .put-bytes .ensures)
+
+pub put-name-spec : {M : Type 1} → statement M
+put-name-spec =
+    tie.close
+    (tie.spec
+    is-long-requires
+    put-long-name-requires
+    same-length
+    returns
+    shared-slice-read-kind-key
+    kind-key-requires
+    cast-t8
+    cast-t16
+    cast-t18
+    shared-slice-read-t20
+    add-t21
+    shared-slice-read-t23
+    add-t24
+    slice-aggregate-put-bytes
+    put-bytes-requires
+    same-length-2
+    returns-2)
