@@ -4,10 +4,10 @@ use Prim.Native.Nat.{ℕ, zero, suc, _+_, _≤_, _<_}
 use native.Mathlib.Omega.{arith}
 use mathlib.Core.Path.{_≡_, refl, sym, ap, _∙_}
 use mathlib.Core.List.{List, [], _∷_}
-use mathlib.Core.Bool.{Bool, true, false}
+use mathlib.Core.Bool.{Bool, true, false, true≢false}
 use lib.ListN.{length, getD}
 use lib.Dec.{eqb, leb, ltb}
-use borrow.Author.Tests.{ne-eqb, eqb-true, ltb-true, ltb-false}
+use borrow.Author.Tests.{ne-eqb, eqb-true, eqb-false, ltb-true, ltb-false}
 use Rattle.lists.specs.Pick.{pick}
 use Rattle.lists.proofs.Laws.{by-pick, drop-step, pick-both}
 use Rattle.text.specs.Text.{cursor, onPlace, onNumber, isBlank, isText, isDigit, prefixFrom, spanAt, standsAt, tagAt, textAt, breakAt, tailEnd, tailAt, lineEndAt, blanksAt, numberAt, digitsAt}
@@ -16,7 +16,7 @@ use Rattle.text.specs.declared.Place.{Place}
 use Rattle.text.specs.declared.Place.the-variants.{Past, Absent}
 use Rattle.text.specs.declared.Number.{Number}
 use Rattle.text.specs.declared.Number.the-variants.{Value, NoDigit, TooLarge}
-use Rattle.text.proofs.Laws.{span-end, span-on, span-off, digit-bounds, stands-fits, tag-back}
+use Rattle.text.proofs.Laws.{span-end, span-on, span-off, digit-bounds, stands-fits, stands-short, stands-off, tag-back}
 use Rattle.text.proofs.Answers.{OnNumber, value, noDigit, tooLarge, by-number, by-past}
 use Rattle.spell.specs.Spell.{onSpelled, firstOf}
 use Rattle.spell.specs.Tables.{spelling, files, numerals, specials}
@@ -28,8 +28,8 @@ use Rattle.jkf.specs.declared.Target.{Target}
 use Rattle.jkf.specs.declared.Target.the-variants.{Same, Square}
 use Rattle.jkf.specs.declared.Time.the-variants.{Untimed}
 use Rattle.jkf.specs.declared.Entry.{Entry}
-use Rattle.moves.specs.Moves.{sameWord, colon, onClocked, onWhat, onMoveLine, timing, squareAt, moveToAt, pieceAt, moveAt, whatAt, figureAt, hmsAt, msAt, clockAt, spacedAt, clocksAt, timeAt, colorOf, finished, moveLineAt}
-use Rattle.moves.specs.Endings.{endingAt, moveLineEndAt}
+use Rattle.moves.specs.Moves.{sameWord, colon, onClocked, onWhat, onMoveLine, timing, squareAt, moveToAt, pieceAt, moveAt, whatAt, figureAt, hmsAt, msAt, clockAt, spacedAt, clocksAt, timeAt, colorOf, finished, moveLineAt, keptAt, commentLineAt}
+use Rattle.moves.specs.Endings.{endingAt, moveLineEndAt, beginsComment}
 use Rattle.moves.specs.declared.Aim.the-variants.{To, NoAim}
 use Rattle.moves.specs.declared.Clocked.{Clocked}
 use Rattle.moves.specs.declared.Clocked.the-variants.{Shows, NoClock}
@@ -38,6 +38,7 @@ use Rattle.moves.specs.declared.What.{What}
 use Rattle.moves.specs.declared.What.the-variants.{Is, Nothing}
 use Rattle.moves.specs.declared.MoveLine.{MoveLine}
 use Rattle.moves.specs.declared.MoveLine.the-variants.{Numbered, NoLine}
+use Rattle.moves.specs.declared.Remark.the-variants.{NoRemark}
 use Rattle.moves.proofs.Answers.{OnClocked, shows, noClock, by-clocked}
 
 -- ---- a special or a move
@@ -262,3 +263,25 @@ line-none s at q = go (moveLineAt s at) q
     go : (r : MoveLine) → onMoveLine r (λ n e c. Past c) Absent ≡ Absent → r ≡ NoLine
     go (Numbered n e d) q = let z : _≡_ {A = ℕ} 0 1 = cc in absurd (omega arith)
     go NoLine q = refl
+
+-- ---- a comment
+
+module _ (s : List ℕ) (at : ℕ) where
+  -- another byte stands here, or none
+  no-tag : (b : ℕ) → (getD s at 0 ≡ b → ⊥) → tagAt (b ∷ []) s at ≡ Absent
+  unfolding tagAt
+  no-tag b g = go (ltb at (length s)) refl
+    where
+      go : (u : Bool) → ltb at (length s) ≡ u → pick (standsAt (b ∷ []) s at) (Past (cursor (at + 1))) Absent ≡ Absent
+      go true p = rw (stands-off (b ∷ []) s 0 at (omega arith) (ltb-true _ _ p) g)
+      go false p = rw (stands-short (b ∷ []) s 0 at (omega arith) (ltb-false _ _ p))
+
+  -- where none begins, none stands
+  pub no-comment : beginsComment s at ≡ false → commentLineAt s at ≡ NoRemark
+  unfolding beginsComment commentLineAt keptAt
+  no-comment = go (eqb (getD s at 0) 42) (eqb (getD s at 0) 38) refl refl
+    where
+      go : (u v : Bool) → eqb (getD s at 0) 42 ≡ u → eqb (getD s at 0) 38 ≡ v → pick (eqb (getD s at 0) 42) true (eqb (getD s at 0) 38) ≡ false → commentLineAt s at ≡ NoRemark
+      go true v p q h = absurd (true≢false (rw p at h))
+      go false true p q h = absurd (true≢false (rw (p, q) at h))
+      go false false p q h = rw (no-tag 42 (eqb-false _ _ p), no-tag 38 (eqb-false _ _ q))

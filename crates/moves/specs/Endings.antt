@@ -1,7 +1,11 @@
--- Parts of a move line: a special alone, what stands after the number, and where the line ends.
+-- Parts of a move line: a special alone, what stands after the number, and where the line ends; and what begins a comment.
 -- Assumes nothing: these are definitions.
 use Prim.Native.Nat.{ℕ}
 use mathlib.Core.List.{List}
+use mathlib.Core.Bool.{Bool, true}
+use lib.ListN.{getD}
+use lib.Dec.{eqb}
+use Rattle.lists.specs.Pick.{pick}
 use Rattle.text.specs.Text.{onPlace, blanksAt, lineEndAt}
 use Rattle.text.specs.declared.Place.{Place}
 use Rattle.text.specs.declared.Place.the-variants.{Past, Absent}
@@ -32,3 +36,7 @@ playedLine n s at =
 -- The place past a move line.
 unfoldable pub moveLineEndAt : List ℕ → ℕ → Place
 moveLineEndAt s at = onMoveLine (moveLineAt s at) (λ n e c. Past c) Absent
+
+-- A * or a &.
+unfoldable pub beginsComment : List ℕ → ℕ → Bool
+beginsComment s at = pick (eqb (getD s at 0) 42) true (eqb (getD s at 0) 38)

@@ -11,6 +11,7 @@ use jkf::Origin;
 use jkf::Target;
 use jkf::Time;
 use plays::what;
+pub use remarks::begins_comment;
 pub use remarks::comment_line;
 pub use remarks::skip_line;
 use text::Cursor;

@@ -3,7 +3,19 @@ use crate::Remark;
 use text::Cursor;
 use text::Place;
 ghost use mathlib.Core.Path.{_≡_};
+ghost use Rattle.moves.specs.Endings.{beginsComment};
 ghost use Rattle.moves.specs.Moves.{remarkFrom, keptAt, commentLineAt, beginsMove, skipLineAt};
+
+// Whether a comment begins at a place, so that most are not looked for.
+pub fn begins_comment(s: &[u8], at: usize) -> bool
+    ensures { λ r. ⌜ r ≡ beginsComment (now (s .entry)) at ⌝ }
+{
+    let b = lent::peek(s, at);
+    if b == b'*' {
+        return true;
+    }
+    b == b'&'
+}
 
 // A text that begins at one place and has its tail and break from another on.
 fn remark_from(from: Cursor, c: Cursor, s: &[u8]) -> Remark

@@ -17,6 +17,9 @@ pub(crate) fn count_comments(c: Cursor, s: &[u8]) -> Remarks
     let mut bytes = 0;
     let mut next = c;
     loop {
+        if !moves::begins_comment(s, next.at) {
+            return Remarks { count, bytes, next };
+        }
         let Remark::Stands(from, to, past) = moves::comment_line(next, s) else {
             return Remarks { count, bytes, next };
         };

@@ -118,6 +118,9 @@ fn fill_comments(s: &[u8], w: Walk, out: &mut [u8]) -> Walk
 {
     let mut v = w;
     loop {
+        if !moves::begins_comment(s, v.next.at) {
+            return v;
+        }
         let Remark::Stands(from, to, next) = moves::comment_line(v.next, s) else {
             return v;
         };

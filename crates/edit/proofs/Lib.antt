@@ -1,0 +1,11 @@
+pub mod Rests
+pub mod Belonging
+pub mod Copied
+pub mod Headers
+pub mod Played
+pub mod Leading
+pub mod Nearing
+pub mod Placing
+pub mod Keeping
+pub mod Undoing
+pub mod Cutting

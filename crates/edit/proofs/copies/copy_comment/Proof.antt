@@ -1,0 +1,58 @@
+-- The row and the bytes are stored at their ends.
+-- Assumes nothing.
+use native.Mathlib.Omega.{arith}
+use Rattle.edit.proofs.Copied.{comment-long, comment-copied}
+use borrow.Author.Needs.{needs}
+use Rattle.edit.proofs.copies.copy_comment.Statement.{statement}
+use Rattle.edit.proofs.copies.copy_comment.Tie as tie
+
+cast-t12 : tie.Need-cast-t12
+cast-t12 c = search needs
+
+cast-t15 : tie.Need-cast-t15
+cast-t15 c = search needs
+
+cast-t17 : tie.Need-cast-t17
+cast-t17 c = search needs
+
+cast-t20 : tie.Need-cast-t20
+cast-t20 c = search needs
+
+slice-aggregate-put-at : tie.Need-slice-aggregate-put-at
+slice-aggregate-put-at c = search needs
+
+put-at-requires : tie.Need-put-at-requires
+put-at-requires c κs = search needs
+
+put-at-requires-2 : tie.Need-put-at-requires-2
+put-at-requires-2 c κs = search needs
+
+add-t11 : tie.Need-add-t11
+add-t11 c = search needs
+
+add-t13 : tie.Need-add-t13
+add-t13 c = omega (arith, c .before .before .before .before .before .before .before .before .before .before .before .before .before .before .before .before .pre .bytes, comment-long (c .before .before .before .before .before .before .before .before .before .before .before .before .before .before .before .before .args .c .now))
+
+same-length : tie.Need-same-length
+same-length c = search needs
+
+returns : tie.Need-returns
+returns c =
+    let a = c .before .before .before .before .before .before .before .before .before .before .before .before .before .before .before .before .args in
+    comment-copied (a .c .now) (a .w .next) (a .w) (c .before .before .before .before .before .before .before .before .before .before .before .before .before .before .before .before .pre) (c .before .before .before .before .before .before .before .before .before .put-at .ensures) (c .before .before .before .before .before .put-at2 .ensures)
+
+pub copy-comment-spec : {M : Type 1} → statement M
+copy-comment-spec =
+    tie.close
+    (tie.spec
+    cast-t12
+    cast-t15
+    cast-t17
+    cast-t20
+    slice-aggregate-put-at
+    put-at-requires
+    put-at-requires-2
+    add-t11
+    add-t13
+    same-length
+    returns)

@@ -1,0 +1,135 @@
+-- Putting a variation into a record, and cutting one out.                                             (01, Put-in and cut)
+-- Assumes nothing: these are definitions.
+use Prim.Native.Nat.{ℕ, suc, _+_, _-_}
+use mathlib.Core.List.{List, [], _∷_, _++_, map}
+use mathlib.Core.Bool.{Bool, true, false}
+use lib.ListN.{length, take, drop}
+use lib.Dec.{eqb, leb, ltb}
+use Rattle.lists.specs.Pick.{pick}
+use Rattle.text.specs.Utf8.{wellFormed}
+use Rattle.jkf.specs.declared.Answer.{Answer}
+use Rattle.jkf.specs.declared.Answer.the-variants.{NoSuchPart, NotOneVariation, OutsideLine, EntryTaken, ParentChanges}
+use Rattle.block.specs.Model.{Line, Record}
+use Rattle.block.specs.Attach.{Play, play, playOf, starts, counts, parentIn, attach}
+use Rattle.parser.specs.Plays.{entriesAt, plyAt}
+
+-- ---- the lines afresh
+
+-- The lines of a record without their parents.
+abbrev pub playsIn : List Line → List Play
+playsIn = map (λ l. play (l .start) (l .entries))
+
+-- A record with other lines of play, each hung by the attaching rule: the one step in which both edits end.
+unfoldable pub fresh : Record → List Play → Record
+fresh r ps = record { version = r .version; headers = r .headers; position = r .position; lines = attach ps }
+
+-- An edited record and the second figure of success, or a refusal.
+pub data Edited : Type 0 where
+  edited : Record → ℕ → Edited
+  refused : Answer → Edited
+
+-- ---- put-in: the text
+
+-- One variation: not too long, UTF-8, and to the last byte move lines with their comments, at least one. (01, Numbers of refusal: 11)
+unfoldable pub isVariation : List ℕ → Bool
+isVariation t =
+    pick (ltb 65535 (length t))
+    false
+    (pick (eqb (length (entriesAt t 0 .state)) 0)
+    false
+    (pick (eqb (entriesAt t 0 .at) (length t)) (eqb (wellFormed t) (length t)) false))
+
+-- Its first printed number is the ply that it starts at.
+abbrev pub variationOf : List ℕ → Play
+variationOf t = play (plyAt t 0) (entriesAt t 0 .state)
+
+-- ---- put-in: the place
+
+-- A ply of the line, and not 0.                                                                       (01, Numbers of refusal: 12)
+unfoldable pub isPlyOf : ℕ → ℕ → ℕ → Bool
+isPlyOf start count j = pick (eqb j 0) false (pick (leb start j) (ltb (j - start) count) false)
+
+-- Some line of these hangs on line k and starts at j.                                                 (01, Numbers of refusal: 13)
+unfoldable pub carries : ℕ → ℕ → List Line → Bool
+carries k j [] = false
+carries k j (l ∷ ls) = let r = carries k j ls in pick (eqb (l .parent) k) (pick (eqb (l .start) j) true r) r
+
+-- How many lines stand before the first that starts at or below j.
+unfoldable pub above : ℕ → List Play → ℕ
+above j [] = 0
+above j (p ∷ ps) = let r = above j ps in pick (leb (p .start) j) 0 (suc r)
+
+-- The new line's number: it stands before the first line after line k that starts at or below j, else last.
+abbrev pub placeOf : List Play → ℕ → ℕ → ℕ
+placeOf ps k j = k + 1 + above j (drop (k + 1) ps)
+
+abbrev pub putIn : ℕ → Play → List Play → List Play
+putIn n p ps = take n ps ++ (p ∷ drop n ps)
+
+-- ---- put-in: the other lines
+
+-- A line's number once there is a new line n.
+abbrev pub renumbered : ℕ → ℕ → ℕ
+renumbered n k = pick (leb n k) (k + 1) k
+
+pub data Changed : Type 0 where
+  none : Changed
+  line : ℕ → Changed
+
+-- The first of the old lines, counted from i on, that would hang on another line.                     (01, Numbers of refusal: 14)
+unfoldable pub changedFrom : List Play → ℕ → ℕ → List Line → Changed
+changedFrom ps n i [] = none
+changedFrom ps n i (l ∷ ls) =
+    let r = changedFrom ps n (i + 1) ls in
+    pick (eqb (parentIn ps (renumbered n i)) (renumbered n (l .parent))) r (line i)
+
+abbrev pub onChanged : {A : Type 0} → Changed → (ℕ → A) → A → A
+onChanged (line i) f d = f i
+onChanged none f d = d
+
+-- ---- put-in: the whole                                                                              (01, Numbers of refusal: order)
+
+-- The variation v as line n.
+unfoldable pub insertAt : Record → ℕ → Play → Edited
+insertAt r n v =
+    onChanged (changedFrom (putIn n v (playsIn (r .lines))) n 0 (r .lines))
+    (λ i. refused (ParentChanges i))
+    (edited (fresh r (putIn n v (playsIn (r .lines)))) n)
+
+-- On line k, where its ply is.
+unfoldable pub insertOn : Record → ℕ → Play → Edited
+insertOn r k v =
+    pick (isPlyOf (starts (playsIn (r .lines)) k) (counts (playsIn (r .lines)) k) (v .start))
+    (pick (carries k (v .start) (drop 1 (r .lines)))
+    (refused (EntryTaken k (v .start)))
+    (insertAt r (placeOf (playsIn (r .lines)) k (v .start)) v))
+    (refused (OutsideLine k (v .start)))
+
+unfoldable pub insert : Record → ℕ → List ℕ → Edited
+insert r k t =
+    pick (ltb k (length (r .lines)))
+    (pick (isVariation t) (insertOn r k (variationOf t)) (refused NotOneVariation))
+    (refused (NoSuchPart k))
+
+-- ---- cut
+
+-- How many lines stand before the first that starts below s.
+unfoldable pub notBelow : ℕ → List Play → ℕ
+notBelow s [] = 0
+notBelow s (p ∷ ps) = let r = notBelow s ps in pick (leb s (p .start)) (suc r) 0
+
+-- Line k, and the unbroken run after it whose start is not below its own.
+abbrev pub removedFrom : List Play → ℕ → ℕ
+removedFrom ps k = 1 + notBelow (starts ps k) (drop (k + 1) ps)
+
+abbrev pub without : ℕ → ℕ → List Play → List Play
+without k n ps = take k ps ++ drop (k + n) ps
+
+-- Line 0 cannot be cut.                                                                               (01, Numbers of refusal: 10)
+unfoldable pub remove : Record → ℕ → Edited
+remove r k =
+    pick (eqb k 0)
+    (refused (NoSuchPart k))
+    (pick (ltb k (length (r .lines)))
+    (edited (fresh r (without k (removedFrom (playsIn (r .lines)) k) (playsIn (r .lines)))) (removedFrom (playsIn (r .lines)) k))
+    (refused (NoSuchPart k)))

@@ -1,0 +1,33 @@
+-- What `put_in` and `cut` answer, and what the lent buffer then holds.                                (01, Numbers of refusal)
+-- Assumes nothing: these are definitions.
+use Prim.Native.Nat.{ℕ}
+use mathlib.Core.List.{List, _++_}
+use lib.ListN.{length, drop}
+use lib.Dec.{ltb}
+use Rattle.lists.specs.Pick.{pick}
+use Rattle.jkf.specs.Answers.{Outcome, refuse}
+use Rattle.jkf.specs.declared.Answer.the-variants.{Done, BlockTooLong, BufferShort, NotSound}
+use Rattle.block.specs.Encode.{encode}
+use Rattle.block.specs.Decode.{decode}
+use Rattle.block.specs.Sound.{soundb}
+use Rattle.edit.specs.Edit.{Edited, edited, refused, insert, remove}
+
+-- The block of the edited record stands at the front of the buffer, and nothing past it changes.
+unfoldable pub storedOf : List ℕ → ℕ → List ℕ → Outcome
+storedOf b second o =
+    pick (ltb 65535 (length b))
+    (refuse (BlockTooLong (length b)) o)
+    (pick (ltb (length o) (length b))
+    (refuse (BufferShort (length b)) o)
+    (record { answer = Done (length b) second; buffer = b ++ drop (length b) o }))
+
+unfoldable pub editedOf : Edited → List ℕ → Outcome
+editedOf (edited r second) o = storedOf (encode r) second o
+editedOf (refused a) o = refuse a o
+
+-- Refusal 7, then 10 to 14, then 4 and 5.                                                             (01, Numbers of refusal: order)
+unfoldable pub putInOf : List ℕ → ℕ → List ℕ → List ℕ → Outcome
+putInOf b k t o = let r = editedOf (insert (decode b) k t) o in pick (soundb b) r (refuse NotSound o)
+
+unfoldable pub cutOf : List ℕ → ℕ → List ℕ → Outcome
+cutOf b k o = let r = editedOf (remove (decode b) k) o in pick (soundb b) r (refuse NotSound o)
