@@ -15,18 +15,19 @@ use Rattle.jkf.specs.Attaching.{near, all}
 use Rattle.jkf.proofs.Nears.{near-before, near-last}
 use Rattle.block.specs.Attach.{Play, play, starts, counts, parentIn, allHung}
 use Rattle.parser.proofs.Hung.{Hangs, parent-first, parent-later}
-use Rattle.edit.specs.Edit.{notBelow, removedFrom, without}
+use Rattle.edit.specs.Edit.{notBelow, removedFrom, without, lowered, Kept}
+use Rattle.edit.specs.Splicing.{Lines}
 use Rattle.edit.proofs.Leading.{Runs, notBelow-leads, behind}
-use Rattle.edit.proofs.Nearing.{Cut, cut-part, lowered, Kept, lowered-low, lowered-high, cut-kept, cut-before, cut-apart, cut-after, hang-moved, hung-all}
-use Rattle.edit.proofs.Placing.{Lines, each-hangs, parent-near, in-front, past-front}
+use Rattle.edit.proofs.Nearing.{Cut, cut-part, lowered-low, lowered-high, cut-kept, cut-before, cut-apart, cut-after, hang-moved, hung-all}
+use Rattle.edit.proofs.Placing.{each-hangs, parent-near, in-front, past-front}
 
 -- ---- a list with a run left out
 
 module _ (ps : List Play) (k m : ℕ) (fits : k + m ≤ length ps) where
-  cut-length : length (without k m ps) ≡ length ps - m
+  pub cut-length : length (without k m ps) ≡ length ps - m
   cut-length = omega (arith, length-append (take k ps) (drop (k + m) ps), length-take-le k ps (omega arith), length-drop (k + m) ps)
 
-  cut-list : (d : Play) → Cut (λ i. getD ps i d) (λ i. getD (without k m ps) i d) k m
+  pub cut-list : (d : Play) → Cut (λ i. getD ps i d) (λ i. getD (without k m ps) i d) k m
   cut-list d = record { before = λ i h. in-front ps (drop (k + m) ps) k (omega arith) i d h; after = after }
     where
       after : (i : ℕ) → k ≤ i → getD (without k m ps) i d ≡ getD ps (i + m) d

@@ -21,8 +21,9 @@ use Rattle.block.specs.Attach.{Play, starts, counts, parentIn, attach, allHung}
 use Rattle.block.specs.Formed.{lineOf}
 use Rattle.parser.proofs.Hung.{Hangs, attach-length, attach-line, parent-first, parent-later}
 use Rattle.edit.specs.Edit.{placeOf, putIn, renumbered, none, line, changedFrom}
+use Rattle.edit.specs.Splicing.{Lines}
 use Rattle.edit.proofs.Nearing.{put-kept, renumbered-low, renumbered-high, hang-made, hang-moved, hung-all}
-use Rattle.edit.proofs.Placing.{Lines, each-hangs, parent-near, PutsIn, put-length, put-list, ply-low, ply-within, place-past, place-within, put-starts, put-counts, new-hangs, before-same, after-same}
+use Rattle.edit.proofs.Placing.{each-hangs, parent-near, PutsIn, put-length, put-list, ply-low, ply-within, place-past, place-within, put-starts, put-counts, new-hangs, before-same, after-same}
 
 -- lines of which none has another parent
 unchanged : (ps : List Play) (n : ℕ) (ls : List Line) (i : ℕ)

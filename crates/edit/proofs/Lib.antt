@@ -9,3 +9,12 @@ pub mod Placing
 pub mod Keeping
 pub mod Undoing
 pub mod Cutting
+pub mod Texts
+pub mod Sounds
+pub mod Rowing
+pub mod Measured
+pub mod Spliced
+pub mod Assembled
+pub mod Changing
+pub mod Afresh
+pub mod Outcomes

@@ -18,7 +18,7 @@ use Rattle.jkf.specs.Attaching.{near, onHang, all, first, hungFrom}
 use Rattle.jkf.specs.declared.Hang.{Hang}
 use Rattle.jkf.proofs.Nears.{near-before, near-low, near-last, near-same}
 use Rattle.parser.proofs.Hung.{Hangs, hangs-on}
-use Rattle.edit.specs.Edit.{renumbered}
+use Rattle.edit.specs.Edit.{renumbered, lowered, Kept}
 
 pub near-is : (st : ℕ → ℕ) (s k p : ℕ) → p < k → st p ≤ s → ((j : ℕ) → p < j → j < k → s < st j) → near st s k ≡ p
 unfolding near
@@ -114,13 +114,6 @@ module _ {f f′ : ℕ → ℕ} {n j : ℕ} (put : Put f f′ n j) where
 pub record Cut {A : Type 0} (f f′ : ℕ → A) (k m : ℕ) : Type 0 where
   pub before : (i : ℕ) → i < k → f′ i ≡ f i
   pub after : (i : ℕ) → k ≤ i → f′ i ≡ f (i + m)
-
--- a line's number once they are gone, and the lines that stay
-abbrev pub lowered : ℕ → ℕ → ℕ → ℕ
-lowered k m i = pick (leb k i) (i - m) i
-
-abbrev pub Kept : ℕ → ℕ → ℕ → Type 0
-Kept k m i = k ≤ i → k + m ≤ i
 
 pub lowered-low : (k m i : ℕ) → i < k → lowered k m i ≡ i
 lowered-low k m i h = ap (λ (t : Bool). pick t (i - m) i) (lt-leb k i h)

@@ -1,6 +1,6 @@
 -- Where a variation is put in: line k is the nearest before its place that starts at or below it, the lines between start above it, and the
 -- line after its place starts below it, since one that starts at the same ply would hang on line k already.
---     Lines, PutsIn          what a put-in asks
+--     PutsIn                 what a put-in asks
 --     new-hangs              the new line hangs on line k
 --     before-same            a line before it finds what it found
 --     after-same             a line after it finds what it found, by its new number
@@ -25,14 +25,11 @@ use Rattle.block.specs.Attach.{Play, play, playOf, starts, counts, parentIn, at
 use Rattle.block.specs.Formed.{lineOf}
 use Rattle.parser.proofs.Hung.{Hangs, all-hang, attach-length, attach-line, parent-later}
 use Rattle.edit.specs.Edit.{isPlyOf, carries, above, placeOf, putIn, renumbered}
+use Rattle.edit.specs.Splicing.{Lines}
 use Rattle.edit.proofs.Leading.{Runs, above-leads, behind}
 use Rattle.edit.proofs.Nearing.{near-is, Put, put-part, put-before, put-new, put-after}
 
 -- ---- lines that all hang
-
-pub record Lines (ps : List Play) : Type 0 where
-  pub origin : starts ps 0 ≡ 0
-  pub hung : allHung ps ≡ all
 
 pub each-hangs : (ps : List Play) → Lines ps → (i : ℕ) → 0 < i → i < length ps → Hangs (starts ps) (counts ps) i
 unfolding allHung

@@ -19,6 +19,7 @@ use Rattle.block.specs.Attach.{Play, play, playOf, starts, counts}
 use Rattle.block.specs.Decode.{run, linesIn, startOf, firstEntry, entryCount, notedIn, lineIn, decode}
 use Rattle.block.proofs.Tabling.{length-run, run-add, run-getD}
 use Rattle.edit.specs.Edit.{playsIn, isPlyOf, carries, above, placeOf, notBelow, removedFrom}
+use Rattle.edit.specs.Splicing.{playIn}
 
 -- ---- runs
 
@@ -50,16 +51,12 @@ module _ {X : Type 0} (g : ℕ → X) where
 
 -- ---- the lines of a block
 
--- line k without its parent
-abbrev pub playIn : List ℕ → ℕ → Play
-playIn b k = play (startOf b k) (run (notedIn b) (firstEntry b k) (entryCount b k))
-
 module _ (b : List ℕ) where
-  plays-are : playsIn (decode b .lines) ≡ run (playIn b) 0 (linesIn b)
+  pub plays-are : playsIn (decode b .lines) ≡ run (playIn b) 0 (linesIn b)
   unfolding decode
   plays-are = map-run (lineIn b) (λ (l : Line). play (l .start) (l .entries)) 0 (linesIn b)
 
-  play-is : (k : ℕ) → k < linesIn b → playOf (playsIn (decode b .lines)) k ≡ playIn b k
+  pub play-is : (k : ℕ) → k < linesIn b → playOf (playsIn (decode b .lines)) k ≡ playIn b k
   play-is k h =
       ap (λ (ps : List Play). playOf ps k) plays-are ∙ run-getD (playIn b) (play 0 []) 0 (linesIn b) k h ∙ ap (playIn b) (zero-add k)
 
@@ -73,7 +70,7 @@ module _ (b : List ℕ) where
       → isPlyOf (starts (playsIn (decode b .lines)) k) (counts (playsIn (decode b .lines)) k) j ≡ isPlyOf (startOf b k) (entryCount b k) j
   ply-is k j h = ap₂ (λ (s n : ℕ). isPlyOf s n j) (starts-is k h) (counts-is k h)
 
-  plays-after : (k : ℕ) → k < linesIn b → drop (k + 1) (playsIn (decode b .lines)) ≡ run (playIn b) (k + 1) (linesIn b - (k + 1))
+  pub plays-after : (k : ℕ) → k < linesIn b → drop (k + 1) (playsIn (decode b .lines)) ≡ run (playIn b) (k + 1) (linesIn b - (k + 1))
   plays-after k h = ap (drop (k + 1)) plays-are ∙ drop-run (playIn b) (k + 1) (linesIn b) (omega arith)
 
   module _ (n : ℕ) (e : n ≡ linesIn b) where

@@ -1,6 +1,6 @@
 -- Putting a variation into a record, and cutting one out.                                             (01, Put-in and cut)
 -- Assumes nothing: these are definitions.
-use Prim.Native.Nat.{ℕ, suc, _+_, _-_}
+use Prim.Native.Nat.{ℕ, suc, _+_, _-_, _≤_}
 use mathlib.Core.List.{List, [], _∷_, _++_, map}
 use mathlib.Core.Bool.{Bool, true, false}
 use lib.ListN.{length, take, drop}
@@ -10,7 +10,7 @@ use Rattle.text.specs.Utf8.{wellFormed}
 use Rattle.jkf.specs.declared.Answer.{Answer}
 use Rattle.jkf.specs.declared.Answer.the-variants.{NoSuchPart, NotOneVariation, OutsideLine, EntryTaken, ParentChanges}
 use Rattle.block.specs.Model.{Line, Record}
-use Rattle.block.specs.Attach.{Play, play, playOf, starts, counts, parentIn, attach}
+use Rattle.block.specs.Attach.{Play, play, starts, counts, parentIn, attach}
 use Rattle.parser.specs.Plays.{entriesAt, plyAt}
 
 -- ---- the lines afresh
@@ -124,6 +124,13 @@ removedFrom ps k = 1 + notBelow (starts ps k) (drop (k + 1) ps)
 
 abbrev pub without : ℕ → ℕ → List Play → List Play
 without k n ps = take k ps ++ drop (k + n) ps
+
+-- A line's number once m lines from line k on are gone, and the lines that stay.
+abbrev pub lowered : ℕ → ℕ → ℕ → ℕ
+lowered k m i = pick (leb k i) (i - m) i
+
+abbrev pub Kept : ℕ → ℕ → ℕ → Type 0
+Kept k m i = k ≤ i → k + m ≤ i
 
 -- Line 0 cannot be cut.                                                                               (01, Numbers of refusal: 10)
 unfoldable pub remove : Record → ℕ → Edited

@@ -1,2 +1,3 @@
 pub mod Edit
+pub mod Splicing
 pub mod Editing

@@ -37,7 +37,7 @@ use Rattle.laws.proofs.Heading.{headers-fit, headers-bytes, header-text
 
 -- ---- its bytes
 
-head-bytes : (v t h l m c : ℕ) → Bytes (headBytes v t h l m c)
+pub head-bytes : (v t h l m c : ℕ) → Bytes (headBytes v t h l m c)
 unfolding headBytes
 head-bytes v t h l m c =
     let a : Bytes (75 ∷ 66 ∷ []) = each {b = 75} (omega arith) (bytes-one {b = 66} (omega arith)) in
@@ -87,11 +87,11 @@ well-within s = repeat-keeps (widthStep (charWidth s)) (λ to u. to ≤ length s
         (λ _ e. let n = on-more e in omega (arith, char-within s at))
 
 -- a refusal is not done
-refused : {A : Type 0} (a : Answer) (t m : ℕ) → 0 < figures a .number → a ≡ Done t m → A
+pub refused : {A : Type 0} (a : Answer) (t m : ℕ) → 0 < figures a .number → a ≡ Done t m → A
 unfolding figures
 refused a t m h e = absurd (omega (arith, ap (λ (x : Answer). figures x .number) e))
 
-done-second : (t n t′ m : ℕ) → Done t n ≡ Done t′ m → n ≡ m
+pub done-second : (t n t′ m : ℕ) → Done t n ≡ Done t′ m → n ≡ m
 unfolding figures
 done-second t n t′ m e = ap (λ (x : Answer). figures x .second) e
 

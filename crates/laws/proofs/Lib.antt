@@ -12,3 +12,7 @@ pub mod Breaking
 pub mod Heading
 pub mod Forming
 pub mod Reading
+pub mod Firsts
+pub mod Relining
+pub mod Edited
+pub mod Editing

@@ -106,7 +106,7 @@ pub entries-fit : (s : List ℕ) (at : ℕ) → All (λ (e : Noted). EntryFits (
 entries-fit s = entries-all s (λ (e : Noted). EntryFits (e .what)) (λ at n e c q. line-is (move-line-fits s at) q .entry)
 
 -- an entry that was read, after the slot
-later-kind : (k : ℕ) (e : Entry) → EntryFits e → claim (kindTest (suc k) e)
+pub later-kind : (k : ℕ) (e : Entry) → EntryFits e → claim (kindTest (suc k) e)
 later-kind k (Moved m) (playFits f) = (omega arith, (f .side, (f .some, (f .kind, f .mark))))
 later-kind k (End x t) (endFits _ _) = omega arith
 

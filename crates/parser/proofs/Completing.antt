@@ -3,22 +3,19 @@
 use Prim.Native.Nat.{ℕ, _+_, _*_, _≤_}
 use native.Mathlib.Omega.{arith}
 use mathlib.Core.Path.{_≡_, refl, sym, ap, _∙_, subst}
-use mathlib.Core.List.{List, [], _∷_, _++_}
+use mathlib.Core.List.{List, _++_}
 use lib.ListN.{length, drop, replicate, length-map}
 use Rattle.lent.specs.Regions.{put, puts}
-use Rattle.text.specs.Text.{cursor}
 use Rattle.text.specs.declared.Cursor.{Cursor}
 use Rattle.jkf.specs.Positions.{positionBytes}
 use Rattle.jkf.specs.Attaching.{Hung, all, first}
 use Rattle.jkf.specs.declared.Position.{Position}
-use Rattle.jkf.specs.declared.Answer.{Answer}
 use Rattle.jkf.specs.declared.Answer.the-variants.{Done, NoEntry}
 use Rattle.block.specs.Model.{Header, Noted, Line}
 use Rattle.block.specs.Attach.{Play, attach, allHung}
 use Rattle.block.specs.Encode.{headBytes, blockLength, headerText, entriesOf, commentsOf, commentText, encodeFlat, encode}
-use Rattle.sorted.specs.Sorted.{kept}
 use Rattle.kakinoki.specs.Informations.{headerAt}
-use Rattle.kakinoki.specs.Starts.{headerPlaces, startOf}
+use Rattle.kakinoki.specs.Starts.{startOf}
 use Rattle.parser.specs.Plays.{playsAt}
 use Rattle.parser.specs.Filling.{headersAt, sizesAt, hanging, lineTexts, lineEnds, Headed, HeadersFit, HeaderLines, LinesFit}
 use Rattle.parser.specs.Parse.{Parsed, headersOf, parse, needed, recordOf}
@@ -147,8 +144,8 @@ module _ (s : List ℕ) (p : Position) (c : Cursor) (hs : List ℕ) (z : Sizes) 
   pub reckoned : blockLength (length hs) (z .lines) (z .entries) (z .comments) 0 ≤ 65535
   reckoned = omega (arith, few, lines-are, entries-are, comments-are, size, m .most)
 
-  pub front-fits : (128 ≤ length o) × (blockLength (length hs) (z .lines) (z .entries) (z .comments) 0 ≤ 65535) × (length (positionBytes p) ≡ 100)
-  front-fits = (omega (arith, size, m .room), reckoned, position-long)
+  pub front-fits : (128 ≤ length o) × (n ≤ 65535) × (blockLength (length hs) (z .lines) (z .entries) (z .comments) 0 ≤ 65535) × (length (positionBytes p) ≡ 100)
+  front-fits = (omega (arith, size, m .room), m .most, reckoned, position-long)
 
   pub lines-known : HeaderLines s hs
   lines-known = subst (HeaderLines s) (sym (f .headers)) (header-lines s (f .short))

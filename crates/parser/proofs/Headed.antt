@@ -55,7 +55,7 @@ paired s at from to next e =
 part-long : (s : List ℕ) (a b : ℕ) → a ≤ b → b ≤ length s → length (take (b - a) (drop a s)) ≡ b - a
 part-long s a b h k = length-take-le (b - a) (drop a s) (rw (length-drop a s) (omega arith))
 
-text-long : (x : Header) → length (headerText (x ∷ [])) ≡ length (x .key) + length (x .value)
+pub text-long : (x : Header) → length (headerText (x ∷ [])) ≡ length (x .key) + length (x .value)
 unfolding concat
 text-long x = ap length (append-nil (x .key ++ x .value)) ∙ length-append (x .key) (x .value)
 
@@ -141,14 +141,14 @@ pub heading-start : {hs : List Header} {h : Heads} {o : List ℕ} → HeadersFit
 heading-start f = record { left = left-start (f .room); bytes = refl }
 
 module _ {hs₀ : List Header} {h v : Heads} {o₀ o : List ℕ} where
-  heading-fits : (x : Header) (hs : List Header) → HeadersFit hs₀ h o₀ → Heading hs₀ (x ∷ hs) h v o₀ o → HeadersFit (x ∷ []) v o
+  pub heading-fits : (x : Header) (hs : List Header) → HeadersFit hs₀ h o₀ → Heading hs₀ (x ∷ hs) h v o₀ o → HeadersFit (x ∷ []) v o
   heading-fits x hs f i =
       record {
         bytes = omega (arith, i .bytes, f .bytes, text-more x hs);
         room = left-room (headerTexts (v .bytes) (x ∷ [])) (headerTexts (v .bytes + length (headerText (x ∷ []))) hs) (headers-append (v .bytes) (x ∷ []) hs) (i .left);
       }
 
-  heading-step : {r : Heads} {o′ : List ℕ} (x : Header) (hs : List Header) → Heading hs₀ (x ∷ hs) h v o₀ o → Headed (x ∷ []) v r o o′ → Heading hs₀ hs h r o₀ o′
+  pub heading-step : {r : Heads} {o′ : List ℕ} (x : Header) (hs : List Header) → Heading hs₀ (x ∷ hs) h v o₀ o → Headed (x ∷ []) v r o o′ → Heading hs₀ hs h r o₀ o′
   heading-step {r} {o′} x hs i d =
       record {
         left =
@@ -157,7 +157,7 @@ module _ {hs₀ : List Header} {h v : Heads} {o₀ o : List ℕ} where
         bytes = omega (arith, d .bytes, i .bytes, text-more x hs);
       }
 
-  heading-done : Heading hs₀ [] h v o₀ o → Headed hs₀ h v o₀ o
+  pub heading-done : Heading hs₀ [] h v o₀ o → Headed hs₀ h v o₀ o
   unfolding concat table
   heading-done i = record { filled = left-done (i .left) (refl, (refl, tt)); bytes = omega (arith, i .bytes) }
 
@@ -179,7 +179,7 @@ module _ {hs₀ : List Header} {h v : Heads} {o₀ o : List ℕ} where
 -- ---- one header entry
 
 -- its row is stored where the rows end; its key where the texts end, and its value after the key
-stored-header : (x : Header) (h : Heads) {o o₁ o₂ o₃ : List ℕ} {p q r : ℕ} → Room (length o) (headerEnds h) (headerTexts (h .bytes) (x ∷ []))
+pub stored-header : (x : Header) (h : Heads) {o o₁ o₂ o₃ : List ℕ} {p q r : ℕ} → Room (length o) (headerEnds h) (headerTexts (h .bytes) (x ∷ []))
     → Stored (fitting (headerRow (h .bytes) x) (drop (h .rows) o)) o o₁ (h .rows) p
     → Stored (fitting (x .key) (drop (h .text) o₁)) o₁ o₂ (h .text) q
     → Stored (fitting (x .value) (drop q o₂)) o₂ o₃ q r

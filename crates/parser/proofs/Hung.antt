@@ -129,7 +129,7 @@ hang-later start count parent k z h =
     ap (λ (t : Bool). pick t main later) (ne-eqb k 0 (λ e. omega arith)) ∙ h
 
 -- with no line before it a line has no parent
-no-parent : (s p t n : ℕ) → p ≡ 0 → onHang (hangOn s p t n) (λ p e. p) 0 ≡ 0
+pub no-parent : (s p t n : ℕ) → p ≡ 0 → onHang (hangOn s p t n) (λ p e. p) 0 ≡ 0
 no-parent s p t n e =
     by-pick P (leb t s) (pick (ltb (s - t) n) (On p (s - t)) Nowhere) Nowhere
     (λ _. by-pick P (ltb (s - t) n) (On p (s - t)) Nowhere (λ _. e) (λ _. refl)) (λ _. refl)

@@ -14,21 +14,28 @@ ghost use mathlib.Core.Path.{_≡_};
 ghost use Prim.Native.Nat.{_+_, _*_, _≤_};
 ghost use mathlib.Core.List.{_++_};
 ghost use lib.ListN.{length, replicate};
-ghost use Rattle.lent.specs.Regions.{put};
+ghost use Rattle.lent.specs.Bytes.{fitting};
+ghost use Rattle.lent.specs.Regions.{put, Stored};
 ghost use Rattle.jkf.specs.Positions.{positionBytes};
 ghost use Rattle.block.specs.Encode.{headBytes, blockLength};
 ghost use Rattle.parser.specs.Parse.{parse};
 ghost use Rattle.parser.specs.Read.{Prepared, Measured, headOf, storedOf, filledWith};
 
 // The head of a block: its mark, its version, its length, the four counts, the five offsets, zeros.
-fn put_head(out: &mut [u8], total: usize, headers: usize, z: Sizes)
-    requires { ⌜ (28 ≤ length (now out)) × (blockLength headers (z .lines) (z .entries) (z .comments) 0 ≤ 65535) ⌝ }
-    ensures { λ _. ⌜ now (out .exit) ≡ put (now (out .entry)) 0 (headBytes 1 total headers (z .lines) (z .entries) (z .comments)) ⌝ }
+pub fn put_head(
+    out: &mut [u8],
+    total: u16,
+    headers: u16,
+    lines: u16,
+    entries: u16,
+    comments: u16,
+) -> usize
+    ensures { λ r. ⌜ Stored (fitting (headBytes 1 total headers lines entries comments) (now (out .entry))) (now (out .entry)) (now (out .exit)) 0 r ⌝ }
 {
-    let lines = 128 + 8 * headers;
-    let moves = lines + 8 * z.lines;
-    let comments = moves + 20 * z.entries;
-    let text = comments + 4 * z.comments;
+    let line_place = 128 + 8 * headers as usize;
+    let move_place = line_place + 8 * lines as usize;
+    let comment_place = move_place + 20 * entries as usize;
+    let text_place = comment_place + 4 * comments as usize;
     lent::put_at(
         out,
         0,
@@ -41,36 +48,43 @@ fn put_head(out: &mut [u8], total: usize, headers: usize, z: Sizes)
             (total / 256 % 256) as u8,
             (headers % 256) as u8,
             (headers / 256 % 256) as u8,
-            (z.lines % 256) as u8,
-            (z.lines / 256 % 256) as u8,
-            (z.entries % 256) as u8,
-            (z.entries / 256 % 256) as u8,
-            (z.comments % 256) as u8,
-            (z.comments / 256 % 256) as u8,
-            128,
-            0,
             (lines % 256) as u8,
             (lines / 256 % 256) as u8,
-            (moves % 256) as u8,
-            (moves / 256 % 256) as u8,
+            (entries % 256) as u8,
+            (entries / 256 % 256) as u8,
             (comments % 256) as u8,
             (comments / 256 % 256) as u8,
-            (text % 256) as u8,
-            (text / 256 % 256) as u8,
+            128,
+            0,
+            (line_place % 256) as u8,
+            (line_place / 256 % 256) as u8,
+            (move_place % 256) as u8,
+            (move_place / 256 % 256) as u8,
+            (comment_place % 256) as u8,
+            (comment_place / 256 % 256) as u8,
+            (text_place % 256) as u8,
+            (text_place / 256 % 256) as u8,
             0,
             0,
             0,
             0,
         ],
-    );
+    )
 }
 
 // The head and the position: the first 128 bytes.
 fn put_front(out: &mut [u8], total: usize, headers: usize, z: Sizes, position: Position)
-    requires { ⌜ (128 ≤ length (now out)) × (blockLength headers (z .lines) (z .entries) (z .comments) 0 ≤ 65535) × (length (positionBytes position) ≡ 100) ⌝ }
+    requires { ⌜ (128 ≤ length (now out)) × (total ≤ 65535) × (blockLength headers (z .lines) (z .entries) (z .comments) 0 ≤ 65535) × (length (positionBytes position) ≡ 100) ⌝ }
     ensures { λ _. ⌜ now (out .exit) ≡ put (now (out .entry)) 0 (headOf total headers z position) ⌝ }
 {
-    put_head(out, total, headers, z);
+    put_head(
+        out,
+        total as u16,
+        headers as u16,
+        z.lines as u16,
+        z.entries as u16,
+        z.comments as u16,
+    );
     jkf::put_position(&mut out[28..], position);
 }
 

@@ -7,7 +7,8 @@ use denote.Ref.{now}
 use borrow.Author.Needs.{needs}
 use Rattle.block.specs.Decode.{run, decode}
 use Rattle.edit.specs.Edit.{playsIn, notBelow, removedFrom}
-use Rattle.edit.proofs.Played.{playIn, removed-is, below-leads, leads-on, leads-stop, leads-none}
+use Rattle.edit.specs.Splicing.{playIn}
+use Rattle.edit.proofs.Played.{removed-is, below-leads, leads-on, leads-stop, leads-none}
 use Rattle.edit.proofs.checks.removed_from.Statement.{statement}
 use Rattle.edit.proofs.checks.removed_from.Tie as tie
 

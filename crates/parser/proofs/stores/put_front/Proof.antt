@@ -1,12 +1,28 @@
 -- The position stands after the 28 bytes of the head.
 -- Assumes nothing.
+use native.Mathlib.Omega.{arith}
+use Rattle.lent.proofs.Regions.{stored-all}
+use Rattle.block.specs.Encode.{headBytes}
 use Rattle.block.proofs.Lengths.{head-length}
 use Rattle.parser.proofs.Fronts.{front-put}
-use Rattle.block.specs.Encode.{headBytes}
-use denote.Ref.{now}
 use borrow.Author.Needs.{needs}
 use Rattle.parser.proofs.stores.put_front.Statement.{statement}
 use Rattle.parser.proofs.stores.put_front.Tie as tie
+
+cast-put-head : tie.Need-cast-put-head
+cast-put-head c = search needs
+
+cast-put-head-2 : tie.Need-cast-put-head-2
+cast-put-head-2 c = search needs
+
+cast-put-head-3 : tie.Need-cast-put-head-3
+cast-put-head-3 c = search needs
+
+cast-put-head-4 : tie.Need-cast-put-head-4
+cast-put-head-4 c = search needs
+
+cast-put-head-5 : tie.Need-cast-put-head-5
+cast-put-head-5 c = search needs
 
 put-head-requires : tie.Need-put-head-requires
 put-head-requires c κs = search needs
@@ -27,13 +43,22 @@ same-length : tie.Need-same-length
 same-length c = search needs
 
 returns : tie.Need-returns
-returns c = let a = c .before .before .before .before .before .before .before .before .before .args in
-    front-put (headBytes 1 (a .total) (a .headers) (a .z .lines) (a .z .entries) (a .z .comments)) (a .position) (a .out .now) (head-length 1 (a .total) (a .headers) (a .z .lines) (a .z .entries) (a .z .comments)) (c .before .before .before .before .before .before .before .before .before .pre .0) (c .before .before .before .before .before .before .before .before .before .pre .2) (c .before .before .before .before .before .before .put-head .ensures) (c .before .before .put-position .ensures)
+returns c =
+    let a = c .before .before .before .before .before .before .before .before .before .before .before .before .args in
+    let h = headBytes 1 (a .total) (a .headers) (a .z .lines) (a .z .entries) (a .z .comments) in
+    let long = head-length 1 (a .total) (a .headers) (a .z .lines) (a .z .entries) (a .z .comments) in
+    let o = stored-all {t = h} {o = a .out .now} (omega (arith, long, c .before .before .before .before .before .before .before .before .before .before .before .before .pre .0)) (c .before .before .before .before .before .before .put-head .ensures) in
+    front-put h (a .position) (a .out .now) long (c .before .before .before .before .before .before .before .before .before .before .before .before .pre .0) (c .before .before .before .before .before .before .before .before .before .before .before .before .pre .3) (o .bytes) (c .before .before .put-position .ensures)
 
 pub put-front-spec : {M : Type 1} → statement M
 put-front-spec =
     tie.close
     (tie.spec
+    cast-put-head
+    cast-put-head-2
+    cast-put-head-3
+    cast-put-head-4
+    cast-put-head-5
     put-head-requires
     sub-put-position
     part-put-position-start

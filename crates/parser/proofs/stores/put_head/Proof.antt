@@ -1,89 +1,87 @@
--- The 28 bytes are those of the head, and they fit.
+-- The 28 bytes are those of the head.
 -- Assumes nothing.
-use Rattle.lent.proofs.Regions.{stored-all}
 use Rattle.block.specs.Encode.{headBytes}
-use native.Mathlib.Omega.{arith}
 use borrow.Author.Needs.{needs}
 use Rattle.parser.proofs.stores.put_head.Statement.{statement}
 use Rattle.parser.proofs.stores.put_head.Tie as tie
 
-mul-lines : tie.Need-mul-lines
-mul-lines c = search needs
+mul-line-place : tie.Need-mul-line-place
+mul-line-place c = search needs
 
-add-lines : tie.Need-add-lines
-add-lines c = search needs
+add-line-place : tie.Need-add-line-place
+add-line-place c = search needs
 
-mul-moves : tie.Need-mul-moves
-mul-moves c = search needs
+mul-move-place : tie.Need-mul-move-place
+mul-move-place c = search needs
 
-add-moves : tie.Need-add-moves
-add-moves c = search needs
+add-move-place : tie.Need-add-move-place
+add-move-place c = search needs
 
-mul-comments : tie.Need-mul-comments
-mul-comments c = search needs
+mul-comment-place : tie.Need-mul-comment-place
+mul-comment-place c = search needs
 
-add-comments : tie.Need-add-comments
-add-comments c = search needs
+add-comment-place : tie.Need-add-comment-place
+add-comment-place c = search needs
 
-mul-text : tie.Need-mul-text
-mul-text c = search needs
+mul-text-place : tie.Need-mul-text-place
+mul-text-place c = search needs
 
-add-text : tie.Need-add-text
-add-text c = search needs
-
-cast-t14 : tie.Need-cast-t14
-cast-t14 c = search needs
+add-text-place : tie.Need-add-text-place
+add-text-place c = search needs
 
 cast-t17 : tie.Need-cast-t17
 cast-t17 c = search needs
 
-cast-t19 : tie.Need-cast-t19
-cast-t19 c = search needs
+cast-t20 : tie.Need-cast-t20
+cast-t20 c = search needs
 
 cast-t22 : tie.Need-cast-t22
 cast-t22 c = search needs
 
-cast-t24 : tie.Need-cast-t24
-cast-t24 c = search needs
+cast-t25 : tie.Need-cast-t25
+cast-t25 c = search needs
 
 cast-t27 : tie.Need-cast-t27
 cast-t27 c = search needs
 
-cast-t29 : tie.Need-cast-t29
-cast-t29 c = search needs
+cast-t30 : tie.Need-cast-t30
+cast-t30 c = search needs
 
 cast-t32 : tie.Need-cast-t32
 cast-t32 c = search needs
 
-cast-t34 : tie.Need-cast-t34
-cast-t34 c = search needs
+cast-t35 : tie.Need-cast-t35
+cast-t35 c = search needs
 
 cast-t37 : tie.Need-cast-t37
 cast-t37 c = search needs
 
-cast-t39 : tie.Need-cast-t39
-cast-t39 c = search needs
+cast-t40 : tie.Need-cast-t40
+cast-t40 c = search needs
 
-cast-t42 : tie.Need-cast-t42
-cast-t42 c = search needs
+cast-t41 : tie.Need-cast-t41
+cast-t41 c = search needs
 
-cast-t44 : tie.Need-cast-t44
-cast-t44 c = search needs
+cast-t43 : tie.Need-cast-t43
+cast-t43 c = search needs
 
-cast-t47 : tie.Need-cast-t47
-cast-t47 c = search needs
+cast-t45 : tie.Need-cast-t45
+cast-t45 c = search needs
 
-cast-t49 : tie.Need-cast-t49
-cast-t49 c = search needs
+cast-t48 : tie.Need-cast-t48
+cast-t48 c = search needs
 
-cast-t52 : tie.Need-cast-t52
-cast-t52 c = search needs
+cast-t50 : tie.Need-cast-t50
+cast-t50 c = search needs
 
-cast-t54 : tie.Need-cast-t54
-cast-t54 c = search needs
+cast-t53 : tie.Need-cast-t53
+cast-t53 c = search needs
 
-cast-t57 : tie.Need-cast-t57
-cast-t57 c = search needs
+cast-t55 : tie.Need-cast-t55
+cast-t55 c = search needs
+
+cast-t58 : tie.Need-cast-t58
+cast-t58 c = search needs
 
 slice-aggregate-put-at : tie.Need-slice-aggregate-put-at
 slice-aggregate-put-at c = search needs
@@ -96,38 +94,38 @@ same-length c = search needs
 
 returns : tie.Need-returns
 unfolding headBytes
-returns c = stored-all (omega (arith, c .before .before .before .before .before .before .before .before .before .before .before .before .before .before .before .pre .0)) (c .before .before .put-at .ensures) .bytes
+returns c = c .before .before .put-at .ensures
 
 pub put-head-spec : {M : Type 1} → statement M
 put-head-spec =
     tie.close
     (tie.spec
-    mul-lines
-    add-lines
-    mul-moves
-    add-moves
-    mul-comments
-    add-comments
-    mul-text
-    add-text
-    cast-t14
+    mul-line-place
+    add-line-place
+    mul-move-place
+    add-move-place
+    mul-comment-place
+    add-comment-place
+    mul-text-place
+    add-text-place
     cast-t17
-    cast-t19
+    cast-t20
     cast-t22
-    cast-t24
+    cast-t25
     cast-t27
-    cast-t29
+    cast-t30
     cast-t32
-    cast-t34
+    cast-t35
     cast-t37
-    cast-t39
-    cast-t42
-    cast-t44
-    cast-t47
-    cast-t49
-    cast-t52
-    cast-t54
-    cast-t57
+    cast-t40
+    cast-t41
+    cast-t43
+    cast-t45
+    cast-t48
+    cast-t50
+    cast-t53
+    cast-t55
+    cast-t58
     slice-aggregate-put-at
     put-at-requires
     same-length

@@ -1,0 +1,287 @@
+-- The lines of a sound block: where their entries stand, that they all hang, and that numbers of 16 bits do for them, also with a variation
+-- put in or a run of them cut out.
+--     entries-after                     all entries with some lines replaced
+--     lines-hang, lines-afresh          its lines all hang, and hung afresh they are the same
+--     starts-small, put-fits, cut-fits  numbers of 16 bits, and rows of 18688 bytes
+--     puts-in                           what a put-in asks
+-- Assumes nothing.
+use Prim.Native.Nat.{ℕ, zero, suc, _+_, _-_, _≤_, _<_}
+use native.Mathlib.Nat.{add-zero, zero-add}
+use native.Mathlib.Omega.{arith}
+use native.Mathlib.Decide.{decLt}
+use mathlib.Core.Path.{_≡_, refl, sym, ap, ap₂, _∙_, subst}
+use mathlib.Core.List.{List, [], _∷_, _++_}
+use mathlib.Core.Bool.{true, false}
+use lib.ListN.{length, take, drop}
+use lib.Seq.{take-at}
+use Rattle.jkf.specs.Attaching.{near}
+use Rattle.jkf.proofs.Nears.{near-before, near-same}
+use Rattle.block.specs.Model.{Noted, Line}
+use Rattle.block.specs.Attach.{Play, play, playOf, starts, counts, parentIn, attachFrom, attach, allHung}
+use Rattle.block.specs.Encode.{concat, entriesOf}
+use Rattle.block.specs.Decode.{run, linesIn, movesIn, startOf, firstEntry, entryCount, parentOf, notedIn, lineIn, decode}
+use Rattle.block.specs.Sound.{Sound, sum, entriesBefore}
+use Rattle.block.specs.Formed.{lineOf}
+use Rattle.block.proofs.Sums.{sum-more, sum-rises, sum-within}
+use Rattle.block.proofs.Hanging.{Hung, hang-first, hang-says}
+use Rattle.block.proofs.Tabling.{length-run, run-add, run-all, concat-append}
+use Rattle.parser.specs.Plays.{plyAt}
+use Rattle.parser.specs.Filling.{playEntries}
+use Rattle.parser.proofs.Hung.{Hangs, start-low, attach-length, attach-entries, attach-line, parent-first, parent-later}
+use Rattle.edit.specs.Edit.{playsIn, isVariation, variationOf, isPlyOf, carries, putIn, removedFrom, without}
+use Rattle.edit.specs.Splicing.{linesOf, spliced, linesAfter, Lines, playIn, RowsFit, entriesAfter}
+use Rattle.edit.proofs.Played.{drop-run, plays-are, play-is, starts-is, counts-is}
+use Rattle.edit.proofs.Nearing.{Put, Cut, hang-moved, hung-all}
+use Rattle.edit.proofs.Placing.{PutsIn, put-length, put-list, ply-within}
+use Rattle.edit.proofs.Cutting.{CutsOut, cut-length, cut-list, run-within, lines-after-cut}
+use Rattle.edit.proofs.Texts.{text-small, no-lines, one-variation, lines-entries}
+
+-- numbers that are none of them 0
+sum-some : (f : ℕ → ℕ) (n : ℕ) → ((k : ℕ) → k < n → 1 ≤ f k) → n ≤ sum f n
+unfolding sum
+sum-some f zero h = omega arith
+sum-some f (suc n) h = omega (arith, sum-some f n (λ k l. h k (omega arith)), h n (omega arith))
+
+-- of a run the first k
+take-run : {X : Type 0} (g : ℕ → X) (k n : ℕ) → k ≤ n → take k (run g 0 n) ≡ run g 0 k
+take-run g k n h =
+    let e : n ≡ k + (n - k) = omega arith in
+    ap (λ (m : ℕ). take k (run g 0 m)) e ∙ ap (take k) (run-add g 0 k (n - k)) ∙ take-at (run g 0 k) (run g (0 + k) (n - k)) k (length-run g 0 k)
+
+-- without the parents that they were given, lines are what they were
+module _ (ps : List Play) where
+  back-from : (k : ℕ) (qs : List Play) → playsIn (attachFrom ps k qs) ≡ qs
+  unfolding attachFrom
+  back-from k [] = refl
+  back-from k (q ∷ qs) = ap (λ (l : List Play). q ∷ l) (back-from (k + 1) qs)
+
+  pub plays-back : playsIn (attach ps) ≡ ps
+  unfolding attach
+  plays-back = back-from 0 ps
+
+-- ---- what holds of each line
+
+module _ {A : Type 0} (P : A → Type 0) {f f′ : ℕ → A} where
+  -- holds with one more
+  put-each : {n : ℕ} {v : A} → Put f f′ n v → (all : ℕ) → P v → ((i : ℕ) → i < all → P (f i)) → n ≤ all → (i : ℕ) → i < all + 1 → P (f′ i)
+  put-each {n = n} r all new old fits i h = go (decLt i n) (decLt n i)
+    where
+      go : Dec (i < n) → Dec (n < i) → P (f′ i)
+      go (yes a) d = subst P (sym (r .before i a)) (old i (omega arith))
+      go (no a) (yes d) =
+          let e : i - 1 + 1 ≡ i = omega arith in
+          subst P (sym (r .after (i - 1) (omega arith)) ∙ ap f′ e) (old (i - 1) (omega arith))
+      go (no a) (no d) = let e : n ≡ i = omega arith in subst P (sym (r .new) ∙ ap f′ e) new
+
+  -- and without a run of them
+  cut-each : {k m : ℕ} → Cut f f′ k m → (all : ℕ) → ((i : ℕ) → i < all → P (f i)) → k + m ≤ all → (i : ℕ) → i < all - m → P (f′ i)
+  cut-each {k = k} {m = m} r all old fits i h = go (decLt i k)
+    where
+      go : Dec (i < k) → P (f′ i)
+      go (yes a) = subst P (sym (r .before i a)) (old i (omega arith))
+      go (no a) = subst P (sym (r .after i (omega arith))) (old (i + m) (omega arith))
+
+-- numbers of 16 bits do for a line
+abbrev Small : Play → Type 0
+Small p = (p .start < 65536) × (length (p .entries) < 65536)
+
+rows-fit : (qs : List Play) → Lines qs → length qs ≤ 2336 → ((k : ℕ) → k < length qs → Small (playOf qs k)) → RowsFit qs 18688
+rows-fit qs w l small =
+    record {
+      lines = w;
+      room = omega arith;
+      few = omega arith;
+      begins = λ k h. small k h .0;
+      sizes = λ k h. small k h .1;
+    }
+
+module _ (b : List ℕ) (s : Sound b) where
+  abbrev ps : List Play
+  ps = playsIn (decode b .lines)
+
+  -- ---- where the entries of a line stand
+
+  pub first-is : (k : ℕ) → k < linesIn b → firstEntry b k ≡ entriesBefore b k
+  first-is k h = s .lines k h .0
+
+  pub before-all : entriesBefore b (linesIn b) ≡ movesIn b
+  before-all = s .totals .1 .0
+
+  pub before-rises : (p q : ℕ) → p ≤ q → entriesBefore b p ≤ entriesBefore b q
+  before-rises p q h = sum-rises (λ k. entryCount b k) p q h
+
+  pub before-within : (k : ℕ) → k ≤ linesIn b → entriesBefore b k ≤ movesIn b
+  before-within k h = omega (arith, before-rises k (linesIn b) h, before-all)
+
+  -- ---- all entries
+
+  -- those of n lines from line k on
+  entries-of : (n k : ℕ) → k + n ≤ linesIn b
+      → playEntries (run (playIn b) k n) ≡ run (notedIn b) (entriesBefore b k) (entriesBefore b (k + n) - entriesBefore b k)
+  unfolding concat run
+  entries-of zero k h =
+      let e : 0 ≡ entriesBefore b (k + 0) - entriesBefore b k = omega (arith, ap (entriesBefore b) (add-zero k)) in
+      ap (run (notedIn b) (entriesBefore b k)) e
+  entries-of (suc n) k h =
+      let f = entryCount b k in
+      let e₁ : k + 1 + n ≡ k + suc n = omega arith in
+      let e₂ : entriesBefore b (k + 1) ≡ entriesBefore b k + f = sum-more (λ k. entryCount b k) k in
+      let m = entriesBefore b (k + 1 + n) - entriesBefore b (k + 1) in
+      let e₃ : f + m ≡ entriesBefore b (k + suc n) - entriesBefore b k =
+      omega (arith, e₂, ap (entriesBefore b) e₁, before-rises (k + 1) (k + 1 + n) (omega arith)) in
+      ap₂ (λ (j : ℕ) (l : List Noted). run (notedIn b) j f ++ l) (first-is k (omega arith)) (entries-of n (k + 1) (omega arith))
+      ∙ ap (λ (j : ℕ). run (notedIn b) (entriesBefore b k) f ++ run (notedIn b) j m) e₂
+      ∙ sym (run-add (notedIn b) (entriesBefore b k) f m)
+      ∙ ap (run (notedIn b) (entriesBefore b k)) e₃
+
+  entries-front : (p : ℕ) → p ≤ linesIn b → playEntries (take p ps) ≡ run (notedIn b) 0 (entriesBefore b p)
+  unfolding sum
+  entries-front p h =
+      let e : entriesBefore b (0 + p) - entriesBefore b 0 ≡ entriesBefore b p = omega (arith, ap (entriesBefore b) (zero-add p)) in
+      ap (λ (l : List Play). playEntries (take p l)) (plays-are b)
+      ∙ ap playEntries (take-run (playIn b) p (linesIn b) h)
+      ∙ entries-of p 0 (omega arith)
+      ∙ ap (run (notedIn b) 0) e
+
+  entries-back : (q : ℕ) → q ≤ linesIn b → playEntries (drop q ps) ≡ run (notedIn b) (entriesBefore b q) (movesIn b - entriesBefore b q)
+  entries-back q h =
+      let e : q + (linesIn b - q) ≡ linesIn b = omega arith in
+      ap (λ (l : List Play). playEntries (drop q l)) (plays-are b)
+      ∙ ap playEntries (drop-run (playIn b) q (linesIn b) h)
+      ∙ entries-of (linesIn b - q) q (omega arith)
+      ∙ ap (λ (i : ℕ). run (notedIn b) (entriesBefore b q) (i - entriesBefore b q)) (ap (entriesBefore b) e ∙ before-all)
+
+  pub entries-after : (p q : ℕ) (t : List ℕ) → p ≤ q → q ≤ linesIn b → entriesOf (attach (linesAfter b p q t)) ≡ entriesAfter b p q t
+  entries-after p q t h l =
+      attach-entries (linesAfter b p q t)
+      ∙ concat-append (λ (x : Play). x .entries) (take p ps) (linesOf t ++ drop q ps)
+      ∙ ap₂ _++_ (entries-front p (omega arith))
+      (concat-append (λ (x : Play). x .entries) (linesOf t) (drop q ps) ∙ ap₂ _++_ (lines-entries t) (entries-back q l))
+
+  -- ---- how many lines there are
+
+  -- each has an entry
+  pub lines-few : linesIn b ≤ 2335
+  lines-few =
+      omega (arith, sum-some (λ k. entryCount b k) (linesIn b) (λ k h. s .lines k h .1 .0), before-all, s .totals .1 .1 .1, s .head .1 .0)
+
+  pub plays-long : length ps ≡ linesIn b
+  plays-long = ap length (plays-are b) ∙ length-run (playIn b) 0 (linesIn b)
+
+  -- ---- all lines hang
+
+  main-line : (startOf b 0 ≡ 0) × (parentOf b 0 ≡ 0)
+  main-line = hang-first (startOf b) (entryCount b) (parentOf b) (s .lines 0 (s .totals .0) .1 .1)
+
+  row-hung : (k : ℕ) → 0 < k → k < linesIn b → Hung (startOf b) (entryCount b) (parentOf b) k
+  row-hung k z h = hang-says (startOf b) (entryCount b) (parentOf b) k z (s .lines k h .1 .1)
+
+  row-hangs : (k : ℕ) → 0 < k → k < linesIn b → Hangs (startOf b) (entryCount b) k
+  row-hangs k z h = let r = row-hung k z h in record { from = r .from; within = r .within }
+
+  near-rows : (k : ℕ) → k < linesIn b → near (starts ps) (startOf b k) k ≡ near (startOf b) (startOf b k) k
+  near-rows k h = near-same (starts ps) (startOf b) (startOf b k) k (λ j l. starts-is b j (omega arith))
+
+  line-hangs : (k : ℕ) → 0 < k → k < linesIn b → Hangs (starts ps) (counts ps) k
+  line-hangs k z h =
+      let p = near (startOf b) (startOf b k) k in
+      let l : p < linesIn b = omega (arith, near-before (startOf b) (startOf b k) k z) in
+      hang-moved (startOf b) (entryCount b) (starts ps) (counts ps) k k p (starts-is b k h) (near-rows k h) (starts-is b p l) (counts-is b p l) (row-hangs k z h)
+
+  pub lines-hang : Lines ps
+  unfolding allHung
+  lines-hang =
+      record {
+        origin = starts-is b 0 (s .totals .0) ∙ main-line .0;
+        hung = hung-all (starts ps) (counts ps) (length ps - 1) 1 (λ j z l. line-hangs j z (omega (arith, plays-long, s .totals .0)));
+      }
+
+  -- ---- hung afresh they are the same
+
+  parent-is : (k : ℕ) → k < linesIn b → parentOf b k ≡ parentIn ps k
+  parent-is k h = go (decLt 0 k)
+    where
+      go : Dec (0 < k) → parentOf b k ≡ parentIn ps k
+      go (yes z) =
+          row-hung k z h .on ∙ sym (near-rows k h) ∙ ap (λ (i : ℕ). near (starts ps) i k) (sym (starts-is b k h)) ∙ sym (parent-later ps k (line-hangs k z h))
+      go (no z) =
+          let e : 0 ≡ k = omega arith in
+          subst (λ (i : ℕ). parentOf b i ≡ parentIn ps i) e (main-line .1 ∙ sym (parent-first ps))
+
+  pub lines-afresh : decode b .lines ≡ attach ps
+  lines-afresh = unfold decode in (run-all (lineIn b) _ (linesIn b) (attach ps) (sym (attach-length ps ∙ plays-long)) (λ i h. line i (omega (arith, attach-length ps, plays-long))))
+    where
+      -- a line of play with its parent
+      with : Play → ℕ → Line
+      with p k = record { start = p .start; parent = k; entries = p .entries }
+
+      line : (i : ℕ) → i < linesIn b → lineIn b i ≡ lineOf (attach ps) i
+      line i h = ap₂ with (sym (play-is b i h)) (parent-is i h) ∙ sym (attach-line ps i (omega (arith, plays-long)))
+
+  -- ---- numbers of 16 bits do for them
+
+  pub starts-small : (k : ℕ) → k < linesIn b → starts ps k + counts ps k ≤ 65535
+  starts-small k h =
+      omega (
+        arith,
+        start-low (startOf b) (entryCount b) (main-line .0) (linesIn b - 1) (λ j z l. row-hangs j z (omega arith)) k (omega arith),
+        sum-within (λ k. entryCount b k) k (linesIn b) h,
+        starts-is b k h,
+        counts-is b k h,
+        before-all,
+        s .totals .1 .1 .1,
+        s .head .1 .0,
+      )
+
+  each-small : (k : ℕ) → k < linesIn b → Small (playOf ps k)
+  each-small k h = let l = starts-small k h in (omega arith, omega arith)
+
+  -- with a variation put in
+  pub put-fits : (n : ℕ) → n ≤ linesIn b → (t : List ℕ) → isVariation t ≡ true → plyAt t 0 < 65536 → Lines (putIn n (variationOf t) ps)
+      → RowsFit (linesAfter b n n t) 18688
+  put-fits n h t v j w =
+      let (short, e) = one-variation t v in
+      subst (λ (vs : List Play). RowsFit (spliced n n vs ps) 18688) (sym e) (rows-fit (putIn n (variationOf t) ps) w (omega (arith, long, lines-few)) (each short))
+    where
+      fits : n ≤ length ps
+      fits = omega (arith, plays-long)
+
+      long : length (putIn n (variationOf t) ps) ≡ linesIn b + 1
+      long = omega (arith, put-length ps n (variationOf t) fits, plays-long)
+
+      each : length t ≤ 65535 → (k : ℕ) → k < length (putIn n (variationOf t) ps) → Small (playOf (putIn n (variationOf t) ps) k)
+      each short k l =
+          let (few, _, _) = text-small t short in
+          put-each Small (put-list ps n (variationOf t) fits (play 0 [])) (linesIn b) (j, omega arith) each-small h k (omega (arith, long))
+
+  -- with what hangs from line k cut out
+  pub cut-fits : (k : ℕ) → 0 < k → k < linesIn b → RowsFit (linesAfter b k (k + removedFrom ps k) []) 18688
+  cut-fits k z h =
+      subst (λ (vs : List Play). RowsFit (spliced k (k + removedFrom ps k) vs ps) 18688) (sym no-lines)
+      (rows-fit (without k (removedFrom ps k) ps) (lines-after-cut ps k ok) (omega (arith, long, plays-long, lines-few)) each)
+    where
+      ok : CutsOut ps k
+      ok = record { lines = lines-hang; later = z; line = omega (arith, plays-long) }
+
+      long : length (without k (removedFrom ps k) ps) ≡ length ps - removedFrom ps k
+      long = cut-length ps k (removedFrom ps k) (run-within ps k ok)
+
+      each : (i : ℕ) → i < length (without k (removedFrom ps k) ps) → Small (playOf (without k (removedFrom ps k) ps) i)
+      each i l =
+          cut-each Small (cut-list ps k (removedFrom ps k) (run-within ps k ok) (play 0 [])) (length ps)
+          (λ q m. each-small q (omega (arith, plays-long))) (run-within ps k ok) i (omega (arith, long))
+
+  -- ---- what put-in asks
+
+  pub puts-in : (k j : ℕ) → k < linesIn b → isPlyOf (starts ps k) (counts ps k) j ≡ true → carries k j (drop 1 (decode b .lines)) ≡ false
+      → PutsIn ps k j × (j < 65536)
+  puts-in k j h ply free = (ok, omega (arith, ply-within ps k j ok, starts-small k h))
+    where
+      ok : PutsIn ps k j
+      ok =
+          record {
+            lines = lines-hang;
+            line = omega (arith, plays-long);
+            ply = ply;
+            free = subst (λ (ls : List Line). carries k j (drop 1 ls) ≡ false) lines-afresh free;
+          }

@@ -1,0 +1,64 @@
+-- Two tests in their order.
+-- Assumes nothing.
+use native.Mathlib.Omega.{arith}
+use mathlib.Core.Path.{refl, sym, _∙_}
+use denote.Ref.{now}
+use borrow.Author.Needs.{needs}
+use borrow.Author.Tests.{not-true, not-false}
+use Rattle.edit.proofs.Afresh.{entries-are, end-is}
+use Rattle.edit.proofs.Outcomes.{told, insert-past, no-variation, variation}
+use Rattle.edit.proofs.insert.Statement.{statement}
+use Rattle.edit.proofs.insert.Tie as tie
+
+lines-in-requires : tie.Need-lines-in-requires
+lines-in-requires c κs = search needs
+
+returns : tie.Need-returns
+returns c =
+    let a = c .before .before .before .before .before .args in
+    told (insert-past (now (a .b)) (a .line) (now (a .out)) (now (a .t)) (omega (arith, c .if1 .taken, c .before .lines-in .ensures .0))) (refl, refl)
+
+count-moves-requires : tie.Need-count-moves-requires
+count-moves-requires c κs = search needs
+
+is-variation-requires : tie.Need-is-variation-requires
+is-variation-requires c κs =
+    let t = now (c .before .before .before .before .before .before .args .t) in
+    let e = c .count-moves .ensures in
+    (entries-are t e, end-is t e)
+
+returns-2 : tie.Need-returns-2
+returns-2 c =
+    let a = c .before .before .before .before .before .before .before .before .args in
+    told
+    (no-variation (now (a .b)) (a .line) (now (a .out)) (now (a .t)) (omega (arith, c .before .before .before .if1 .left, c .before .before .before .before .lines-in .ensures .0))
+    (sym (c .before .is-variation .ensures) ∙ not-true _ (c .if2 .taken)))
+    (refl, refl)
+
+insert-on-requires : tie.Need-insert-on-requires
+insert-on-requires c κs =
+    (c .before .before .before .before .before .before .before .before .before .pre, omega (arith, c .before .before .before .before .if1 .left, c .before .before .before .before .before .lines-in .ensures .0), sym (c .before .before .is-variation .ensures) ∙ not-false _ (c .before .if2 .left), c .before .before .before .count-moves .ensures)
+
+same-length : tie.Need-same-length
+same-length c = search needs
+
+returns-3 : tie.Need-returns-3
+returns-3 c =
+    let a = c .before .before .before .before .before .before .before .before .before .before .before .before .args in
+    told
+    (variation (now (a .b)) (a .line) (now (a .out)) (now (a .t)) (omega (arith, c .before .before .before .before .before .before .before .if1 .left, c .before .before .before .before .before .before .before .before .lines-in .ensures .0))
+    (sym (c .before .before .before .before .before .is-variation .ensures) ∙ not-false _ (c .before .before .before .before .if2 .left)))
+    (c .before .before .insert-on .ensures)
+
+pub insert-spec : {M : Type 1} → statement M
+insert-spec =
+    tie.close
+    (tie.spec
+    lines-in-requires
+    returns
+    count-moves-requires
+    is-variation-requires
+    returns-2
+    insert-on-requires
+    same-length
+    returns-3)

@@ -1,0 +1,27 @@
+-- The line that the attaching rule finds, and 0 where it finds none.
+-- Assumes nothing.
+use Prim.Native.Nat.{ℕ}
+use mathlib.Core.Path.{sym, ap, _∙_}
+use Rattle.jkf.specs.Attaching.{onHang}
+use Rattle.jkf.specs.declared.Hang.{Hang}
+use borrow.Author.Needs.{needs}
+use Rattle.edit.proofs.rows.parent_in.Statement.{statement}
+use Rattle.edit.proofs.rows.parent_in.Tie as tie
+
+attach-requires : tie.Need-attach-requires
+attach-requires c κs = search needs
+
+enum-known-parent : tie.Need-enum-known-parent
+enum-known-parent c = search needs
+
+enum-told : tie.Need-enum-told
+enum-told c = search needs
+
+returns : tie.Need-returns
+returns c = λ l. sym (ap (λ (r : Hang). onHang {A = ℕ} r (λ p e. p) 0) (sym (c .before .before .attach .ensures l) ∙ c .enum-told .given .1))
+
+returns-2 : tie.Need-returns-2
+returns-2 c = λ l. sym (ap (λ (r : Hang). onHang {A = ℕ} r (λ p e. p) 0) (sym (c .before .before .before .attach .ensures l) ∙ c .before .parent .given .1))
+
+pub parent-in-spec : {M : Type 1} → statement M
+parent-in-spec = tie.close (tie.spec attach-requires enum-known-parent enum-told returns returns-2)

@@ -1,0 +1,222 @@
+-- What follows from the answer of an edit that is done: the block that was given is sound, what was asked can be done, and the block of the
+-- edited record, which is well formed, stands at the front of the buffer.
+--     put-done, cut-done   so for put-in and cut
+--     parent-kept          put-in never refuses for a parent
+-- Assumes nothing.
+use Prim.Native.Nat.{ℕ, _+_, _≤_, _<_}
+use native.Mathlib.Omega.{arith}
+use mathlib.Core.Path.{_≡_, refl, sym, ap, _∙_, subst}
+use mathlib.Core.List.{List}
+use mathlib.Core.Bool.{true}
+use lib.ListN.{length, take, drop}
+use lib.Seq.{take-at}
+use lib.Dec.{eqb, ltb}
+use borrow.Author.Tests.{eqb-false, ltb-true, ltb-false}
+use Rattle.lists.proofs.Laws.{by-pick}
+use Rattle.jkf.specs.declared.Answer.{Answer}
+use Rattle.jkf.specs.declared.Answer.the-variants.{Done, BlockTooLong, BufferShort, NotSound, ParentChanges}
+use Rattle.jkf.specs.Answers.{figures, Outcome, refuse}
+use Rattle.block.specs.Model.{Line, Record}
+use Rattle.block.specs.Attach.{Play, starts, counts}
+use Rattle.block.specs.Encode.{encode}
+use Rattle.block.specs.Decode.{decode, linesIn, lineIn}
+use Rattle.block.specs.Sound.{soundb, Sound}
+use Rattle.block.specs.Formed.{Formed}
+use Rattle.block.proofs.Deciding.{sound-says}
+use Rattle.block.proofs.Tabling.{length-run}
+use Rattle.parser.specs.Plays.{plyAt}
+use Rattle.edit.specs.Edit.{Edited, edited, refused, Changed, none, onChanged, playsIn, fresh, isVariation, variationOf, isPlyOf, carries, placeOf, putIn, changedFrom, insertAt, insertOn, insert, removedFrom, without, remove}
+use Rattle.edit.specs.Editing.{storedOf, editedOf, putInOf, cutOf}
+use Rattle.edit.proofs.Placing.{PutsIn, place-past}
+use Rattle.edit.proofs.Keeping.{still-lines, no-parent-changes}
+use Rattle.edit.proofs.Cutting.{CutsOut, lines-after-cut}
+use Rattle.edit.proofs.Sounds.{lines-hang, lines-afresh, plays-long, puts-in}
+use Rattle.parser.proofs.Alls.{next}
+use Rattle.laws.proofs.Parts.{Bytes}
+use Rattle.laws.proofs.Forming.{refused as not-done, done-second}
+use Rattle.laws.proofs.Firsts.{led-take, led-drop, led-append}
+use Rattle.laws.proofs.Relining.{Standing, relined-formed, block-lines, text-line}
+
+-- ---- an edit
+
+-- it makes this record, with this second figure, of what it was asked for; or refuses, by a number that is neither 0 nor 14
+data Makes (r : Record) (second : ℕ) (Asked : Type 0) : Edited → Type 0 where
+  makes : {x : Record} {n : ℕ} → x ≡ r → n ≡ second → Asked → Makes r second Asked (edited x n)
+  refuses : {a : Answer} → 0 < figures a .number → figures a .number < 14 → Makes r second Asked (refused a)
+
+-- ---- what is stored
+
+module _ (b : List ℕ) (second : ℕ) (o : List ℕ) where
+  -- where it is done, it stands at the front
+  abbrev Fronted : Outcome → Type 0
+  Fronted x = (n m : ℕ) → x .answer ≡ Done n m → (take n (x .buffer) ≡ b) × (length b ≤ 65535) × (m ≡ second)
+
+  stored-done : Fronted (storedOf b second o)
+  unfolding storedOf figures
+  stored-done =
+      by-pick Fronted (ltb 65535 (length b)) _ _ (λ _ n m e. not-done (BlockTooLong (length b)) n m (omega arith) e)
+      (λ l. by-pick Fronted (ltb (length o) (length b)) _ _ (λ _ n m e. not-done (BufferShort (length b)) n m (omega arith) e)
+      (λ _ n m e. (
+        take-at b (drop (length b) o) n (ap (λ (x : Answer). figures x .first) e),
+        ltb-false 65535 (length b) l,
+        sym (done-second _ _ n m e),
+      )))
+
+  -- and its answer's number is below 14
+  stored-low : figures (storedOf b second o .answer) .number < 14
+  unfolding storedOf figures
+  stored-low =
+      by-pick Low (ltb 65535 (length b)) _ _ (λ _. omega arith) (λ _. by-pick Low (ltb (length o) (length b)) _ _ (λ _. omega arith) (λ _. omega arith))
+    where
+      Low : Outcome → Type 0
+      Low x = figures (x .answer) .number < 14
+
+module _ {r : Record} {second : ℕ} {Asked : Type 0} (o : List ℕ) where
+  edited-done : {e : Edited} → Makes r second Asked e → (n m : ℕ) → editedOf e o .answer ≡ Done n m
+      → Asked × (take n (editedOf e o .buffer) ≡ encode r) × (length (encode r) ≤ 65535) × (m ≡ second)
+  unfolding editedOf
+  edited-done (makes {x} {n = k} p q a) n m e =
+      let (front, short, s) = stored-done (encode x) k o n m e in
+      (a, front ∙ ap encode p, subst (λ (y : Record). length (encode y) ≤ 65535) p short, s ∙ q)
+  edited-done (refuses {a} h l) n m e = not-done a n m h e
+
+  edited-low : {e : Edited} → Makes r second Asked e → figures (editedOf e o .answer) .number < 14
+  unfolding editedOf
+  edited-low (makes {x} {n = k} p q a) = stored-low (encode x) k o
+  edited-low (refuses h l) = l
+
+lines-many : (b : List ℕ) → length (decode b .lines) ≡ linesIn b
+unfolding decode
+lines-many b = length-run (lineIn b) 0 (linesIn b)
+
+-- ---- put-in
+
+module _ (b : List ℕ) (k : ℕ) (t : List ℕ) where
+  abbrev pub putPlace : ℕ
+  putPlace = placeOf (playsIn (decode b .lines)) k (plyAt t 0)
+
+  abbrev pub putLines : List Play
+  putLines = putIn (placeOf (playsIn (decode b .lines)) k (plyAt t 0)) (variationOf t) (playsIn (decode b .lines))
+
+  abbrev Asked : Type 0
+  Asked = PutsIn (playsIn (decode b .lines)) k (plyAt t 0) × (isVariation t ≡ true)
+
+  abbrev Puts : Edited → Type 0
+  Puts = Makes (fresh (decode b) putLines) putPlace Asked
+
+  -- no parent changes, so nothing else is refused
+  insert-makes : Sound b → Puts (insert (decode b) k t)
+  unfolding insert insertOn insertAt figures
+  insert-makes s =
+      by-pick Puts (ltb k (length (decode b .lines))) _ _
+      (λ l. by-pick Puts (isVariation t) _ _
+      (λ v. by-pick Puts (isPlyOf (starts ps k) (counts ps k) (plyAt t 0)) _ _
+      (λ p. by-pick Puts (carries k (plyAt t 0) (drop 1 (decode b .lines))) _ _ (λ _. refuses (omega arith) (omega arith))
+      (λ c. placed (puts-in b s k (plyAt t 0) (omega (arith, lines-many b, ltb-true k (length (decode b .lines)) l)) p c .0) v))
+      (λ _. refuses (omega arith) (omega arith)))
+      (λ _. refuses (omega arith) (omega arith)))
+      (λ _. refuses (omega arith) (omega arith))
+    where
+      ps : List Play
+      ps = playsIn (decode b .lines)
+
+      placed : PutsIn ps k (plyAt t 0) → isVariation t ≡ true
+          → Puts (onChanged (changedFrom putLines putPlace 0 (decode b .lines)) (λ i. refused (ParentChanges i))
+          (edited (fresh (decode b) putLines) putPlace))
+      placed ok v =
+          let e : changedFrom putLines putPlace 0 (decode b .lines) ≡ none =
+          ap (λ (ls : List Line). changedFrom putLines putPlace 0 ls) (lines-afresh b s) ∙ no-parent-changes ps k (variationOf t) ok in
+          subst (λ (c : Changed). Puts (onChanged c (λ i. refused (ParentChanges i)) (edited (fresh (decode b) putLines) putPlace))) (sym e)
+          (makes refl refl (ok, v))
+
+-- what a put-in that is done says, of the block after it and the new line's number
+pub record PutDone (b : List ℕ) (k : ℕ) (t : List ℕ) (after : List ℕ) (i : ℕ) : Type 0 where
+  pub sound : Sound b
+  pub put : PutsIn (playsIn (decode b .lines)) k (plyAt t 0)
+  pub place : i ≡ putPlace b k t
+  pub formed : Formed (fresh (decode b) (putLines b k t))
+  pub front : after ≡ encode (fresh (decode b) (putLines b k t))
+
+pub put-done : (b t o : List ℕ) → Bytes b → Bytes t → (k n i : ℕ) → putInOf b k t o .answer ≡ Done n i
+    → PutDone b k t (take n (putInOf b k t o .buffer)) i
+unfolding putInOf figures
+put-done b t o bs ts k n i =
+    by-pick Says (soundb b) (editedOf (insert (decode b) k t) o) (refuse NotSound o) (λ e. says (sound-says b e)) (λ _ e. not-done NotSound n i (omega arith) e)
+  where
+    Says : Outcome → Type 0
+    Says x = x .answer ≡ Done n i → PutDone b k t (take n (x .buffer)) i
+
+    says : Sound b → Says (editedOf (insert (decode b) k t) o)
+    says s e =
+        let ps = playsIn (decode b .lines) in
+        let ((ok, v), front, short, p) = edited-done o (insert-makes b k t s) n i e in
+        let z : 0 < putPlace b k t = omega (arith, place-past ps k (plyAt t 0) ok) in
+        let old = block-lines b s bs in
+        let stand : Standing (putLines b k t) = led-append (led-take (putPlace b k t) z old) (next (text-line t ts v) (led-drop (putPlace b k t) z old)) in
+        record {
+          sound = s;
+          put = ok;
+          place = p;
+          formed = relined-formed b s bs (putLines b k t) (still-lines ps k (variationOf t) ok) stand short;
+          front = front;
+        }
+
+pub parent-kept : (b t o : List ℕ) (k : ℕ) → figures (putInOf b k t o .answer) .number < 14
+unfolding putInOf figures
+parent-kept b t o k =
+    by-pick Low (soundb b) (editedOf (insert (decode b) k t) o) (refuse NotSound o) (λ e. edited-low o (insert-makes b k t (sound-says b e))) (λ _. omega arith)
+  where
+    Low : Outcome → Type 0
+    Low x = figures (x .answer) .number < 14
+
+-- ---- cut
+
+module _ (b : List ℕ) (k : ℕ) where
+  abbrev pub cutMany : ℕ
+  cutMany = removedFrom (playsIn (decode b .lines)) k
+
+  abbrev pub cutLines : List Play
+  cutLines = without k (removedFrom (playsIn (decode b .lines)) k) (playsIn (decode b .lines))
+
+  abbrev Cuts : Edited → Type 0
+  Cuts = Makes (fresh (decode b) cutLines) cutMany (CutsOut (playsIn (decode b .lines)) k)
+
+  remove-makes : Sound b → Cuts (remove (decode b) k)
+  unfolding remove figures
+  remove-makes s =
+      by-pick Cuts (eqb k 0) _ _ (λ _. refuses (omega arith) (omega arith))
+      (λ z. by-pick Cuts (ltb k (length (decode b .lines))) _ _ (λ l. makes refl refl (ok (eqb-false k 0 z) (ltb-true _ _ l)))
+      (λ _. refuses (omega arith) (omega arith)))
+    where
+      ok : (k ≡ 0 → ⊥) → k < length (decode b .lines) → CutsOut (playsIn (decode b .lines)) k
+      ok z l = record { lines = lines-hang b s; later = omega arith; line = omega (arith, plays-long b s, lines-many b) }
+
+-- what a cut that is done says, of the block after it and the number of lines cut
+pub record CutDone (b : List ℕ) (k : ℕ) (after : List ℕ) (m : ℕ) : Type 0 where
+  pub sound : Sound b
+  pub cut : CutsOut (playsIn (decode b .lines)) k
+  pub many : m ≡ cutMany b k
+  pub formed : Formed (fresh (decode b) (cutLines b k))
+  pub front : after ≡ encode (fresh (decode b) (cutLines b k))
+
+pub cut-done : (b o : List ℕ) → Bytes b → (k n m : ℕ) → cutOf b k o .answer ≡ Done n m → CutDone b k (take n (cutOf b k o .buffer)) m
+unfolding cutOf figures
+cut-done b o bs k n m =
+    by-pick Says (soundb b) (editedOf (remove (decode b) k) o) (refuse NotSound o) (λ e. says (sound-says b e)) (λ _ e. not-done NotSound n m (omega arith) e)
+  where
+    Says : Outcome → Type 0
+    Says x = x .answer ≡ Done n m → CutDone b k (take n (x .buffer)) m
+
+    says : Sound b → Says (editedOf (remove (decode b) k) o)
+    says s e =
+        let (ok, front, short, p) = edited-done o (remove-makes b k s) n m e in
+        let old = block-lines b s bs in
+        let z = ok .later in
+        let stand : Standing (cutLines b k) = led-append (led-take k z old) (led-drop (k + cutMany b k) (omega arith) old) in
+        record {
+          sound = s;
+          cut = ok;
+          many = p;
+          formed = relined-formed b s bs (cutLines b k) (lines-after-cut (playsIn (decode b .lines)) k ok) stand short;
+          front = front;
+        }

@@ -1,0 +1,325 @@
+-- The theorems of put-in and cut. Where a put-in is done with the figures n and i, and a cut with n and m, the first n bytes of the buffer
+-- are a block:
+--     put-sound, cut-sound     it is sound
+--     put-keeps, cut-keeps     each line that was there, and is not cut, is there with its start, its entries and its parent
+--     put-hangs                the new line is line i, of the text's entries, and hangs on line k at the entry that was asked for
+--     cut-takes                what is cut is line k and what hangs from it, and nothing else
+--     put-rest, cut-rest       as many lines as there should be, and headers and position as they were
+--     put-undone               the cut of the line just put in gives the block back
+--     no-parent-refused        put-in never refuses for a parent
+-- (01, Put-in and cut)
+-- Assumes nothing.
+use Prim.Native.Nat.{ℕ, _+_, _-_, _≤_, _<_}
+use native.Mathlib.Nat.{zero-add}
+use native.Mathlib.Omega.{arith}
+use mathlib.Core.Path.{_≡_, sym, ap, ap₂, _∙_, subst}
+use mathlib.Core.List.{List, []}
+use mathlib.Core.Bool.{Bool}
+use lib.ListN.{length, take}
+use lib.Dec.{leb}
+use borrow.Author.Tests.{ne-eqb, lt-ltb, le-leb, leb-true, leb-false}
+use Rattle.lists.specs.Pick.{pick}
+use Rattle.lists.proofs.Laws.{by-pick}
+use Rattle.jkf.specs.declared.Answer.{Answer}
+use Rattle.jkf.specs.declared.Answer.the-variants.{Done, NotSound, ParentChanges}
+use Rattle.jkf.specs.Answers.{figures, Outcome, refuse}
+use Rattle.jkf.specs.Attaching.{hangs}
+use Rattle.jkf.specs.declared.Hang.the-variants.{On}
+use Rattle.jkf.proofs.Nears.{near-same, hangs-made}
+use Rattle.block.specs.Model.{Line, Record}
+use Rattle.block.specs.Attach.{Play, play, playOf, starts, counts, parentIn, attach}
+use Rattle.block.specs.Encode.{encode}
+use Rattle.block.specs.Decode.{decode, linesIn, startOf, entryCount, parentOf, lineIn}
+use Rattle.block.specs.Sound.{Sound}
+use Rattle.block.specs.Formed.{lineOf, Formed}
+use Rattle.block.proofs.Deciding.{sound-answers}
+use Rattle.block.proofs.Tabling.{run-getD}
+use Rattle.parser.specs.Plays.{entriesAt, plyAt}
+use Rattle.parser.proofs.Hung.{attach-length, attach-line}
+use Rattle.edit.specs.Edit.{Edited, edited, playsIn, fresh, variationOf, renumbered, removedFrom, without, lowered, Kept, remove}
+use Rattle.edit.specs.Editing.{storedOf, editedOf, putInOf, cutOf}
+use Rattle.edit.proofs.Played.{starts-is, counts-is}
+use Rattle.edit.proofs.Placing.{put-length, put-list, ply-low, ply-within, place-past, place-within, put-starts, put-counts, new-hangs}
+use Rattle.edit.proofs.Keeping.{kept-after-put, new-parent}
+use Rattle.edit.proofs.Cutting.{HangsFrom as HangsIn, itself as itselfIn, on as onIn, cut-length, run-within, kept-after-cut, run-is-what-hangs}
+use Rattle.edit.proofs.Sounds.{lines-afresh, plays-long, plays-back}
+use Rattle.edit.proofs.Undoing.{cut-undoes}
+use Rattle.laws.proofs.Parts.{Bytes}
+use Rattle.laws.proofs.Fields.{lines-are, start-is, entry-count-is}
+use Rattle.laws.proofs.Decoded.{formed-fits, decode-encode}
+use Rattle.laws.proofs.Encoded.{encode-decode}
+use Rattle.laws.proofs.Made.{sound-encode}
+use Rattle.laws.proofs.Edited.{putPlace, putLines, PutDone, put-done, parent-kept, cutMany, cutLines, CutDone, cut-done}
+
+-- ---- words
+
+-- The first n bytes of the buffer.
+abbrev pub blockIn : ℕ → Outcome → List ℕ
+blockIn n x = take n (x .buffer)
+
+-- A line with this parent.
+abbrev pub withParent : ℕ → Line → Line
+withParent p l = record { start = l .start; parent = p; entries = l .entries }
+
+-- Line l is line k, or its parent hangs from line k.
+pub data HangsFrom (b : List ℕ) (k : ℕ) : ℕ → Type 0 where
+  itself : HangsFrom b k k
+  on : {l : ℕ} → 0 < l → l < linesIn b → HangsFrom b k (parentOf b l) → HangsFrom b k l
+
+-- the lines of a block without their parents
+abbrev playsOf : List ℕ → List Play
+playsOf b = playsIn (decode b .lines)
+
+-- ---- the block of a record with other lines
+
+-- line l is now line r
+line-moved : (ps qs : List Play) (f : ℕ → ℕ) (l r : ℕ) → l < length ps → r < length qs → playOf qs r ≡ playOf ps l → parentIn qs r ≡ f (parentIn ps l)
+    → lineOf (attach qs) r ≡ withParent (f (lineOf (attach ps) l .parent)) (lineOf (attach ps) l)
+line-moved ps qs f l r h h′ e p =
+    attach-line qs r h′
+    ∙ ap₂ (λ (x : Play) (y : ℕ). record { start = x .start; parent = y; entries = x .entries }) e p
+    ∙ sym (ap (λ (x : Line). withParent (f (x .parent)) x) (attach-line ps l h))
+
+module _ (b : List ℕ) (qs : List Play) (c : List ℕ) (g : Formed (fresh (decode b) qs)) (e : c ≡ encode (fresh (decode b) qs)) where
+  relined-sound : Sound c
+  relined-sound = subst Sound (sym e) (sound-encode (fresh (decode b) qs) g)
+
+  relined-is : decode c ≡ fresh (decode b) qs
+  relined-is = ap decode e ∙ decode-encode (fresh (decode b) qs) g
+
+  relined-lines : decode c .lines ≡ attach qs
+  unfolding fresh
+  relined-lines = ap (λ (r : Record). r .lines) relined-is
+
+  relined-many : linesIn c ≡ length qs
+  unfolding fresh
+  relined-many = ap linesIn e ∙ lines-are (fresh (decode b) qs) (formed-fits (fresh (decode b) qs) g) ∙ attach-length qs
+
+  relined-starts : (j : ℕ) → j < length qs → startOf c j ≡ starts qs j
+  unfolding fresh
+  relined-starts j h =
+      ap (λ (x : List ℕ). startOf x j) e
+      ∙ start-is (fresh (decode b) qs) (formed-fits (fresh (decode b) qs) g) j (omega (arith, attach-length qs))
+      ∙ ap (λ (x : Line). x .start) (attach-line qs j h)
+
+  relined-counts : (j : ℕ) → j < length qs → entryCount c j ≡ counts qs j
+  unfolding fresh
+  relined-counts j h =
+      ap (λ (x : List ℕ). entryCount x j) e
+      ∙ entry-count-is (fresh (decode b) qs) (formed-fits (fresh (decode b) qs) g) j (omega (arith, attach-length qs))
+      ∙ ap (λ (x : Line). length (x .entries)) (attach-line qs j h)
+
+  relined-rest : (decode c .headers ≡ decode b .headers) × (decode c .position ≡ decode b .position)
+  unfolding fresh
+  relined-rest = (ap (λ (r : Record). r .headers) relined-is, ap (λ (r : Record). r .position) relined-is)
+
+-- a line that may be cut is cut
+remove-made : (r : Record) (k : ℕ) → 0 < k → k < length (r .lines)
+    → remove r k ≡ edited (fresh r (without k (removedFrom (playsIn (r .lines)) k) (playsIn (r .lines)))) (removedFrom (playsIn (r .lines)) k)
+unfolding remove
+remove-made r k z h = rw (ne-eqb k 0 (λ e. omega arith), lt-ltb k (length (r .lines)) h)
+
+-- ---- put-in
+
+module _ (b t o : List ℕ) (bs : Bytes b) (ts : Bytes t) (k n i : ℕ) (done : putInOf b k t o .answer ≡ Done n i) where
+  puts : PutDone b k t (blockIn n (putInOf b k t o)) i
+  puts = put-done b t o bs ts k n i done
+
+  put-long : length (putLines b k t) ≡ linesIn b + 1
+  put-long = put-length (playsOf b) (putPlace b k t) (variationOf t) (place-within (playsOf b) k (plyAt t 0) (puts .put)) ∙ ap (λ (x : ℕ). x + 1) (plays-long b (puts .sound))
+
+  pub put-sound : Sound (blockIn n (putInOf b k t o))
+  put-sound = relined-sound b (putLines b k t) (blockIn n (putInOf b k t o)) (puts .formed) (puts .front)
+
+  pub put-rest : (linesIn (blockIn n (putInOf b k t o)) ≡ linesIn b + 1)
+      × (decode (blockIn n (putInOf b k t o)) .headers ≡ decode b .headers)
+      × (decode (blockIn n (putInOf b k t o)) .position ≡ decode b .position)
+  put-rest =
+      let c = blockIn n (putInOf b k t o) in
+      let (h, p) = relined-rest b (putLines b k t) c (puts .formed) (puts .front) in
+      (relined-many b (putLines b k t) c (puts .formed) (puts .front) ∙ put-long, h, p)
+
+  pub put-keeps : (l : ℕ) → l < linesIn b
+      → lineOf (decode (blockIn n (putInOf b k t o)) .lines) (renumbered i l)
+      ≡ withParent (renumbered i (lineOf (decode b .lines) l .parent)) (lineOf (decode b .lines) l)
+  put-keeps l h =
+      let c = blockIn n (putInOf b k t o) in
+      let a : l < length (playsOf b) = omega (arith, plays-long b (puts .sound)) in
+      let (e, p) = kept-after-put (playsOf b) k (variationOf t) (puts .put) l (play 0 []) a in
+      subst (λ (x : ℕ). lineOf (decode c .lines) (renumbered x l) ≡ withParent (renumbered x (lineOf (decode b .lines) l .parent)) (lineOf (decode b .lines) l)) (sym (puts .place))
+      (ap (λ (ls : List Line). lineOf ls (renumbered (putPlace b k t) l)) (relined-lines b (putLines b k t) c (puts .formed) (puts .front))
+      ∙ line-moved (playsOf b) (putLines b k t) (renumbered (putPlace b k t)) l (renumbered (putPlace b k t) l) a within e p
+      ∙ sym (ap (λ (ls : List Line). withParent (renumbered (putPlace b k t) (lineOf ls l .parent)) (lineOf ls l)) (lines-afresh b (puts .sound))))
+    where
+      within : renumbered (putPlace b k t) l < length (putLines b k t)
+      within =
+          by-pick (λ (q : ℕ). q < length (putLines b k t)) (leb (putPlace b k t) l) (l + 1) l (λ _. omega (arith, put-long)) (λ _. omega (arith, put-long))
+
+  -- the new line
+  new-line : lineOf (decode (blockIn n (putInOf b k t o)) .lines) (putPlace b k t)
+      ≡ record { start = plyAt t 0; parent = k; entries = entriesAt t 0 .state }
+  new-line =
+      let qs = putLines b k t in
+      let fits = place-within (playsOf b) k (plyAt t 0) (puts .put) in
+      ap (λ (ls : List Line). lineOf ls (putPlace b k t)) (relined-lines b qs (blockIn n (putInOf b k t o)) (puts .formed) (puts .front))
+      ∙ attach-line qs (putPlace b k t) (omega (arith, put-long, plays-long b (puts .sound)))
+      ∙ ap₂ (λ (x : Play) (y : ℕ). record { start = x .start; parent = y; entries = x .entries })
+      (put-list (playsOf b) (putPlace b k t) (variationOf t) fits (play 0 []) .new) (new-parent (playsOf b) k (variationOf t) (puts .put))
+
+  -- where the attaching rule finds that it hangs
+  new-hang : hangs (startOf (blockIn n (putInOf b k t o))) (entryCount (blockIn n (putInOf b k t o))) (plyAt t 0) (putPlace b k t)
+      ≡ On k (plyAt t 0 - startOf b k)
+  new-hang =
+      let v = variationOf t in
+      let past = place-past (playsOf b) k (plyAt t 0) (puts .put) in
+      let e₁ = starts-is b k old in
+      let e₂ = counts-is b k old in
+      hangs-made (startOf c) (entryCount c) (plyAt t 0) (putPlace b k t) k (startOf b k) (entryCount b k)
+      (sym (near-same (startOf c) (starts qs) (plyAt t 0) (putPlace b k t) (λ j l. st j (omega (arith, few))) ∙ new-hangs (playsOf b) k v (puts .put) .0))
+      (sym (st k (omega (arith, few)) ∙ put-starts (playsOf b) k v (puts .put) .before k past ∙ e₁))
+      (sym (ct k (omega (arith, few)) ∙ put-counts (playsOf b) k v (puts .put) .before k past ∙ e₂))
+      ∙ simp (le-leb (startOf b k) (plyAt t 0) (omega (arith, ply-low (playsOf b) k (plyAt t 0) (puts .put))), lt-ltb (plyAt t 0 - startOf b k) (entryCount b k) (omega (arith, ply-within (playsOf b) k (plyAt t 0) (puts .put))))
+    where
+      c : List ℕ
+      c = blockIn n (putInOf b k t o)
+
+      qs : List Play
+      qs = putLines b k t
+
+      old : k < linesIn b
+      old = omega (arith, puts .put .line, plays-long b (puts .sound))
+
+      few : putPlace b k t < length (putLines b k t)
+      few = omega (arith, put-long, place-within (playsOf b) k (plyAt t 0) (puts .put), plays-long b (puts .sound))
+
+      st : (j : ℕ) → j < length qs → startOf c j ≡ starts qs j
+      st = relined-starts b qs c (puts .formed) (puts .front)
+
+      ct : (j : ℕ) → j < length qs → entryCount c j ≡ counts qs j
+      ct = relined-counts b qs c (puts .formed) (puts .front)
+
+  pub put-hangs : (lineOf (decode (blockIn n (putInOf b k t o)) .lines) i ≡ record { start = plyAt t 0; parent = k; entries = entriesAt t 0 .state })
+      × (hangs (startOf (blockIn n (putInOf b k t o))) (entryCount (blockIn n (putInOf b k t o))) (plyAt t 0) i ≡ On k (plyAt t 0 - startOf b k))
+  put-hangs =
+      let c = blockIn n (putInOf b k t o) in (
+        subst (λ (x : ℕ). lineOf (decode c .lines) x ≡ record { start = plyAt t 0; parent = k; entries = entriesAt t 0 .state }) (sym (puts .place)) new-line,
+        subst (λ (x : ℕ). hangs (startOf c) (entryCount c) (plyAt t 0) x ≡ On k (plyAt t 0 - startOf b k)) (sym (puts .place)) new-hang,
+      )
+
+  -- cut, the new line leaves the record that there was
+  taken-back : remove (decode (blockIn n (putInOf b k t o))) (putPlace b k t) ≡ edited (decode b) 1
+  unfolding fresh
+  taken-back =
+      let qs = putLines b k t in
+      let i = putPlace b k t in
+      let r = fresh (decode b) qs in
+      let past = place-past (playsOf b) k (plyAt t 0) (puts .put) in
+      let fits = place-within (playsOf b) k (plyAt t 0) (puts .put) in
+      let (alone, back) = cut-undoes (playsOf b) k (variationOf t) (puts .put) in
+      ap (λ (x : Record). remove x i) (relined-is b qs (blockIn n (putInOf b k t o)) (puts .formed) (puts .front))
+      ∙ remove-made r i (omega arith) (omega (arith, attach-length qs, put-long, plays-long b (puts .sound)))
+      ∙ ap (λ (l : List Play). edited (fresh r (without i (removedFrom l i) l)) (removedFrom l i)) (plays-back qs)
+      ∙ ap (λ (m : ℕ). edited (fresh r (without i m qs)) m) alone
+      ∙ ap (λ (l : List Play). edited (fresh r l) 1) back
+      ∙ ap (λ (ls : List Line). edited (record { version = decode b .version; headers = decode b .headers; position = decode b .position; lines = ls }) 1)
+      (sym (lines-afresh b (puts .sound)))
+
+  pub put-undone : (o′ : List ℕ) → cutOf (blockIn n (putInOf b k t o)) i o′ ≡ storedOf b 1 o′
+  unfolding cutOf editedOf
+  put-undone o′ =
+      let c = blockIn n (putInOf b k t o) in
+      ap (λ (x : Bool). pick x (editedOf (remove (decode c) i) o′) (refuse NotSound o′)) (sound-answers c put-sound)
+      ∙ ap (λ (x : ℕ). editedOf (remove (decode c) x) o′) (puts .place)
+      ∙ ap (λ (x : Edited). editedOf x o′) taken-back
+      ∙ ap (λ (x : List ℕ). storedOf x 1 o′) (encode-decode b (puts .sound) bs)
+
+pub no-parent-refused : (b t o : List ℕ) (k i : ℕ) → putInOf b k t o .answer ≡ ParentChanges i → ⊥
+unfolding figures
+no-parent-refused b t o k i e = omega (arith, ap (λ (x : Answer). figures x .number) e, parent-kept b t o k)
+
+-- ---- cut
+
+module _ (b o : List ℕ) (bs : Bytes b) (k n m : ℕ) (done : cutOf b k o .answer ≡ Done n m) where
+  cuts : CutDone b k (blockIn n (cutOf b k o)) m
+  cuts = cut-done b o bs k n m done
+
+  cut-within : k + cutMany b k ≤ length (playsOf b)
+  cut-within = run-within (playsOf b) k (cuts .cut)
+
+  cut-long : length (cutLines b k) ≡ length (playsOf b) - cutMany b k
+  cut-long = cut-length (playsOf b) k (cutMany b k) cut-within
+
+  -- ---- the lines of the old block
+
+  line-is : (l : ℕ) → l < linesIn b → lineOf (decode b .lines) l ≡ record { start = starts (playsOf b) l; parent = parentIn (playsOf b) l; entries = playOf (playsOf b) l .entries }
+  line-is l h =
+      ap (λ (ls : List Line). lineOf ls l) (lines-afresh b (cuts .sound)) ∙ attach-line (playsOf b) l (omega (arith, plays-long b (cuts .sound)))
+
+  parent-is : (l : ℕ) → l < linesIn b → parentOf b l ≡ parentIn (playsOf b) l
+  unfolding decode
+  parent-is l h =
+      ap (parentOf b) (sym (zero-add l))
+      ∙ sym (ap (λ (x : Line). x .parent) (run-getD (lineIn b) (record { start = 0; parent = 0; entries = [] }) 0 (linesIn b) l h))
+      ∙ ap (λ (x : Line). x .parent) (line-is l h)
+
+  -- ---- the block after it
+
+  pub cut-sound : Sound (blockIn n (cutOf b k o))
+  cut-sound = relined-sound b (cutLines b k) (blockIn n (cutOf b k o)) (cuts .formed) (cuts .front)
+
+  pub cut-rest : (linesIn (blockIn n (cutOf b k o)) + m ≡ linesIn b)
+      × (decode (blockIn n (cutOf b k o)) .headers ≡ decode b .headers)
+      × (decode (blockIn n (cutOf b k o)) .position ≡ decode b .position)
+  cut-rest =
+      let c = blockIn n (cutOf b k o) in
+      let (h, p) = relined-rest b (cutLines b k) c (cuts .formed) (cuts .front) in
+      (omega (arith, relined-many b (cutLines b k) c (cuts .formed) (cuts .front), cut-long, cut-within, cuts .many, plays-long b (cuts .sound)), h, p)
+
+  pub cut-keeps : (l : ℕ) → l < linesIn b → Kept k m l
+      → (lineOf (decode (blockIn n (cutOf b k o)) .lines) (lowered k m l)
+      ≡ withParent (lowered k m (lineOf (decode b .lines) l .parent)) (lineOf (decode b .lines) l))
+      × Kept k m (lineOf (decode b .lines) l .parent)
+  cut-keeps l h =
+      subst (λ (x : ℕ). Kept k x l → (lineOf (decode c .lines) (lowered k x l) ≡ withParent (lowered k x (lineOf (decode b .lines) l .parent)) (lineOf (decode b .lines) l)) × Kept k x (lineOf (decode b .lines) l .parent))
+      (sym (cuts .many)) keeps
+    where
+      c : List ℕ
+      c = blockIn n (cutOf b k o)
+
+      a : l < length (playsOf b)
+      a = omega (arith, plays-long b (cuts .sound))
+
+      low : Kept k (cutMany b k) l → lowered k (cutMany b k) l < length (cutLines b k)
+      low g =
+          by-pick (λ (q : ℕ). q < length (cutLines b k)) (leb k l) (l - cutMany b k) l
+          (λ e. let x = g (leb-true k l e) in omega (arith, cut-long, a))
+          (λ e. omega (arith, cut-long, cut-within, leb-false k l e))
+
+      keeps : Kept k (cutMany b k) l
+          → (lineOf (decode c .lines) (lowered k (cutMany b k) l) ≡ withParent (lowered k (cutMany b k) (lineOf (decode b .lines) l .parent)) (lineOf (decode b .lines) l))
+          × Kept k (cutMany b k) (lineOf (decode b .lines) l .parent)
+      keeps g =
+          let (e, stays, p) = kept-after-cut (playsOf b) k (cuts .cut) l (play 0 []) a g in (
+            ap (λ (ls : List Line). lineOf ls (lowered k (cutMany b k) l)) (relined-lines b (cutLines b k) c (cuts .formed) (cuts .front))
+                ∙ line-moved (playsOf b) (cutLines b k) (lowered k (cutMany b k)) l (lowered k (cutMany b k) l) a (low g) e p
+                ∙ sym (ap (λ (ls : List Line). withParent (lowered k (cutMany b k) (lineOf ls l .parent)) (lineOf ls l)) (lines-afresh b (cuts .sound))),
+            subst (Kept k (cutMany b k)) (sym (ap (λ (x : Line). x .parent) (line-is l h))) stays,
+          )
+
+  -- ---- what is cut
+
+  in-lines : {l : ℕ} → HangsFrom b k l → HangsIn (playsOf b) k l
+  in-lines itself = itselfIn
+  in-lines (on {l} z h r) = onIn z (omega (arith, plays-long b (cuts .sound))) (subst (HangsIn (playsOf b) k) (parent-is l h) (in-lines r))
+
+  in-block : {l : ℕ} → HangsIn (playsOf b) k l → HangsFrom b k l
+  in-block itselfIn = itself
+  in-block (onIn {i = l} z h r) =
+      let a : l < linesIn b = omega (arith, plays-long b (cuts .sound)) in
+      on z a (subst (HangsFrom b k) (sym (parent-is l a)) (in-block r))
+
+  pub cut-takes : (l : ℕ) → (HangsFrom b k l → (k ≤ l) × (l < k + m)) × ((k ≤ l) × (l < k + m) → HangsFrom b k l)
+  cut-takes l =
+      let (a, z) = run-is-what-hangs (playsOf b) k (cuts .cut) l in
+      subst (λ (x : ℕ). (HangsFrom b k l → (k ≤ l) × (l < k + x)) × ((k ≤ l) × (l < k + x) → HangsFrom b k l)) (sym (cuts .many))
+      (λ h. a (in-lines h), λ r. in-block (z r))
