@@ -30,6 +30,28 @@ void kif_read(const uint8_t *text, size_t text_len, uint8_t *out, size_t out_len
  * Success changes only the text's bytes, and a refusal nothing. */
 void kif_write(const uint8_t *block, size_t block_len, uint8_t *out, size_t out_len, uint64_t *number, uint64_t *first, uint64_t *second);
 
+/* Puts the one variation that a text holds, wholly move lines with comments, into a line of a block, at the ply that its first move is
+ * numbered by. The edited block goes into the front of out, which must overlap neither: 0, its length and the new line's number; or, in
+ * this order,
+ *   7, 0, 0               where the slice is not just a sound block;
+ *   10, line, 0           where it has no such line;
+ *   11, 0, 0              where the text is not one variation, is over 65,535 bytes or is not UTF-8;
+ *   12, line, ply         where the ply is 0 or not one of the line's;
+ *   13, line, ply         where a variation hangs there already;
+ *   14, other, 0          where the parent of another line would change;
+ *   4, length, 0          where the block would be over 65,535 bytes, and this length is needed;
+ *   5, length, 0          where out is shorter than the length needed.
+ * Success changes only the new block's bytes, and a refusal nothing. */
+void kif_put_in(const uint8_t *block, size_t block_len, uint64_t line, const uint8_t *text, size_t text_len, uint8_t *out, size_t out_len, uint64_t *number, uint64_t *first, uint64_t *second);
+
+/* Cuts a line from 1 on out of a block, with all that hangs from it. The edited block goes into the front of out, which must not overlap
+ * it: 0, its length and how many lines were removed; or, in this order,
+ *   7, 0, 0               where the slice is not just a sound block;
+ *   10, line, 0           where it has no such line, or the line is 0;
+ *   5, length, 0          where out is shorter than the length needed.
+ * Success changes only the new block's bytes, and a refusal nothing. */
+void kif_cut(const uint8_t *block, size_t block_len, uint64_t line, uint8_t *out, size_t out_len, uint64_t *number, uint64_t *first, uint64_t *second);
+
 /* Whether the slice is just a sound block. */
 bool kif_sound(const uint8_t *block, size_t block_len);
 

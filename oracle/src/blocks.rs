@@ -26,14 +26,24 @@ pub fn block(r: &mut Rng) -> Vec<u8> {
 
 pub fn sound_block(r: &mut Rng) -> Vec<u8> {
     let block = match r.below(300) {
-        0 => encode(&most_lines(r)),
-        1 => encode(&filled(r)),
+        0 => crowded(r),
+        1 => full(r),
         2 => encode(&most_moves(r)),
         3..=150 => read_block(r),
         _ => encode(&record(r)),
     };
     assert!(sound(&block), "not as sound as it should be");
     block
+}
+
+/// A block with as many lines as one can hold, or one fewer.
+pub fn crowded(r: &mut Rng) -> Vec<u8> {
+    encode(&most_lines(r))
+}
+
+/// A block with as many bytes as one can have, or up to two fewer.
+pub fn full(r: &mut Rng) -> Vec<u8> {
+    encode(&filled(r))
 }
 
 /// A block that the reader answered, and so one that can be written and read back.

@@ -2,7 +2,9 @@
 
 use crate::blocks;
 use crate::call::Call;
-use crate::record::{decode, u16_at};
+use crate::edits;
+use crate::judge::{self, Outcome};
+use crate::record::{decode, encode, u16_at, LIMIT};
 use crate::rng::Rng;
 use crate::short;
 use crate::small;
@@ -34,10 +36,53 @@ pub fn to_write(seed: u64) -> Call {
     Call::Write { block: blocks::block(&mut Rng::new(seed)) }
 }
 
+pub fn small_edit(seed: u64) -> Call {
+    edits::edit(seed)
+}
+
 pub fn to_put_in(seed: u64) -> Call {
     let r = &mut Rng::new(seed);
-    let block = blocks::block(r);
+    match r.below(120) {
+        0 => at_the_end(r),
+        1..=2 => filled_up(r),
+        _ => drawn_put_in(r),
+    }
+}
+
+fn drawn_put_in(r: &mut Rng) -> Call {
+    let block = to_be_edited(r);
     put_in(r, block)
+}
+
+/// Any slice, more often than elsewhere a block with the most lines or the most bytes.
+fn to_be_edited(r: &mut Rng) -> Vec<u8> {
+    match r.below(60) {
+        0 => blocks::crowded(r),
+        1 => blocks::full(r),
+        _ => blocks::block(r),
+    }
+}
+
+/// One move into the last line of a block with the most lines, or one fewer: it has no room, or just enough.
+fn at_the_end(r: &mut Rng) -> Call {
+    let block = blocks::crowded(r);
+    let shape = decode(&block).expect("a sound block holds a record").shape();
+    let line = shape.len() - 1;
+    Call::PutIn { block, line: line as u64, text: format!("{}投了\n", shape[line].0).into_bytes() }
+}
+
+/// A put-in into a block with so long a comment that what it makes is as long as a block can be, or has up to two bytes
+/// fewer or more. One that is refused stays as it is.
+fn filled_up(r: &mut Rng) -> Call {
+    let call = drawn_put_in(r);
+    let Call::PutIn { block, line, text } = &call else { unreachable!() };
+    let Outcome::Made { result, .. } = judge::put_in(block, *line, text) else {
+        return call;
+    };
+    let mut record = decode(block).expect("a sound block holds a record");
+    let comment = "x".repeat((LIMIT - 2 + r.below(5)).saturating_sub(result.len() + 4));
+    record.lines[0].entries[0].comments.push(comment);
+    Call::PutIn { block: encode(&record), line: *line, text: text.clone() }
 }
 
 /// A put-in into a block that the reader answered.
@@ -60,7 +105,7 @@ fn put_in(r: &mut Rng, block: Vec<u8>) -> Call {
 
 pub fn to_cut(seed: u64) -> Call {
     let r = &mut Rng::new(seed);
-    let block = blocks::block(r);
+    let block = to_be_edited(r);
     let lines = decode(&block).map_or(0, |record| record.lines.len());
     let line = some_line(r, 1, lines);
     Call::Cut { block, line }
@@ -72,6 +117,7 @@ fn some_line(r: &mut Rng, first: usize, lines: usize) -> u64 {
         0 => r.next(),
         1 => lines as u64,
         2 => 0,
+        3 => lines.saturating_sub(1) as u64,
         _ => (first + r.below(lines.saturating_sub(first).max(1))) as u64,
     }
 }

@@ -3,6 +3,7 @@
 use crate::attach;
 use crate::call::Call;
 use crate::cases;
+use crate::edits::EDITS;
 use crate::judge::{self, Answer, Outcome};
 use crate::known;
 use crate::record::{decode, encode, Clock, Record, What, LIMIT};
@@ -11,13 +12,14 @@ use crate::short::SHORT;
 use crate::small::SMALL;
 use crate::sound::sound;
 
-const KINDS: [Kind; 12] = [
+const KINDS: [Kind; 13] = [
     Kind { name: "short texts", share: 17, all: Some(SHORT), make: cases::short_text, test: reading },
     Kind { name: "texts", share: 20, all: None, make: cases::any_text, test: reading },
     Kind { name: "bytes", share: 13, all: None, make: cases::altered_block, test: soundness },
     Kind { name: "blocks", share: 10, all: None, make: cases::any_block, test: soundness },
     Kind { name: "small blocks", share: 2, all: Some(SMALL), make: cases::small_block, test: writing },
     Kind { name: "writing", share: 8, all: None, make: cases::to_write, test: writing },
+    Kind { name: "small edits", share: 10, all: Some(EDITS), make: cases::small_edit, test: small_editing },
     Kind { name: "put-ins", share: 10, all: None, make: cases::to_put_in, test: putting_in },
     Kind { name: "cuts", share: 8, all: None, make: cases::to_cut, test: cutting },
     Kind { name: "edits", share: 6, all: None, make: cases::to_edit, test: editing },
@@ -81,6 +83,13 @@ fn writing(call: &Call) -> u64 {
         Outcome::Unattached { .. } => panic!("writing attaches nothing"),
     }
     number
+}
+
+fn small_editing(call: &Call) -> u64 {
+    match call {
+        Call::PutIn { .. } => putting_in(call),
+        _ => cutting(call),
+    }
 }
 
 /// The other lines keep their entries and, renumbered, their parents; the rule made afresh gives the same; and cutting

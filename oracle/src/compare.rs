@@ -37,10 +37,12 @@ const KINDS: &[Kind] = &[
     Kind { name: "small blocks", share: 6, all: Some(crate::small::SMALL), make: cases::small_block, test: compared },
     #[cfg(feature = "kif_write")]
     Kind { name: "write", share: 20, all: None, make: cases::to_write, test: compared },
+    #[cfg(all(feature = "kif_put_in", feature = "kif_cut"))]
+    Kind { name: "small edits", share: 92, all: Some(crate::edits::EDITS), make: cases::small_edit, test: compared },
     #[cfg(feature = "kif_put_in")]
-    Kind { name: "put_in", share: 5, all: None, make: cases::to_put_in, test: compared },
+    Kind { name: "put_in", share: 7, all: None, make: cases::to_put_in, test: compared },
     #[cfg(feature = "kif_cut")]
-    Kind { name: "cut", share: 3, all: None, make: cases::to_cut, test: compared },
+    Kind { name: "cut", share: 4, all: None, make: cases::to_cut, test: compared },
 ];
 
 /// Whether the port answers every case as the judge does.

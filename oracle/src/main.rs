@@ -11,6 +11,7 @@ mod cases;
 mod check;
 #[cfg(feature = "linked")]
 mod compare;
+mod edits;
 mod judge;
 mod known;
 #[cfg(feature = "linked")]

@@ -3,6 +3,7 @@
 //! A record is its kind (one byte), the request's and the answer's length (u32 each), request and answer. Every number
 //! in a request or an answer is a u64. All integers are little-endian.
 
+mod edits;
 mod leaves;
 mod lines;
 mod reads;
@@ -24,7 +25,7 @@ const UNTOUCHED: u8 = 165;
 /// A kind's letter, what it is, and its recorder.
 type Recorder = (u8, &'static str, fn(&mut Sample));
 
-const RECORDERS: [Recorder; 16] = [
+const RECORDERS: [Recorder; 18] = [
     (b'u', "UTF-8: bytes; count of well-formed ones from the start", leaves::utf8),
     (b't', "blanks, padding, tail, break: which, place, text; found, place after", leaves::steps),
     (b'd', "digits: largest, place, text; 0 none 1 value 2 too large, value, place after", leaves::digits),
@@ -41,6 +42,8 @@ const RECORDERS: [Recorder; 16] = [
     (b'x', "skip lines: place, text; found, place after", remarks::skips),
     (b'r', "reads: buffer's length, text; number, two figures, the buffer (165 in each byte before)", reads::reads),
     (b'b', "writes: buffer's length, slice; number, two figures, the buffer (165 in each byte before)", writes::writes),
+    (b'p', "put-ins: buffer's length, line, block's length, block, text; as of reads", edits::put_ins),
+    (b'o', "cuts: buffer's length, line, block's length, block; as of reads", edits::cuts),
 ];
 
 /// Writes the sample to this file, and beside it how it was made.

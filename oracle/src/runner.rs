@@ -6,7 +6,7 @@ use std::collections::BTreeMap;
 use std::fmt::Display;
 use std::panic::{self, AssertUnwindSafe};
 
-/// One kind of case: how many of a hundred it is, how many there are where they are enumerated and not drawn, how a
+/// One kind of case: how many it has for every hundred asked for, how many there are where they are enumerated and not drawn, how a
 /// seed makes its call, and the test, which answers the number that the call came to.
 pub struct Kind {
     pub name: &'static str,

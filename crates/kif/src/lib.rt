@@ -5,6 +5,7 @@ ghost use Rattle.block.specs.Sound.{soundb};
 ghost use Rattle.block.specs.Look.{lookAnswer, Told};
 ghost use Rattle.parser.specs.Read.{readOf};
 ghost use Rattle.converter.specs.Writing.{writeOf};
+ghost use Rattle.edit.specs.Editing.{putInOf, cutOf};
 
 // Whether a slice is just a sound block.
 #[no_mangle]
@@ -81,6 +82,45 @@ pub extern "C" fn kif_write(
     ensures { λ _. ⌜ now (out .exit) ≡ writeOf (now (block .entry)) (now (out .entry)) .buffer ⌝ }
 {
     let f = jkf::figures_of(converter::write(block, out));
+    *number = f.number;
+    *first = f.first;
+    *second = f.second;
+}
+
+// Puts one variation into a block: the edited block goes into the front of a lent buffer.
+#[no_mangle]
+pub extern "C" fn kif_put_in(
+    block: &[u8],
+    line: u64,
+    text: &[u8],
+    out: &mut [u8],
+    number: &mut u64,
+    first: &mut u64,
+    second: &mut u64,
+)
+    ensures { λ _. ⌜ Told (putInOf (now (block .entry)) line (now (text .entry)) (now (out .entry)) .answer) (now (number .exit)) (now (first .exit)) (now (second .exit)) ⌝ }
+    ensures { λ _. ⌜ now (out .exit) ≡ putInOf (now (block .entry)) line (now (text .entry)) (now (out .entry)) .buffer ⌝ }
+{
+    let f = jkf::figures_of(edit::put_in(block, line, text, out));
+    *number = f.number;
+    *first = f.first;
+    *second = f.second;
+}
+
+// Cuts a line out of a block with all that hangs from it: the edited block goes into the front of a lent buffer.
+#[no_mangle]
+pub extern "C" fn kif_cut(
+    block: &[u8],
+    line: u64,
+    out: &mut [u8],
+    number: &mut u64,
+    first: &mut u64,
+    second: &mut u64,
+)
+    ensures { λ _. ⌜ Told (cutOf (now (block .entry)) line (now (out .entry)) .answer) (now (number .exit)) (now (first .exit)) (now (second .exit)) ⌝ }
+    ensures { λ _. ⌜ now (out .exit) ≡ cutOf (now (block .entry)) line (now (out .entry)) .buffer ⌝ }
+{
+    let f = jkf::figures_of(edit::cut(block, line, out));
     *number = f.number;
     *first = f.first;
     *second = f.second;

@@ -1,6 +1,7 @@
-// The command-line tool: reads the file that it is given, and prints or writes what its first word asks for.
+// The command-line tool: reads the file that it is given, and prints or writes what its words ask for.
 // A program has no exit status of its own. So what it says on standard error begins with `kifu: refused`, `kifu: usage` or `kifu: note`,
 // and the launcher turns the first of them into the status.
+mod edits;
 mod files;
 mod losses;
 mod notes;
@@ -73,12 +74,31 @@ fn keep(taken: u64, b: &[u8]) -> bool {
     told(shown::print_read(taken, b.len() as u64))
 }
 
+// Makes the edit that is asked for.
+fn edit(word: Word, line: u64, name: &[u8], b: &[u8], out: &mut [u8]) -> edits::Edited {
+    match word {
+        Word::Put => edits::put(name, b, line, out),
+        _ => edits::cut(name, b, line, out),
+    }
+}
+
+// Prints a block as a text once it is edited.
+fn print_edited(word: Word, line: u64, name: &[u8], b: &[u8]) -> bool {
+    let mut out = [0u8; 65535];
+    let edits::Edited::Block(n) = edit(word, line, name, b, &mut out) else {
+        return false;
+    };
+    print_text(name, shown::front(&out, n))
+}
+
 // What is asked of a text that was read into a block; and whether it was done.
-fn answer(word: Word, name: &[u8], left: u64, taken: u64, b: &[u8]) -> bool {
+fn answer(word: Word, line: u64, name: &[u8], left: u64, taken: u64, b: &[u8]) -> bool {
     match word {
         Word::List => told(shown::print_listing(taken, b)),
         Word::Check => told(print_check(taken, left, b)),
         Word::Block => keep(taken, b),
+        Word::Put => print_edited(word, line, name, b),
+        Word::Cut => print_edited(word, line, name, b),
         _ => print_text(name, b),
     }
 }
@@ -92,7 +112,7 @@ fn tell_left(word: Word, name: &[u8], left: u64) {
 }
 
 // Reads a text into a block as long as a block can be, so that no buffer is short.
-fn read(word: Word, name: &[u8], text: &[u8]) {
+fn read(word: Word, line: u64, name: &[u8], text: &[u8]) {
     let mut block = [0u8; 65535];
     let f = jkf::figures_of(parser::read(text, &mut block));
     if f.number != 0 {
@@ -101,13 +121,13 @@ fn read(word: Word, name: &[u8], text: &[u8]) {
     }
     let left = left(text.len() as u64, f.first);
     let b = shown::front(&block, f.second as usize);
-    if answer(word, name, left, f.first, b) {
+    if answer(word, line, name, left, f.first, b) {
         tell_left(word, name, left);
     }
 }
 
 // What is asked of a file: of one byte more than a text or a block may have, so that a longer one is refused and not cut.
-fn obey(word: Word, name: &[u8]) {
+fn obey(word: Word, line: u64, name: &[u8]) {
     let mut input = io::large_buffer();
     let files::Got::Bytes(n) = files::fill(name, &mut input) else {
         return;
@@ -117,21 +137,21 @@ fn obey(word: Word, name: &[u8]) {
         print_text(name, bytes);
         return;
     }
-    read(word, name, bytes);
+    read(word, line, name, bytes);
 }
 
 // The second word is a file's name.
-fn on_file(word: Word) {
+fn on_file(word: Word, line: u64) {
     let mut name = io::buffer();
     let n = os::arg(2, &mut name);
     if os::errno() != 0 {
         os::fail(b"kifu: refused: FILE");
         return;
     }
-    obey(word, &name[..n]);
+    obey(word, line, &name[..n]);
 }
 
-// What the words ask for, where they are as many as they should be.
+// What the words ask for, where they are as many as they should be and a line is a number.
 fn start(first: &[u8]) {
     let word = words::word_of(first);
     if let Word::Unknown = word {
@@ -146,7 +166,11 @@ fn start(first: &[u8]) {
         told(words::print_help());
         return;
     }
-    on_file(word);
+    let words::Line::Numbered(line) = words::line_of(word) else {
+        words::tell_usage(word);
+        return;
+    };
+    on_file(word, line);
 }
 
 // The first word says what is asked for.

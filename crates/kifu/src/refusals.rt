@@ -62,7 +62,7 @@ fn say_refusal(number: u64, x: u64, y: u64) -> bool {
             y,
             b" cannot be written: its square is off the board, or its time has no room beside it",
         ),
-        10 => one(b"there is no part with the number ", x, b""),
+        10 => one(b"there is no such line: ", x, b""),
         11 => io::write_all(STDERR_FILENO, b"the text is not one variation"),
         12 => two(b"line ", x, b" has no ply ", y, b" to put a variation at"),
         13 => two(b"line ", x, b", ply ", y, b" already carries a variation"),

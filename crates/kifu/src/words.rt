@@ -1,6 +1,8 @@
 // The words that the tool is told by, and how it is used.
 use libc::STDERR_FILENO;
 use libc::STDOUT_FILENO;
+use text::Cursor;
+use text::Number;
 
 // What is asked for.
 pub enum Word {
@@ -9,8 +11,16 @@ pub enum Word {
     Block,
     Text,
     Check,
+    Put,
+    Cut,
     Help,
     Unknown,
+}
+
+// The number of a line, or that a word is none.
+pub enum Line {
+    Numbered(u64),
+    NoNumber,
 }
 
 // What the first word asks for.
@@ -30,6 +40,12 @@ pub(crate) fn word_of(w: &[u8]) -> Word {
     if check::same(w, b"check") {
         return Word::Check;
     }
+    if check::same(w, b"put") {
+        return Word::Put;
+    }
+    if check::same(w, b"cut") {
+        return Word::Cut;
+    }
     if check::same(w, b"help") {
         return Word::Help;
     }
@@ -41,7 +57,39 @@ pub(crate) fn count(word: Word) -> usize {
     match word {
         Word::Help => 2,
         Word::Block => 4,
+        Word::Cut => 4,
+        Word::Put => 5,
         _ => 3,
+    }
+}
+
+// Digits to the end, and no more than there is room for in a number.
+fn number_in(w: &[u8]) -> Line {
+    let Number::Value(n, past) = Cursor { at: 0 }.digits(w, u64::MAX) else {
+        return Line::NoNumber;
+    };
+    if past.at != w.len() {
+        return Line::NoNumber;
+    }
+    Line::Numbered(n)
+}
+
+// The line that the third word numbers.
+fn third() -> Line {
+    let mut w = io::buffer();
+    let n = os::arg(3, &mut w);
+    if os::errno() != 0 {
+        return Line::NoNumber;
+    }
+    number_in(&w[..n])
+}
+
+// The line that goes with a word: 0 where none does.
+pub(crate) fn line_of(word: Word) -> Line {
+    match word {
+        Word::Put => third(),
+        Word::Cut => third(),
+        _ => Line::Numbered(0),
     }
 }
 
@@ -50,29 +98,37 @@ fn print_usage(fd: i32, word: Word) -> bool {
     match word {
         Word::List => io::write_all(
             fd,
-            b"kifu list FILE         the lines of play of a KIF file: number, start, entries, parent\n",
+            b"kifu list FILE                the lines of play of a KIF file: number, start, entries, parent\n",
         ),
         Word::Tidy => io::write_all(
             fd,
-            b"kifu tidy FILE         the file read and written anew, to standard output\n",
+            b"kifu tidy FILE                the file read and written anew, to standard output\n",
         ),
         Word::Block => io::write_all(
             fd,
-            b"kifu block FILE OUT    the file's block, into the new file OUT\n",
+            b"kifu block FILE OUT           the file's block, into the new file OUT\n",
         ),
         Word::Text => io::write_all(
             fd,
-            b"kifu text BLOCK        a block's file as KIF text, to standard output\n",
+            b"kifu text BLOCK               a block's file as KIF text, to standard output\n",
         ),
         Word::Check => io::write_all(
             fd,
-            b"kifu check FILE        how much of the file was taken, and what it holds\n",
+            b"kifu check FILE               how much of the file was taken, and what it holds\n",
         ),
-        _ => io::write_all(fd, b"kifu help              these lines\n"),
+        Word::Put => io::write_all(
+            fd,
+            b"kifu put FILE LINE VARIATION  the file with a variation put into a line, to standard output\n",
+        ),
+        Word::Cut => io::write_all(
+            fd,
+            b"kifu cut FILE LINE            the file without a line and all that hangs from it, to standard output\n",
+        ),
+        _ => io::write_all(fd, b"kifu help                     these lines\n"),
     }
 }
 
-// Says how a word is used that came with too few words or too many.
+// Says how a word is used that came with too few words, too many or a line that is no number.
 pub(crate) fn tell_usage(word: Word) {
     io::write_all(STDERR_FILENO, b"kifu: usage: ");
     print_usage(STDERR_FILENO, word);
@@ -89,7 +145,7 @@ pub(crate) fn tell_unknown(w: &[u8]) {
     }
     io::write_all(
         STDERR_FILENO,
-        b"; the words are list, tidy, block, text, check and help\n",
+        b"; the words are list, tidy, block, text, check, put, cut and help\n",
     );
 }
 
@@ -100,5 +156,7 @@ pub(crate) fn print_help() -> bool {
     print_usage(STDOUT_FILENO, Word::Block);
     print_usage(STDOUT_FILENO, Word::Text);
     print_usage(STDOUT_FILENO, Word::Check);
+    print_usage(STDOUT_FILENO, Word::Put);
+    print_usage(STDOUT_FILENO, Word::Cut);
     print_usage(STDOUT_FILENO, Word::Help)
 }

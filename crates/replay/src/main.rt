@@ -1,6 +1,7 @@
 // Replays recorded requests, and prints how many of the recorded answers the library gives, by kind.
 // A record is its kind, the lengths of request and answer (four bytes each, low byte first), request and answer.
 mod blocks;
+mod edits;
 mod leaves;
 mod lines;
 mod reads;
@@ -13,8 +14,8 @@ ghost use lib.ListN.{length};
 
 // How many records of each kind there were, and in how many the answers agreed. The last place is for unknown kinds.
 pub struct Tally {
-    pub asked: [u64; 17],
-    pub agreed: [u64; 17],
+    pub asked: [u64; 19],
+    pub agreed: [u64; 19],
 }
 
 // Whether to go on, and the tally so far.
@@ -25,7 +26,7 @@ pub struct Turn {
 
 impl Tally {
     fn counted(mut self, kind: usize, agrees: bool) -> Tally {
-        if 16 < kind {
+        if 18 < kind {
             return self;
         }
         self.asked[kind] = std::num::wrapping_add_u64(self.asked[kind], 1);
@@ -55,7 +56,9 @@ fn place_of(kind: u8) -> usize {
         b'x' => 13,
         b'r' => 14,
         b'b' => 15,
-        _ => 16,
+        b'p' => 16,
+        b'o' => 17,
+        _ => 18,
     }
 }
 
@@ -78,6 +81,8 @@ fn print_name(place: usize) {
         13 => io::write_all(STDOUT_FILENO, b"skip lines"),
         14 => io::write_all(STDOUT_FILENO, b"texts read"),
         15 => io::write_all(STDOUT_FILENO, b"blocks written"),
+        16 => io::write_all(STDOUT_FILENO, b"variations put in"),
+        17 => io::write_all(STDOUT_FILENO, b"lines cut"),
         _ => io::write_all(STDOUT_FILENO, b"of unknown kind"),
     }
     ;
@@ -95,6 +100,8 @@ fn respond(kind: u8, request: &[u8], out: &mut [u8]) -> usize
         b'x' => lines::skip_line(request, out),
         b'r' => reads::read(request, out),
         b'b' => writes::write(request, out),
+        b'p' => edits::put_in(request, out),
+        b'o' => edits::cut(request, out),
         _ => leaves::answer(kind, request, out),
     }
 }
@@ -152,8 +159,8 @@ fn replay_next(fd: i32, tally: Tally) -> Turn {
 // A proved loop has to end, and nothing says that a file does: the turns are counted down from a number that no run uses up.
 fn replay_all(fd: i32) -> Tally {
     let mut tally = Tally {
-        asked: [0u64; 17],
-        agreed: [0u64; 17],
+        asked: [0u64; 19],
+        agreed: [0u64; 19],
     };
     let mut turns = u64::MAX;
     while turns > 0 {
@@ -178,7 +185,7 @@ fn print_line(place: usize, agreed: u64, asked: u64) {
 }
 
 fn print_tally(tally: Tally) {
-    for i in 0..17 {
+    for i in 0..19 {
         print_line(i, tally.agreed[i], tally.asked[i]);
     }
 }

@@ -1,0 +1,60 @@
+// Edits of a block, into a buffer that is as long as a block can be.
+use crate::files;
+use crate::refusals;
+use jkf::Figures;
+
+// How long the edited block is, or that there is none.
+pub enum Edited {
+    Block(usize),
+    Refused,
+}
+
+// What an edit came to; where it is refused, why.
+fn made(name: &[u8], f: Figures) -> Edited {
+    if f.number != 0 {
+        refusals::tell(name, f);
+        return Edited::Refused;
+    }
+    Edited::Block(f.first as usize)
+}
+
+// Without a line, and without all that hangs from it.
+pub(crate) fn cut(name: &[u8], b: &[u8], line: u64, out: &mut [u8]) -> Edited {
+    made(name, jkf::figures_of(edit::cut(b, line, out)))
+}
+
+// With the variation of a text. Refusal 11 is about that text's file, all others about the block's.
+fn put_text(
+    name: &[u8],
+    b: &[u8],
+    line: u64,
+    variation: &[u8],
+    text: &[u8],
+    out: &mut [u8],
+) -> Edited {
+    let f = jkf::figures_of(edit::put_in(b, line, text, out));
+    if f.number == 11 {
+        return made(variation, f);
+    }
+    made(name, f)
+}
+
+// With that of a file: of one byte more than a text may have, so that a longer one is refused and not cut.
+fn put_file(name: &[u8], b: &[u8], line: u64, variation: &[u8], out: &mut [u8]) -> Edited {
+    let mut input = io::large_buffer();
+    let files::Got::Bytes(n) = files::fill(variation, &mut input) else {
+        return Edited::Refused;
+    };
+    put_text(name, b, line, variation, shown::front(&input, n), out)
+}
+
+// With that of the file that the fourth word names.
+pub(crate) fn put(name: &[u8], b: &[u8], line: u64, out: &mut [u8]) -> Edited {
+    let mut variation = io::buffer();
+    let n = os::arg(4, &mut variation);
+    if os::errno() != 0 {
+        os::fail(b"kifu: refused: VARIATION");
+        return Edited::Refused;
+    }
+    put_file(name, b, line, &variation[..n], out)
+}
