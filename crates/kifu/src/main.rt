@@ -60,6 +60,20 @@ fn print_check(taken: u64, left: u64, b: &[u8]) -> bool {
     )
 }
 
+// Prints bytes taken and block length.
+fn print_read(taken: u64, len: u64) -> bool {
+    let mut out = [0u8; 128];
+    let n = shown::put_read(&mut out, taken, len);
+    io::write_all(STDOUT_FILENO, shown::front(&out, n))
+}
+
+// Prints the listing of a block. There is room for as many lines as a block can have, 2,335.
+fn print_listing(taken: u64, b: &[u8]) -> bool {
+    let mut out = [0u8; 112133];
+    let n = shown::put_listing(&mut out, taken, b);
+    io::write_all(STDOUT_FILENO, shown::front(&out, n))
+}
+
 // Writes a block into the new file that the third word names, and prints how long it is.
 fn keep(taken: u64, b: &[u8]) -> bool {
     let mut name = io::buffer();
@@ -71,7 +85,7 @@ fn keep(taken: u64, b: &[u8]) -> bool {
     if !files::make(&name[..n], b) {
         return false;
     }
-    told(shown::print_read(taken, b.len() as u64))
+    told(print_read(taken, b.len() as u64))
 }
 
 // Makes the edit that is asked for.
@@ -94,7 +108,7 @@ fn print_edited(word: Word, line: u64, name: &[u8], b: &[u8]) -> bool {
 // What is asked of a text that was read into a block; and whether it was done.
 fn answer(word: Word, line: u64, name: &[u8], left: u64, taken: u64, b: &[u8]) -> bool {
     match word {
-        Word::List => told(shown::print_listing(taken, b)),
+        Word::List => told(print_listing(taken, b)),
         Word::Check => told(print_check(taken, left, b)),
         Word::Block => keep(taken, b),
         Word::Put => print_edited(word, line, name, b),

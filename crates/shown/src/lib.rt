@@ -1,9 +1,14 @@
-// What the programs print alike: 01's listing. Each of the functions that print answers whether all of it was written.
+// What the programs print alike: 01's listing, filled into a lent buffer. Each function that fills answers how many bytes it filled.
 mod rows;
 
-use libc::STDOUT_FILENO;
+pub use rows::put_read;
+pub use rows::put_refusal;
 ghost use mathlib.Core.Path.{_≡_};
-ghost use lib.ListN.{take};
+ghost use Prim.Native.Nat.{_*_, _≤_, _<_};
+ghost use lib.ListN.{length, take};
+ghost use Rattle.lent.specs.Bytes.{Wrote};
+ghost use Rattle.block.specs.Decode.{linesIn};
+ghost use Rattle.shown.specs.Listing.{lineText, linesText, listed};
 
 // The first n bytes of a slice, or all where there are fewer.
 pub fn front(s: &[u8], n: usize) -> &[u8]
@@ -15,50 +20,39 @@ pub fn front(s: &[u8], n: usize) -> &[u8]
     &s[..n]
 }
 
-// Bytes taken and block length.
-pub fn print_read(taken: u64, len: u64) -> bool {
-    let mut out = [0u8; 128];
-    let n = rows::put_read(&mut out, taken, len);
-    io::write_all(STDOUT_FILENO, front(&out, n))
+// Line k of a block, for which there is room: each of its numbers has at most 5 digits.
+fn put_line(out: &mut [u8], b: &[u8], k: u16) -> usize
+    requires { ⌜ 48 ≤ length (now out) ⌝ }
+    ensures { λ r. ⌜ Wrote (lineText (now (b .entry)) k) (now (out .entry)) (now (out .exit)) r × (r ≤ 48) ⌝ }
+{
+    let start = block::start_of(b, k) as u64;
+    let moves = block::entry_count(b, k) as u64;
+    let parent = block::parent_of(b, k) as u64;
+    rows::put_row(out, k as u64, start, moves, parent)
 }
 
-// A refusal's number and figures.
-pub fn print_refusal(number: u64, first: u64, second: u64) -> bool {
-    let mut out = [0u8; 128];
-    let n = rows::put_refusal(&mut out, number, first, second);
-    io::write_all(STDOUT_FILENO, front(&out, n))
-}
-
-// Line k of a block.
-fn print_line(b: &[u8], k: u16) -> bool {
-    let mut out = [0u8; 128];
-    let n = rows::put_line(
-        &mut out,
-        k as u64,
-        block::start_of(b, k) as u64,
-        block::entry_count(b, k) as u64,
-        block::parent_of(b, k) as u64,
-    );
-    io::write_all(STDOUT_FILENO, front(&out, n))
-}
-
-// The lines of a block, up to one that cannot be written.
-fn print_lines(b: &[u8]) -> bool {
-    let count = block::lines_in(b);
+// The first lines of a block.
+fn put_lines(out: &mut [u8], b: &[u8], count: usize) -> usize
+    requires { ⌜ (count < 65536) × (48 * count ≤ length (now out)) ⌝ }
+    ensures { λ r. ⌜ Wrote (linesText (now (b .entry)) count) (now (out .entry)) (now (out .exit)) r ⌝ }
+{
+    let mut n = 0;
     let mut k = 0;
     while k < count {
-        if !print_line(b, k as u16) {
-            return false;
-        }
+        n += put_line(&mut out[n..], b, k as u16);
         k += 1;
     }
-    true
+    n
 }
 
-// The listing of a block that was read from so many bytes.
-pub fn print_listing(taken: u64, b: &[u8]) -> bool {
-    if !print_read(taken, b.len() as u64) {
-        return false;
+// The listing of a block that was read from so many bytes, where there is room for the longest with as many lines.
+pub fn put_listing(out: &mut [u8], taken: u64, b: &[u8]) -> usize
+    ensures { λ r. ⌜ Wrote (listed taken (now (b .entry)) (now (out .entry))) (now (out .entry)) (now (out .exit)) r ⌝ }
+{
+    let count = block::lines_in(b);
+    if out.len() < 53 + 48 * count {
+        return 0;
     }
-    print_lines(b)
+    let n = put_read(out, taken, b.len() as u64);
+    n + put_lines(&mut out[n..], b, count)
 }

@@ -1,0 +1,139 @@
+-- The texts of the listing in pieces: how long each is, and that there is room for each piece where there is for the whole.
+-- Assumes nothing.
+use Prim.Native.Nat.{ℕ, zero, suc, _+_, _-_, _*_, _/_, _≤_, _<_}
+use native.Mathlib.Omega.{arith}
+use native.Mathlib.Decide.{decLt}
+use native.Mathlib.Numerals.{add-one}
+use mathlib.Core.Path.{_≡_, sym, ap, _∙_}
+use mathlib.Core.List.{List, [], _∷_, _++_}
+use lib.ListN.{length, length-append}
+use borrow.Author.Tests.{le-leb, lt-leb}
+use borrow.Rule.Slice.PartMut.{midOf, putMid}
+use Rattle.lent.specs.Bytes.{Wrote, fitting}
+use Rattle.lent.specs.Numbers.{decimal}
+use Rattle.lent.proofs.Digits.{decimal-length-one, decimal-length-more}
+use Rattle.lent.proofs.Writes.{as-text, nothing, written, wrote-all, wrote-length, rest-length, then}
+use Rattle.block.specs.Encode.{concat}
+use Rattle.block.specs.Decode.{run, linesIn, startOf, entryCount, parentOf}
+use Rattle.block.proofs.Tabling.{run-snoc, concat-snoc}
+use Rattle.shown.specs.Listing.{field, fields, lastFields, readTag, blockTag, refusedTag, spaceTag, lineTag, startTag, movesTag, parentTag, readText, refusalText, rowText, lineText, linesText, listingText, listingRoom, listed}
+
+-- ---- pieces one after another
+
+-- each piece has room where the whole has; also in converter Room: room-front, room-after, then-piece
+pub room-front : (t u : List ℕ) {n : ℕ} → length (t ++ u) ≤ n → length t ≤ n
+room-front t u h = omega (arith, length-append t u)
+
+pub room-after : {t₁ o o₁ : List ℕ} {n : ℕ} (t₂ : List ℕ) → Wrote t₁ o o₁ n → length (t₁ ++ t₂) ≤ length o
+    → length t₂ ≤ length (midOf n (length o₁ - n) o₁)
+room-after {t₁ = t₁} {o₁ = o₁} {n = n} t₂ w h = omega (arith, length-append t₁ t₂, w .count, wrote-length w, rest-length o₁ n)
+
+pub then-piece : {t₁ o o₁ p : List ℕ} {n₁ n₂ : ℕ} (t₂ : List ℕ) → Wrote t₁ o o₁ n₁ → length (t₁ ++ t₂) ≤ length o
+    → Wrote (fitting t₂ (midOf n₁ (length o₁ - n₁) o₁)) (midOf n₁ (length o₁ - n₁) o₁) p n₂
+    → Wrote (t₁ ++ t₂) o (putMid n₁ (length o₁ - n₁) o₁ p) (n₁ + n₂)
+then-piece t₂ w h v = then w (wrote-all {t = t₂} (room-after t₂ w h) v)
+
+-- ---- digits
+
+-- ten, and ten times as much for each further digit
+abbrev ten : ℕ → ℕ
+ten zero = 10
+ten (suc k) = 10 * ten k
+
+-- a number of one digit more is ten times as large
+-- also in converter Lengthy: more-digits
+more-digits : (m k : ℕ) → 1 ≤ k → ((v : ℕ) → v < m → length (decimal v) ≤ k) → (v : ℕ) → v < 10 * m → length (decimal v) ≤ k + 1
+more-digits m k p f v h = go (decLt v 10)
+  where
+    go : Dec (v < 10) → length (decimal v) ≤ k + 1
+    go (yes l) = omega (arith, decimal-length-one v l)
+    go (no l) = let g : 10 ≤ v = omega arith in omega (arith, decimal-length-more v g, f (v / 10) (omega arith))
+
+-- a number below that has no more digits
+digits : (k v : ℕ) → v < ten k → length (decimal v) ≤ k + 1
+digits zero v h = omega (arith, decimal-length-one v h)
+digits (suc k) v h = omega (arith, more-digits (ten k) (k + 1) (omega arith) (digits k) v h)
+
+pub digits-five : (v : ℕ) → v < 65536 → length (decimal v) ≤ 5
+digits-five v h = let g : v < 100000 = omega arith in digits 4 v g
+
+pub digits-twenty : (v : ℕ) → v < 18446744073709551616 → length (decimal v) ≤ 20
+digits-twenty v h = let g : v < 100000000000000000000 = omega arith in digits 19 v g
+
+-- ---- how long the texts are
+
+field-length : (word : List ℕ) (v : ℕ) → length (field word v) ≡ length word + length (decimal v)
+field-length word v = length-append word (decimal v)
+
+fields-length : (word : List ℕ) (v : ℕ) (next : List ℕ) (w : ℕ)
+    → length (fields word v next w) ≡ length word + length (decimal v) + (length next + length (decimal w))
+fields-length word v next w = omega (arith, length-append (field word v) (field next w), field-length word v, field-length next w)
+
+last-length : (word : List ℕ) (v : ℕ) (next : List ℕ) (w : ℕ)
+    → length (lastFields word v next w) ≡ length word + length (decimal v) + (length next + length (decimal w)) + 1
+last-length word v next w = omega (arith, length-append (fields word v next w) (10 ∷ []), fields-length word v next w)
+
+pub read-length : (taken len : ℕ) → length (readText taken len) ≡ 13 + length (decimal taken) + length (decimal len)
+unfolding readText
+read-length taken len = omega (arith, last-length readTag taken blockTag len)
+
+-- the room that is asked for before it is written, and what is written
+pub read-room : (taken len : ℕ) {n : ℕ} → 13 + length (decimal taken) + length (decimal len) ≤ n → length (lastFields readTag taken blockTag len) ≤ n
+read-room taken len h = omega (arith, last-length readTag taken blockTag len)
+
+pub read-wrote : (taken len : ℕ) {o o′ : List ℕ} {n : ℕ} → Wrote (lastFields readTag taken blockTag len) o o′ n
+    → Wrote (fitting (readText taken len) o) o o′ n
+unfolding readText
+read-wrote taken len w = written w
+
+-- where there are 53 bytes it fits
+pub read-fits : (taken len : ℕ) {o o′ : List ℕ} {n : ℕ} → taken < 18446744073709551616 → len < 18446744073709551616 → 53 ≤ length o
+    → Wrote (fitting (readText taken len) o) o o′ n → Wrote (readText taken len) o o′ n × (n ≤ 53)
+read-fits taken len {o} h g l w =
+    let s : length (readText taken len) ≤ 53 = omega (arith, read-length taken len, digits-twenty taken h, digits-twenty len g) in
+    let v = wrote-all {t = readText taken len} (omega arith) w in
+    (v, omega (arith, v .count))
+
+pub refusal-length : (number first second : ℕ)
+    → length (refusalText number first second) ≡ 11 + (length (decimal number) + length (decimal first) + length (decimal second))
+unfolding refusalText
+refusal-length number first second =
+    omega (arith, length-append (field refusedTag number) (lastFields spaceTag first spaceTag second), field-length refusedTag number, last-length spaceTag first spaceTag second)
+
+-- a row of numbers below 65,536 has at most 48 bytes
+pub row-room : (k start moves parent n : ℕ) → 48 ≤ n → k < 65536 → start < 65536 → moves < 65536 → parent < 65536
+    → length (rowText k start moves parent) ≤ n
+unfolding rowText
+row-room k start moves parent n h a b c d =
+    omega (arith, length-append (fields lineTag k startTag start) (lastFields movesTag moves parentTag parent), fields-length lineTag k startTag start, last-length movesTag moves parentTag parent, digits-five k a, digits-five start b, digits-five moves c, digits-five parent d)
+
+-- ---- the lines of a block
+
+-- a row is a line's, by what the block says
+pub line-is : (b : List ℕ) (k : ℕ) {s m p : ℕ} → s ≡ startOf b k → m ≡ entryCount b k → p ≡ parentOf b k → rowText k s m p ≡ lineText b k
+unfolding lineText
+line-is b k {s} {m} {p} e f g = ap (λ (x : ℕ). rowText k x m p) e ∙ ap (λ (x : ℕ). rowText k (startOf b k) x p) f ∙ ap (rowText k (startOf b k) (entryCount b k)) g
+
+-- line n stands behind the n lines before it
+pub lines-more : (b : List ℕ) (n : ℕ) → linesText b n ++ lineText b n ≡ linesText b (suc n)
+unfolding linesText
+lines-more b n = sym (ap (λ (ts : List (List ℕ)). concat (λ t. t) ts) (run-snoc (lineText b) n) ∙ concat-snoc (λ (t : List ℕ). t) (run (lineText b) 0 n) (lineText b n))
+
+pub lines-none : (b o : List ℕ) → Wrote (linesText b 0) o o 0
+unfolding linesText concat run
+lines-none b o = nothing o
+
+pub lines-step : (b : List ℕ) (k : ℕ) {o o₁ p : List ℕ} {n m : ℕ} → Wrote (linesText b k) o o₁ n
+    → Wrote (lineText b k) (midOf n (length o₁ - n) o₁) p m → Wrote (linesText b (k + 1)) o (putMid n (length o₁ - n) o₁ p) (n + m)
+lines-step b k w v = as-text (lines-more b k ∙ ap (linesText b) (sym (add-one k))) (then w v)
+
+-- ---- the listing
+
+pub listed-none : (taken : ℕ) (b o : List ℕ) → length o < listingRoom b → Wrote (listed taken b o) o o 0
+unfolding listed
+listed-none taken b o h = as-text (sym (rw (lt-leb (listingRoom b) (length o) h))) (nothing o)
+
+pub listed-all : {o o′ : List ℕ} {n : ℕ} (taken : ℕ) (b : List ℕ) → listingRoom b ≤ length o
+    → Wrote (readText taken (length b) ++ linesText b (linesIn b)) o o′ n → Wrote (listed taken b o) o o′ n
+unfolding listed listingText
+listed-all {o} taken b h w = rw (le-leb (listingRoom b) (length o) h) w

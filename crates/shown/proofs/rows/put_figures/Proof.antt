@@ -1,0 +1,64 @@
+-- The number has room where all three have, and both figures have what is left.
+-- Assumes nothing.
+use borrow.Author.Needs.{needs}
+use Rattle.lent.proofs.Writes.{then}
+use Rattle.shown.specs.Listing.{field, lastFields, refusedTag, spaceTag, refusalText}
+use Rattle.shown.proofs.Texts.{room-front, room-after}
+use Rattle.shown.proofs.rows.put_figures.Statement.{statement}
+use Rattle.shown.proofs.rows.put_figures.Tie as tie
+
+slice-aggregate-put-field : tie.Need-slice-aggregate-put-field
+slice-aggregate-put-field c = search needs
+
+put-field-requires : tie.Need-put-field-requires
+unfolding refusalText
+put-field-requires c κs =
+    let a = c .before .before .before .args in
+    room-front (field refusedTag (a .number)) (lastFields spaceTag (a .first) spaceTag (a .second)) (c .before .before .before .pre)
+
+sub-put-last : tie.Need-sub-put-last
+sub-put-last c = search needs
+
+part-put-last-start : tie.Need-part-put-last-start
+part-put-last-start c = search needs
+
+part-put-last-end : tie.Need-part-put-last-end
+part-put-last-end c = search needs
+
+slice-aggregate-put-last : tie.Need-slice-aggregate-put-last
+slice-aggregate-put-last c = search needs
+
+slice-aggregate-put-last-2 : tie.Need-slice-aggregate-put-last-2
+slice-aggregate-put-last-2 c = search needs
+
+put-last-requires : tie.Need-put-last-requires
+unfolding refusalText
+put-last-requires c κs =
+    let a = c .before .before .before .before .before .before .before .before .before .args in
+    room-after (lastFields spaceTag (a .first) spaceTag (a .second)) (c .before .before .before .before .before .put-field .ensures) (c .before .before .before .before .before .before .before .before .before .pre)
+
+add-result : tie.Need-add-result
+add-result c = search needs
+
+same-length : tie.Need-same-length
+same-length c = search needs
+
+returns : tie.Need-returns
+unfolding refusalText
+returns c = then (c .before .before .before .before .before .before .before .before .put-field .ensures) (c .before .before .put-last .ensures)
+
+pub put-figures-spec : {M : Type 1} → statement M
+put-figures-spec =
+    tie.close
+    (tie.spec
+    slice-aggregate-put-field
+    put-field-requires
+    sub-put-last
+    part-put-last-start
+    part-put-last-end
+    slice-aggregate-put-last
+    slice-aggregate-put-last-2
+    put-last-requires
+    add-result
+    same-length
+    returns)
