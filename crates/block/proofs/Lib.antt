@@ -12,3 +12,4 @@ pub mod Fitting
 pub mod Pieces
 pub mod Spans
 pub mod Deciding
+pub mod Within

@@ -1,11 +1,11 @@
 -- The table of lines in a block, and the same table by itself, have the same numbers, and say the same of where a line hangs.
 -- Assumes nothing.
-use Prim.Native.Nat.{ℕ, _+_, _*_}
+use Prim.Native.Nat.{ℕ, _+_, _*_, _<_}
 use native.Mathlib.Omega.{arith}
-use mathlib.Core.Path.{_≡_, sym, ap, _∙_}
+use mathlib.Core.Path.{_≡_, sym, ap, ap₂, _∙_}
 use mathlib.Core.List.{List}
-use lib.ListN.{getD, drop}
-use lib.Seq.{getD-drop}
+use lib.ListN.{getD, take, drop}
+use lib.Seq.{getD-take, getD-drop}
 use Rattle.lent.specs.Bytes.{le16}
 use Rattle.jkf.specs.Attaching.{hangs, startAt, countAt, parentAt}
 use Rattle.jkf.proofs.Nears.{hangs-same}
@@ -16,6 +16,10 @@ pub le16-drop : (b : List ℕ) (o i : ℕ) → le16 (drop o b) i ≡ le16 b (o +
 le16-drop b o i =
     let e : o + (i + 1) ≡ o + i + 1 = omega arith in
     omega (arith, getD-drop o b i 0, getD-drop o b (i + 1) 0, ap (λ (n : ℕ). getD b n 0) e)
+
+-- and in the front of n bytes
+pub le16-take : (b : List ℕ) (n i : ℕ) → i + 1 < n → le16 (take n b) i ≡ le16 b i
+le16-take b n i h = ap₂ (λ (x y : ℕ). x + 256 * y) (getD-take n b i 0 (omega arith)) (getD-take n b (i + 1) 0 h)
 
 module _ (b : List ℕ) where
   in-table : (i at : ℕ) → linePlace b 0 + i ≡ at → le16 (drop (linePlace b 0) b) i ≡ le16 b at

@@ -45,6 +45,12 @@ sum-rises f k (suc n) h = go (decLe k n) (sum-rises f k n)
 pub sum-within : (f : ℕ → ℕ) (k n : ℕ) → k < n → sum f k + f k ≤ sum f n
 sum-within f k n h = omega (arith, sum-suc f k, sum-rises f (suc k) n h)
 
+-- numbers that are none of them 0
+pub sum-some : (f : ℕ → ℕ) (n : ℕ) → ((k : ℕ) → k < n → 1 ≤ f k) → n ≤ sum f n
+unfolding sum
+sum-some f zero h = omega arith
+sum-some f (suc n) h = omega (arith, sum-some f n (λ k l. h k (omega arith)), h n (omega arith))
+
 -- a field of a table's rows, added up by the places of the rows
 pub field-sum : (b : List ℕ) (f : ℕ → ℕ) (place w n m : ℕ) → ((k : ℕ) → place + w * k ≡ f k) → n ≡ m → sum (λ k. le16 b (place + w * k)) n ≡ sum (λ k. le16 b (f k)) m
 field-sum b f place w n m h e = ap (sum (λ k. le16 b (place + w * k))) e ∙ sum-same _ _ (λ k. ap (le16 b) (h k)) m

@@ -1,18 +1,19 @@
 -- Rows in a table, lists one after the other, and what a function makes of numbers in a row: where a row or a part stands, and how
 -- long what stands before it is. All of it is induction on the list or on how many there are, for any rows and any state.
 --     table-length, table-row     a table of rows of w bytes; row k of it
---     run-is, run-getD, run-add   a run is the list that it agrees with at each place
+--     run-is, run-getD            a run is the list that it agrees with at each place
+--     run-add, run-cut, run-next  a run in two parts; the first one, or one more at the end
 --     table-grows, concat-grows   what a run's rows or parts add up to, one after the other
 --     part-at                     where the part of element k stands
 -- Assumes nothing.
-use Prim.Native.Nat.{ℕ, zero, suc, _+_, _*_, _≤_, _<_}
+use Prim.Native.Nat.{ℕ, zero, suc, _+_, _*_, _-_, _≤_, _<_}
 use native.Mathlib.Nat.{not-suc-le-zero, add-zero, zero-add, suc-add, mul-suc, mul-zero, add-comm}
 use native.Mathlib.Numerals.{add-one}
 use native.Mathlib.Omega.{arith}
 use mathlib.Core.Path.{_≡_, refl, sym, ap, ap₂, _∙_}
-use mathlib.Core.List.{List, [], _∷_, _++_, append-assoc, append-nil}
+use mathlib.Core.List.{List, [], _∷_, _++_, map, append-assoc, append-nil}
 use lib.ListN.{length, getD, take, drop, length-append, take-append-drop, List·getD-append}
-use lib.Seq.{drop-cons, drop-at, take-suc, length-take-le, ext-getD, getD-append-add}
+use lib.Seq.{drop-cons, drop-at, take-at, take-suc, length-take-le, ext-getD, getD-append-add}
 use Rattle.block.specs.Encode.{table, concat}
 use Rattle.block.specs.Decode.{run}
 use Rattle.block.specs.Sound.{sum}
@@ -102,6 +103,39 @@ module _ {X : Type 0} (f : ℕ → X) where
       let e : k + 1 + m ≡ k + suc m = omega arith in
       ap (run f k) (suc-add m n) ∙ ap (λ (l : List X). f k ∷ l) (run-add (k + 1) m n ∙ ap (λ (j : ℕ). run f (k + 1) m ++ run f j n) e)
 
+  -- a front, and what is left
+  pub run-cut : (k i n : ℕ) → i ≤ n → run f k n ≡ run f k i ++ run f (k + i) (n - i)
+  run-cut k i n h = let e : n ≡ i + (n - i) = omega arith in ap (run f k) e ∙ run-add k i (n - i)
+
+  pub take-run : (k n : ℕ) → k ≤ n → take k (run f 0 n) ≡ run f 0 k
+  take-run k n h = ap (take k) (run-cut 0 k n h) ∙ take-at (run f 0 k) (run f (0 + k) (n - k)) k (length-run 0 k)
+
+  pub drop-run : (k n : ℕ) → k ≤ n → drop k (run f 0 n) ≡ run f k (n - k)
+  drop-run k n h =
+      ap (drop k) (run-cut 0 k n h)
+      ∙ drop-at (run f 0 k) (run f (0 + k) (n - k)) k (length-run 0 k)
+      ∙ ap (λ (i : ℕ). run f i (n - k)) (zero-add k)
+
+  -- the first one, then the others
+  pub run-suc : (k n : ℕ) → run f k (suc n) ≡ f k ∷ run f (k + 1) n
+  unfolding run
+  run-suc k n = refl
+
+  pub run-first : (k n : ℕ) → 1 ≤ n → run f k n ≡ f k ∷ run f (k + 1) (n - 1)
+  run-first k n h = let e : n ≡ suc (n - 1) = omega arith in ap (run f k) e ∙ run-suc k (n - 1)
+
+  -- so of what is left of n after i
+  pub run-next : (k n i : ℕ) → i < n → run f k (n - i) ≡ f k ∷ run f (k + 1) (n - (i + 1))
+  run-next k n i h = let e : n - i ≡ suc (n - (i + 1)) = omega arith in ap (run f k) e ∙ run-suc k (n - (i + 1))
+
+  pub run-end : (k n i : ℕ) → n ≤ i → run f k (n - i) ≡ []
+  run-end k n i h = let e : n - i ≡ 0 = omega arith in ap (run f k) e ∙ run-none k
+
+  -- one more at the end
+  pub run-more : (k n : ℕ) → run f k (n + 1) ≡ run f k n ++ (f (k + n) ∷ [])
+  unfolding run
+  run-more k n = run-add k n 1
+
   pub run-snoc : (n : ℕ) → run f 0 (suc n) ≡ run f 0 n ++ (f n ∷ [])
   unfolding run
   run-snoc n = ap (run f 0) (sym (add-one n)) ∙ run-add 0 n 1 ∙ ap (λ (j : ℕ). run f 0 n ++ (f j ∷ [])) (zero-add n)
@@ -113,6 +147,12 @@ module _ {X : Type 0} (f : ℕ → X) where
 
   pub run-all : (d : X) (n : ℕ) (xs : List X) → n ≡ length xs → ((i : ℕ) → i < length xs → f i ≡ getD xs i d) → run f 0 n ≡ xs
   run-all d n xs e h = ap (run f 0) e ∙ run-is d 0 xs (λ i l. ap f (zero-add i) ∙ h i l)
+
+  -- of what is made of the numbers, something is made
+  pub map-run : {Y : Type 0} (g : X → Y) (k n : ℕ) → map g (run f k n) ≡ run (λ (i : ℕ). g (f i)) k n
+  unfolding run
+  map-run g k zero = refl
+  map-run g k (suc n) = ap (λ l. g (f k) ∷ l) (map-run g (k + 1) n)
 
 -- ---- lists one after the other
 
@@ -180,6 +220,19 @@ module _ {X Y : Type 0} (part : X → List Y) where
   concat-sum d g xs e zero h = refl
   concat-sum d g xs e (suc k) h =
       ap₂ _+_ (concat-sum d g xs e k (omega arith)) (e k h) ∙ sym (concat-next d xs k h)
+
+-- the parts of a run
+module _ {X Y : Type 0} (part : X → List Y) (f : ℕ → X) (k : ℕ) where
+  pub concat-none : concat part (run f k 0) ≡ []
+  unfolding concat run
+  concat-none = refl
+
+  -- one more at the end
+  pub concat-more : (n : ℕ) → concat part (run f k (n + 1)) ≡ concat part (run f k n) ++ part (f (k + n))
+  concat-more n = ap (concat part) (run-more f k n) ∙ concat-snoc part (run f k n) (f (k + n))
+
+  pub concat-longer : (n : ℕ) → length (concat part (run f k (n + 1))) ≡ length (concat part (run f k n)) + length (part (f (k + n)))
+  concat-longer n = ap length (concat-more n) ∙ length-append (concat part (run f k n)) (part (f (k + n)))
 
 -- a state that counts: after some elements it has moved on by what their parts are long
 pub after-adds : {X Y : Type 0} (row : ℕ → X → List ℕ) (step : ℕ → X → ℕ) (part : X → List Y) → ((s : ℕ) (x : X) → step s x ≡ s + length (part x))

@@ -12,11 +12,10 @@ use borrow.Author.Tests.{eq-eqb, ne-eqb}
 use Rattle.lists.specs.Pick.{pick}
 use Rattle.block.specs.Model.{Noted, Line}
 use Rattle.block.specs.Decode.{run, linesIn, firstEntry, entryCount, notedIn, lineIn, decode}
-use Rattle.block.proofs.Tabling.{length-run}
+use Rattle.block.proofs.Tabling.{length-run, run-first, run-more, run-next, run-end}
 use Rattle.converter.specs.Entries.{canWrite}
 use Rattle.converter.specs.Show.{leftOut, onObstacle, handObstacle, entryObstacle, lineObstacle, linesObstacle, shown, ShownLines}
 use Rattle.converter.specs.declared.Obstacle.the-variants.{At, Clear}
-use Rattle.converter.proofs.Runs.{run-first, run-more}
 
 -- ---- hands
 
@@ -39,8 +38,7 @@ module _ (line : ℕ) (f : ℕ → Noted) (first count i : ℕ) where
   unfolding entryObstacle
   entry-more h =
       let e : first + i + 1 ≡ first + (i + 1) = omega arith in
-      let g : count - i - 1 ≡ count - (i + 1) = omega arith in
-      ap (entryObstacle line i) (run-first f (first + i) (count - i) (omega arith) ∙ ap (λ (j : ℕ). f (first + i) ∷ run f j (count - i - 1)) e ∙ ap (λ (n : ℕ). f (first + i) ∷ run f (first + (i + 1)) n) g)
+      ap (entryObstacle line i) (run-next f (first + i) count i h ∙ ap (λ (j : ℕ). f (first + i) ∷ run f j (count - (i + 1))) e)
 
   pub entry-first : entryObstacle line 0 (run f first count) ≡ entryObstacle line 0 (run f (first + 0) (count - 0))
   entry-first =
@@ -49,29 +47,20 @@ module _ (line : ℕ) (f : ℕ → Noted) (first count i : ℕ) where
       ap (λ (j : ℕ). entryObstacle line 0 (run f j count)) e ∙ ap (λ (n : ℕ). entryObstacle line 0 (run f (first + 0) n)) d
 
   pub entry-none : count ≤ i → entryObstacle line i (run f (first + i) (count - i)) ≡ Clear
-  unfolding entryObstacle run
-  entry-none h = let e : count - i ≡ 0 = omega arith in ap (λ (n : ℕ). entryObstacle line i (run f (first + i) n)) e
+  unfolding entryObstacle
+  entry-none h = ap (entryObstacle line i) (run-end f (first + i) count i h)
 
 -- ---- lines
 
 module _ (g : ℕ → Line) (n k : ℕ) where
-  next : k < n → run g k (n - k) ≡ g k ∷ run g (k + 1) (n - (k + 1))
-  next h =
-      let e : n - k - 1 ≡ n - (k + 1) = omega arith in
-      run-first g k (n - k) (omega arith) ∙ ap (λ (j : ℕ). g k ∷ run g (k + 1) j) e
-
-  none : n ≤ k → run g k (n - k) ≡ []
-  unfolding run
-  none h = let e : n - k ≡ 0 = omega arith in ap (run g k) e
-
   pub line-more : k < n
       → lineObstacle k (run g k (n - k)) ≡ onObstacle (entryObstacle k 0 (g k .entries)) (λ a b. At a b) (lineObstacle (k + 1) (run g (k + 1) (n - (k + 1))))
   unfolding lineObstacle
-  line-more h = ap (lineObstacle k) (next h)
+  line-more h = ap (lineObstacle k) (run-next g k n k h)
 
   pub line-none : n ≤ k → lineObstacle k (run g k (n - k)) ≡ Clear
   unfolding lineObstacle
-  line-none h = ap (lineObstacle k) (none h)
+  line-none h = ap (lineObstacle k) (run-end g k n k h)
 
   -- a variation that is shown, and one that ends what is shown
   pub shown-more : k < n → 1 ≤ k → (g k .start ≡ 0 → ⊥)
@@ -82,18 +71,18 @@ module _ (g : ℕ → Line) (n k : ℕ) where
       let d : 1 + (k - 1) ≡ k = omega arith in
       let m : run g 1 (k + 1 - 1) ≡ run g 1 (k - 1) ++ (g k ∷ []) =
       ap (run g 1) (sym e) ∙ run-more g 1 (k - 1) ∙ ap (λ (j : ℕ). run g 1 (k - 1) ++ (g j ∷ [])) d in
-      let s : shown (run g k (n - k)) ≡ g k ∷ shown (run g (k + 1) (n - (k + 1))) = ap shown (next h) ∙ rw (ne-eqb (g k .start) 0 ne) in
+      let s : shown (run g k (n - k)) ≡ g k ∷ shown (run g (k + 1) (n - (k + 1))) = ap shown (run-next g k n k h) ∙ rw (ne-eqb (g k .start) 0 ne) in
       ap (λ (ls : List Line). run g 1 (k - 1) ++ ls) s ∙ sym (ap (λ (ls : List Line). ls ++ shown (run g (k + 1) (n - (k + 1)))) m ∙ append-assoc (run g 1 (k - 1)) (g k ∷ []) (shown (run g (k + 1) (n - (k + 1)))))
 
   pub shown-stop : k < n → g k .start ≡ 0 → run g 1 (k - 1) ++ shown (run g k (n - k)) ≡ run g 1 (k - 1)
   unfolding shown
   shown-stop h z =
-      let s : shown (run g k (n - k)) ≡ [] = ap shown (next h) ∙ rw (eq-eqb (g k .start) 0 z) in
+      let s : shown (run g k (n - k)) ≡ [] = ap shown (run-next g k n k h) ∙ rw (eq-eqb (g k .start) 0 z) in
       ap (λ (ls : List Line). run g 1 (k - 1) ++ ls) s ∙ append-nil (run g 1 (k - 1))
 
   pub shown-none : n ≤ k → run g 1 (k - 1) ++ shown (run g k (n - k)) ≡ run g 1 (k - 1)
   unfolding shown
-  shown-none h = ap (λ (ls : List Line). run g 1 (k - 1) ++ ls) (ap shown (none h)) ∙ append-nil (run g 1 (k - 1))
+  shown-none h = ap (λ (ls : List Line). run g 1 (k - 1) ++ ls) (ap shown (run-end g k n k h)) ∙ append-nil (run g 1 (k - 1))
 
 -- what is found in a line's entries, once its row is read
 pub found-is : (b : List ℕ) (k f n : ℕ) → f ≡ firstEntry b k → n ≡ entryCount b k

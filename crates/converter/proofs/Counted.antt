@@ -4,31 +4,28 @@ use Prim.Native.Nat.{ℕ, _+_, _-_, _≤_, _<_}
 use native.Mathlib.Omega.{arith}
 use mathlib.Core.Path.{_≡_, ap, _∙_}
 use mathlib.Core.List.{List, _∷_}
-use lib.ListN.{length, drop, length-append, length-take}
+use lib.ListN.{length, drop, length-append}
 use Rattle.lent.specs.Numbers.{decimal}
 use Rattle.jkf.specs.Positions.{positionIn}
 use Rattle.block.specs.Model.{Noted, Line}
 use Rattle.block.specs.Encode.{concat}
-use Rattle.block.specs.Decode.{run, linesIn, movesIn, entryCount, commentLength, commentOf, notedIn, lineIn, decode}
+use Rattle.block.specs.Decode.{run, linesIn, entryCount, commentLength, commentOf, notedIn, lineIn, decode}
 use Rattle.block.specs.Sound.{Sound, entriesBefore}
-use Rattle.block.proofs.Sums.{sum-rises, sum-more}
+use Rattle.block.proofs.Sums.{sum-more}
+use Rattle.block.proofs.Within.{some-line, some-entry, first-none, comment-most}
+use Rattle.block.proofs.Tabling.{run-first, concat-none, concat-longer}
 use Rattle.converter.specs.Headers.{headersOf, headersText}
 use Rattle.converter.specs.Diagrams.{positionText}
 use Rattle.converter.specs.Entries.{remarkText, remarksText, notedText, entriesText}
 use Rattle.converter.specs.Show.{mainText, variationHead, variationText, shown, linesText, recordText, ShownLines}
 use Rattle.converter.proofs.Lengthy.{remark-most}
-use Rattle.converter.proofs.Runs.{run-first, concat-none, concat-more, remarks-none, remarks-more, entries-none, entries-more}
-use Rattle.converter.proofs.Within.{some-line, some-entry, first-none}
+use Rattle.converter.proofs.Runs.{remarks-none, remarks-more, entries-none, entries-more}
 
 -- ---- comments
 
 -- a comment of a block has at most 65535 bytes
 pub remark-within : (b : List ℕ) (k : ℕ) → commentLength b k < 65536 → length (remarkText (commentOf b k)) ≤ 65537
-unfolding commentOf
-remark-within b k h =
-    let n = commentLength b k in
-    let l : length (commentOf b k) ≤ n = simp length-take (omega arith) in
-    omega (arith, remark-most (commentOf b k))
+remark-within b k h = omega (arith, comment-most b k, remark-most (commentOf b k))
 
 module _ (g : ℕ → List ℕ) (k : ℕ) where
   -- none
@@ -67,8 +64,7 @@ module _ {X Y : Type 0} (part : X → List Y) (g : ℕ → X) where
         arith,
         ap (λ (j : ℕ). length (concat part (run g 1 j))) p,
         ap (λ (j : ℕ). length (part (g j))) q,
-        ap length (concat-more part g 1 (k - 1)),
-        length-append (concat part (run g 1 (k - 1))) (part (g (1 + (k - 1)))),
+        concat-longer part g 1 (k - 1),
       )
 
 -- ---- lines
@@ -90,10 +86,6 @@ pub main-parts : (b : List ℕ) → Sound b
 main-parts b s =
     main-first (lineIn b 0) (notedIn b 0) (run (notedIn b) 1 (entryCount b 0 - 1))
     (ap (λ (k : ℕ). run (notedIn b) k (entryCount b 0)) (first-none b s) ∙ run-first (notedIn b) 0 (entryCount b 0) (some-entry b s 0 (some-line b s)))
-
--- the lines before one have no more entries than there are
-pub entries-below : (b : List ℕ) → Sound b → (k : ℕ) → k ≤ linesIn b → entriesBefore b k ≤ movesIn b
-entries-below b s k h = omega (arith, sum-rises (λ k. entryCount b k) k (linesIn b) h, s .totals .1 .0)
 
 -- one line more
 pub entries-after : (b : List ℕ) (k : ℕ) → entriesBefore b (k + 1) ≡ entriesBefore b k + entryCount b k

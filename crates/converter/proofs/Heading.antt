@@ -1,5 +1,5 @@
 -- The lines of header entries as they grow: by one entry of the block, and by one leading key.
---     concat-more, concat-rises       what a run's parts add up to, one more at a time
+--     concat-rises                    what a run's parts add up to, one more at a time
 --     numbered-more, numbered-same    the entries with a number, one entry later
 --     lines-more, lines-same          their lines
 --     number-in, line-in              an entry whose texts are given
@@ -23,12 +23,11 @@ use Rattle.block.specs.Model.{Header}
 use Rattle.block.specs.Encode.{concat}
 use Rattle.block.specs.Decode.{run, headersIn, headerIn, keyOf, textPlace, keyOffset, keyLength, valueOffset, valueLength}
 use Rattle.block.proofs.Cuts.{key-in, value-in}
-use Rattle.block.proofs.Tabling.{run-add, run-snoc, concat-append, concat-snoc}
+use Rattle.block.proofs.Tabling.{run-add, run-snoc, concat-append, concat-snoc, concat-more}
 use Rattle.block.specs.Sound.{Sound}
 use Rattle.converter.specs.Headers.{leadingNumber, numbered, headerLine, linesOf, range, placedAt, headersOf, Placed}
 use Rattle.converter.proofs.Keyed.{one-key}
 use Rattle.converter.proofs.Ascending.{key-other}
-use Rattle.converter.proofs.Runs.{concat-more}
 
 -- ---- writing
 

@@ -1,8 +1,7 @@
 -- How long the parts of a line of play are: numbers by their digits, spellings by the number that they spell, and the rest by its parts.
 -- Assumes nothing.
-use Prim.Native.Nat.{ℕ, zero, suc, _+_, _*_, _-_, _/_, _≤_, _<_}
+use Prim.Native.Nat.{ℕ, zero, suc, _+_, _-_, _/_, _≤_, _<_}
 use native.Mathlib.Omega.{arith}
-use native.Mathlib.Decide.{decLt}
 use mathlib.Core.Path.{_≡_, refl, sym, ap, _∙_}
 use mathlib.Core.List.{List, [], _∷_}
 use mathlib.Core.Bool.{Bool, true, false, true≢false}
@@ -12,7 +11,7 @@ use borrow.Author.Tests.{eqb-true, ltb-true, leb-true, le-leb, eq-eqb, ne-eqb}
 use Rattle.lists.specs.Pick.{pick}
 use Rattle.lists.proofs.Laws.{by-pick, pick-both, range, range-at}
 use Rattle.lent.specs.Numbers.{decimal, padded}
-use Rattle.lent.proofs.Digits.{decimal-length-one, decimal-length-more, padded-length}
+use Rattle.lent.proofs.Digits.{decimal-length-one, decimal-length-more, digits-two, padded-length}
 use Rattle.spell.specs.Tables.{Spelling, moveKinds, numerals, files}
 use Rattle.spell.specs.Spell.{spelled}
 use Rattle.spell.proofs.Keys.{digit-unspelled}
@@ -32,34 +31,6 @@ use Rattle.jkf.proofs.EntriesBack.{special-back}
 use Rattle.converter.specs.Entries.{targetText, promoteText, originText, moveText, specialText, hour, minute, second, nowText, totalText, timeText, playText, widthOf, entryLine, starText, remarkText, within}
 
 -- ---- numbers
-
--- a number of one digit more is ten times as large
-more-digits : (m k : ℕ) → 1 ≤ k → ((v : ℕ) → v < m → length (decimal v) ≤ k) → (v : ℕ) → v < 10 * m → length (decimal v) ≤ k + 1
-more-digits m k p f v h = go (decLt v 10)
-  where
-    go : Dec (v < 10) → length (decimal v) ≤ k + 1
-    go (yes l) = omega (arith, decimal-length-one v l)
-    go (no l) = let g : 10 ≤ v = omega arith in omega (arith, decimal-length-more v g, f (v / 10) (omega arith))
-
--- below 10 there is one digit, and so on
-pub digits-one : (v : ℕ) → v < 10 → length (decimal v) ≤ 1
-digits-one v h = omega (arith, decimal-length-one v h)
-
--- below 100
-pub digits-two : (v : ℕ) → v < 100 → length (decimal v) ≤ 2
-digits-two = more-digits 10 1 (omega arith) digits-one
-
--- below 1000
-pub digits-three : (v : ℕ) → v < 1000 → length (decimal v) ≤ 3
-digits-three = more-digits 100 2 (omega arith) digits-two
-
--- below 100000
-pub digits-five : (v : ℕ) → v < 100000 → length (decimal v) ≤ 5
-digits-five = more-digits 10000 4 (omega arith) (more-digits 1000 3 (omega arith) digits-three)
-
--- below 1000000
-pub digits-six : (v : ℕ) → v < 1000000 → length (decimal v) ≤ 6
-digits-six = more-digits 100000 5 (omega arith) digits-five
 
 -- a padded number is as long as the width
 pub padded-wide : (w v : ℕ) → length (decimal v) ≤ w → (fill : ℕ) → w ≡ length (padded w fill v)

@@ -1,4 +1,3 @@
-pub mod Room
 pub mod Runs
 pub mod Ranged
 pub mod Keyed
@@ -8,7 +7,6 @@ pub mod Measuring
 pub mod Cased
 pub mod Bounded
 pub mod Worded
-pub mod Within
 pub mod Playing
 pub mod Lengthy
 pub mod Usually

@@ -6,19 +6,18 @@ use native.Mathlib.Omega.{arith}
 use native.Mathlib.Decide.{decLt}
 use mathlib.Core.Path.{_≡_, refl, ap, _∙_}
 use mathlib.Core.List.{List, [], _∷_, _++_}
-use lib.ListN.{length, drop, length-append, length-drop}
-use lib.Seq.{length-take-le}
+use lib.ListN.{length, length-append}
 use borrow.Author.Tests.{eq-eqb, ne-eqb}
 use Rattle.text.specs.Text.{wideColon}
 use Rattle.block.specs.Model.{Header}
 use Rattle.block.specs.Encode.{concat}
-use Rattle.block.specs.Decode.{run, headersIn, headerIn, keyOf, valueOf, keyLength, valueLength, keyOffset, valueOffset, textPlace}
+use Rattle.block.specs.Decode.{run, headersIn, headerIn, keyLength, valueLength}
 use Rattle.block.specs.Sound.{Sound, headerBytes}
-use Rattle.block.proofs.Sums.{sum-none, sum-suc, sum-within}
-use Rattle.block.proofs.Tabling.{run-snoc, concat-snoc}
+use Rattle.block.proofs.Sums.{sum-none, sum-suc}
+use Rattle.block.proofs.Tabling.{run-snoc, concat-snoc, concat-none}
+use Rattle.block.proofs.Within.{key-length, value-length}
 use Rattle.converter.specs.Headers.{leadingNumber, numbered, headerLine, linesOf, headersText, headersOf, range}
 use Rattle.converter.proofs.Keyed.{leading-most}
-use Rattle.converter.proofs.Runs.{concat-none}
 
 -- ---- each entry is written once
 
@@ -108,24 +107,6 @@ headers-once (h ∷ hs) = omega (arith, text-more h hs, headers-once hs, length-
 -- ---- the entries of a sound block
 
 module _ (b : List ℕ) (s : Sound b) where
-  -- their keys are as long as their rows say
-  pub key-length : (k : ℕ) → k < headersIn b → length (keyOf b k) ≡ keyLength b k
-  unfolding keyOf
-  key-length k h =
-      let w = sum-within (λ k. keyLength b k + valueLength b k) k (headersIn b) h in
-      let o = s .headers k h .0 in
-      let t = s .totals .1 .1 .1 in
-      length-take-le (keyLength b k) (drop (textPlace b + keyOffset b k) b) (simp length-drop (omega arith))
-
-  -- so are their values
-  pub value-length : (k : ℕ) → k < headersIn b → length (valueOf b k) ≡ valueLength b k
-  unfolding valueOf
-  value-length k h =
-      let w = sum-within (λ k. keyLength b k + valueLength b k) k (headersIn b) h in
-      let o = s .headers k h .1 .0 in
-      let t = s .totals .1 .1 .1 in
-      length-take-le (valueLength b k) (drop (textPlace b + valueOffset b k) b) (simp length-drop (omega arith))
-
   -- the lines of the first n
   lines-length : (n : ℕ) → n ≤ headersIn b → length (concat headerLine (run (headerIn b) 0 n)) ≡ headerBytes b n + 4 * n
   lines-length zero h = ap length (concat-none headerLine (headerIn b) 0) ∙ omega (arith, sum-none (λ k. keyLength b k + valueLength b k))
@@ -137,8 +118,8 @@ module _ (b : List ℕ) (s : Sound b) where
         arith,
         lines-length n (omega arith),
         line-length (headerIn b n),
-        key-length n h,
-        value-length n h,
+        key-length b s n h,
+        value-length b s n h,
         sum-suc (λ k. keyLength b k + valueLength b k) n,
       )
 

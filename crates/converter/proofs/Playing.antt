@@ -12,10 +12,11 @@ use Rattle.block.specs.Encode.{concat}
 use Rattle.block.specs.Decode.{decode, run, movePlace, linesIn, startOf, firstEntry, entryCount, firstComment, commentCount, commentOf, notedIn, lineIn}
 use Rattle.block.specs.Sound.{Sound}
 use Rattle.block.proofs.Lining.{le16-drop}
+use Rattle.block.proofs.Within.{some-line, some-entry, first-none}
+use Rattle.block.proofs.Tabling.{run-first}
 use Rattle.converter.specs.Entries.{entryLine, remarksText, notedText, entriesText}
 use Rattle.converter.specs.Show.{numberLine, slotComments, mainText, variationHead, variationText, linesText, ShownLines}
-use Rattle.converter.proofs.Runs.{run-first, remarks-none}
-use Rattle.converter.proofs.Within.{some-line, some-entry, first-none}
+use Rattle.converter.proofs.Runs.{remarks-none}
 
 -- a number of an entry's row
 pub row-number : (b : List ℕ) (k i : ℕ) {row : List ℕ} {n : ℕ} → row ≡ drop (movePlace b k) b → n ≡ le16 row i → n ≡ le16 b (movePlace b k + i)

@@ -14,7 +14,7 @@ use Rattle.block.specs.Encode.{concat}
 use Rattle.block.specs.Decode.{run}
 use Rattle.block.proofs.Tabling.{run-snoc, run-add, concat-append, concat-snoc}
 use Rattle.converter.specs.Headers.{range}
-use Rattle.converter.proofs.Room.{room-after}
+use Rattle.lent.proofs.Room.{room-after}
 
 module _ (f : ℕ → List ℕ) where
   -- the texts of the numbers below n

@@ -1,7 +1,7 @@
--- What a function makes of numbers in a row, one more at a time or the first one first, and the texts of such rows: of comments, of entries
--- and of any parts. A front of the whole is no longer than it.
---     run-first, concat-first      the first one, then the others
---     run-more, ..-more            one more at the end
+-- The texts of what a function makes of numbers in a row, one more at a time or the first one first: of comments, of entries and of any parts.
+-- A front of the whole is no longer than it.
+--     concat-first                 the first one, then the others
+--     ..-more                      one more at the end
 --     ..-front                     the front and the piece after it are no longer than the whole
 --     ..-step                      the piece was written after the front
 -- Assumes nothing.
@@ -17,46 +17,16 @@ use Rattle.lent.proofs.Writes.{as-text, then}
 use Rattle.block.specs.Model.{Noted}
 use Rattle.block.specs.Encode.{concat}
 use Rattle.block.specs.Decode.{run}
-use Rattle.block.proofs.Tabling.{length-run, run-add, concat-append, concat-snoc}
+use Rattle.block.proofs.Tabling.{length-run, run-cut, run-first, run-more, concat-append, concat-none, concat-more, concat-longer}
 use Rattle.converter.specs.Entries.{remarkText, remarksText, notedText, entriesText}
-
--- ---- runs
-
-module _ {X : Type 0} (g : ℕ → X) (k : ℕ) where
-  -- the first one, then the others
-  pub run-suc : (n : ℕ) → run g k (suc n) ≡ g k ∷ run g (k + 1) n
-  unfolding run
-  run-suc n = refl
-
-  -- the same, of at least one
-  pub run-first : (n : ℕ) → 1 ≤ n → run g k n ≡ g k ∷ run g (k + 1) (n - 1)
-  run-first n h = let e : n ≡ suc (n - 1) = omega arith in ap (run g k) e ∙ run-suc (n - 1)
-
-  -- one more at the end
-  pub run-more : (n : ℕ) → run g k (n + 1) ≡ run g k n ++ (g (k + n) ∷ [])
-  unfolding run
-  run-more n = run-add g k n 1
-
-  -- a front, and what is left
-  pub run-cut : (i n : ℕ) → i ≤ n → run g k n ≡ run g k i ++ run g (k + i) (n - i)
-  run-cut i n h = let e : n ≡ i + (n - i) = omega arith in ap (run g k) e ∙ run-add g k i (n - i)
 
 -- ---- lists one after the other
 
 module _ {X Y : Type 0} (part : X → List Y) (g : ℕ → X) (k : ℕ) where
-  -- of none there is nothing
-  pub concat-none : concat part (run g k 0) ≡ []
-  unfolding concat run
-  concat-none = refl
-
   -- the first one's part, then the others'
   pub concat-first : (n : ℕ) → 1 ≤ n → concat part (run g k n) ≡ part (g k) ++ concat part (run g (k + 1) (n - 1))
   unfolding concat
   concat-first n h = ap (concat part) (run-first g k n h)
-
-  -- one more at the end
-  pub concat-more : (n : ℕ) → concat part (run g k (n + 1)) ≡ concat part (run g k n) ++ part (g (k + n))
-  concat-more n = ap (concat part) (run-more g k n) ∙ concat-snoc part (run g k n) (g (k + n))
 
   -- a front and the part after it are no longer than the whole
   pub concat-front : (i n : ℕ) → i < n → length (concat part (run g k i)) + length (part (g (k + i))) ≤ length (concat part (run g k n))
@@ -68,8 +38,7 @@ module _ {X Y : Type 0} (part : X → List Y) (g : ℕ → X) (k : ℕ) where
         e,
         f,
         length-append (concat part (run g k (i + 1))) (concat part (run g (k + (i + 1)) (n - (i + 1)))),
-        ap length (concat-more i),
-        length-append (concat part (run g k i)) (part (g (k + i))),
+        concat-longer part g k i,
       )
 
 -- ---- comments

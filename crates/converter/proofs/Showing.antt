@@ -6,9 +6,8 @@ use mathlib.Core.Bool.{true, false}
 use Prim.Native.Nat.{ℕ, _≤_, _<_}
 use lib.ListN.{length, drop}
 use borrow.Author.Tests.{lt-ltb, le-ltb}
-use Rattle.jkf.specs.Answers.{Outcome, refuse}
+use Rattle.jkf.specs.Answers.{refuse}
 use Rattle.jkf.specs.Positions.{positionIn}
-use Rattle.jkf.specs.declared.Answer.{Answer}
 use Rattle.jkf.specs.declared.Answer.the-variants.{Done, BufferShort, NotSound, HandCount, CannotWrite}
 use Rattle.block.specs.Model.{Record}
 use Rattle.block.specs.Decode.{decode}
@@ -19,11 +18,7 @@ use Rattle.converter.specs.Show.{text, refused, onObstacle, handsObstacl
 use Rattle.converter.specs.Writing.{filledWith, shownOf, writeOf}
 use Rattle.converter.specs.declared.Obstacle.{Obstacle}
 use Rattle.converter.specs.declared.Obstacle.the-variants.{At, Clear}
-use Rattle.converter.proofs.Room.{room-as, room-front}
-
--- an outcome under another name
-pub told : {x y : Outcome} {a : Answer} {o : List ℕ} → y ≡ x → (a ≡ x .answer) × (o ≡ x .buffer) → (a ≡ y .answer) × (o ≡ y .buffer)
-told e p = rw e p
+use Rattle.lent.proofs.Room.{room-as, room-front}
 
 -- ---- refusals in their order
 

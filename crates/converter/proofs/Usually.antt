@@ -28,8 +28,9 @@ use Rattle.jkf.specs.declared.Entry.the-variants.{Play}
 use Rattle.moves.specs.Moves.{sameWord, promotes}
 use Rattle.converter.specs.Entries.{targetText, promoteText, originText, moveText, moveWidth, nowText, totalText, timeText, playText, widthOf, entryLine, padding, within, targetFits, timeFits, canWrite}
 use Rattle.converter.specs.Usuals.{UsualRow, isLong, spaced, startText, nameText, clocksText}
-use Rattle.converter.proofs.Room.{room-front, room-as}
-use Rattle.converter.proofs.Lengthy.{digits-three, padded-wide, figure-two, place-three, kind-plain, kind-long, same-length, square-length, promote-three, promote-none, from-length, move-length, now-parts, total-parts, timed-length, entry-parts}
+use Rattle.lent.proofs.Room.{room-front, room-as}
+use Rattle.lent.proofs.Digits.{digits-three}
+use Rattle.converter.proofs.Lengthy.{padded-wide, figure-two, place-three, kind-plain, kind-long, same-length, square-length, promote-three, promote-none, from-length, move-length, now-parts, total-parts, timed-length, entry-parts}
 
 -- ---- numbers
 

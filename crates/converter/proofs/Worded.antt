@@ -27,7 +27,7 @@ use Rattle.jkf.specs.declared.Move.{Move}
 use Rattle.jkf.specs.declared.Entry.{Entry}
 use Rattle.block.specs.Sound.{same}
 use Rattle.converter.specs.Entries.{targetText, promoteText, originText, moveText, kindWidth, promoteWidth, originWidth, specialText, specialWidth, hour, minute, second, figureText, nowText, totalText, timeText, playText, widthOf, entryLine}
-use Rattle.converter.proofs.Room.{room-front}
+use Rattle.lent.proofs.Room.{room-front}
 
 -- ---- room
 

@@ -2,9 +2,9 @@
 -- Assumes nothing.
 use Prim.Native.Nat.{ℕ, _+_, _*_, _-_, _≤_, _<_}
 use native.Mathlib.Omega.{arith}
-use mathlib.Core.Path.{_≡_, refl, sym, ap, ap₂, _∙_, subst}
+use mathlib.Core.Path.{_≡_, sym, ap, ap₂, _∙_, subst}
 use mathlib.Core.List.{List, [], _++_}
-use mathlib.Core.Bool.{Bool, true, false}
+use mathlib.Core.Bool.{true}
 use lib.ListN.{length, take, drop, length-append, length-drop}
 use lib.Seq.{length-take-le}
 use lib.Dec.{eqb, ltb}
@@ -13,7 +13,7 @@ use Rattle.block.specs.Attach.{Play, attach}
 use Rattle.block.specs.Encode.{table, lineRow, lineStep}
 use Rattle.block.specs.Decode.{linesIn, decode}
 use Rattle.block.specs.Sound.{Sound}
-use Rattle.parser.specs.Plays.{entriesAt, plyAt}
+use Rattle.parser.specs.Plays.{plyAt}
 use Rattle.parser.specs.Filling.{extentAt}
 use Rattle.parser.specs.declared.Extent.{Extent}
 use Rattle.edit.specs.Edit.{playsIn, fresh, isVariation, variationOf, placeOf, putIn, none, line, changedFrom, removedFrom, without}
@@ -21,22 +21,10 @@ use Rattle.edit.specs.Splicing.{linesOf, spliced, linesAfter, recordAfte
 use Rattle.edit.proofs.Placing.{PutsIn, put-length}
 use Rattle.edit.proofs.Keeping.{still-lines}
 use Rattle.edit.proofs.Texts.{text-small, no-lines, one-variation, adds-text, lines-long}
-use Rattle.edit.proofs.Sounds.{lines-few, plays-long, put-fits, cut-fits}
-
--- ---- what was counted in the text
-
-module _ {x : Extent} (t : List ℕ) (e : x ≡ extentAt t 0) where
-  pub start-is : x .start ≡ plyAt t 0
-  unfolding extentAt
-  start-is = ap (λ (x : Extent). x .start) e
-
-  pub entries-are : x .entries ≡ length (entriesAt t 0 .state)
-  unfolding extentAt
-  entries-are = ap (λ (x : Extent). x .entries) e
-
-  pub end-is : x .next .at ≡ entriesAt t 0 .at
-  unfolding extentAt
-  end-is = ap (λ (x : Extent). x .next .at) e
+use Rattle.edit.proofs.Sounds.{lines-few, put-fits, cut-fits}
+use Rattle.edit.proofs.Played.{plays-long}
+use Rattle.edit.proofs.Rowing.{next-is}
+use Rattle.edit.proofs.Measured.{start-is, entries-are}
 
 -- ---- the rows
 
@@ -47,10 +35,6 @@ module _ {ps : List Play} {rows : List ℕ} {n : ℕ} (e : n ≡ length ps) (w :
 
   pub rows-are : take (8 * n) rows ≡ table lineRow lineStep 0 (attach ps)
   rows-are = ap (λ (i : ℕ). take (8 * i) rows) e ∙ w .bytes
-
-one-more : (t : Bool) (p : ℕ) → pick t p (p + 1) ≡ p + pick t 0 1
-one-more true p = omega arith
-one-more false p = refl
 
 module _ (b : List ℕ) (s : Sound b) (p q : ℕ) (t : List ℕ) (h : p ≤ q) (l : q ≤ linesIn b) {x : Extent} (e : x ≡ extentAt t 0) where
   abbrev ps : List Play
@@ -63,13 +47,13 @@ module _ (b : List ℕ) (s : Sound b) (p q : ℕ) (t : List ℕ) (h : p ≤ q) (
   after-long d =
       omega (
         arith,
-        one-more (eqb (x .entries) 0) p,
+        next-is (eqb (x .entries) 0) p,
         new-long,
         length-append (take p ps) (linesOf t ++ drop q ps),
         length-append (linesOf t) (drop q ps),
-        length-take-le p ps (omega (arith, plays-long b s)),
+        length-take-le p ps (omega (arith, plays-long b)),
         length-drop q ps,
-        plays-long b s,
+        plays-long b,
       )
 
   -- what is promised of any new lines holds of those of the text
@@ -109,7 +93,7 @@ module _ (b : List ℕ) (n : ℕ) (t : List ℕ) (v : isVariation t ≡ true) wh
         → changedFrom (putIn n (variationOf t) (playsIn (decode b .lines))) n 0 (decode b .lines) ≡ pick (ltb r (linesIn b)) (line r) none
     put-changed {rows} r w g =
         g (putIn n (variationOf t) (playsIn (decode b .lines))) (subst (λ (ps : List Play). AllRowed ps rows) put-lines w)
-        (omega (arith, put-length (playsIn (decode b .lines)) n (variationOf t) (omega (arith, plays-long b s)), plays-long b s))
+        (omega (arith, put-length (playsIn (decode b .lines)) n (variationOf t) (omega (arith, plays-long b)), plays-long b))
 
 -- at its place it hangs, and all others do
 pub put-still : (ps : List Play) (k : ℕ) (v : Play) {j n : ℕ} → j ≡ v .start → n ≡ placeOf ps k j → PutsIn ps k j → Lines (putIn n v ps)

@@ -5,8 +5,7 @@ use Prim.Native.Nat.{ℕ, zero, suc, _+_, _*_, _-_, _/_, _≤_, _<_}
 use native.Mathlib.Omega.{arith}
 use mathlib.Core.Path.{_≡_, refl, sym, ap, ap₂, _∙_, subst}
 use mathlib.Core.List.{List, _++_}
-use lib.ListN.{length, drop, length-append, length-drop}
-use lib.Seq.{length-take-le}
+use lib.ListN.{length, drop, length-append}
 use borrow.Author.Tests.{lt-ltb, le-ltb}
 use borrow.Rule.Slice.PartMut.{midOf, putMid}
 use Rattle.lent.specs.Bytes.{Wrote, fitting}
@@ -21,12 +20,13 @@ use Rattle.jkf.proofs.PositionsBack.{position-length}
 use Rattle.block.specs.Model.{Header, Noted, Line}
 use Rattle.block.specs.Attach.{attach}
 use Rattle.block.specs.Encode.{table, lineRow, lineStep, headBytes, blockLength, headerText, entriesOf, commentsOf, commentText, encodeFlat, encode}
-use Rattle.block.specs.Decode.{run, headersIn, linesIn, textPlace, keyOffset, keyLength, valueOffset, valueLength, keyOf, valueOf, headerIn, decode}
+use Rattle.block.specs.Decode.{run, headersIn, linesIn, keyLength, valueLength, keyOf, valueOf, headerIn, decode}
 use Rattle.block.specs.Sound.{Sound, headerBytes}
-use Rattle.block.proofs.Sums.{sum-none, sum-suc, sum-within}
-use Rattle.block.proofs.Tabling.{table-length, length-run, run-snoc, concat-snoc}
+use Rattle.block.proofs.Sums.{sum-none, sum-suc}
+use Rattle.block.proofs.Tabling.{table-length, length-run, run-snoc, concat-snoc, concat-none}
 use Rattle.block.proofs.Rows.{line-wide}
 use Rattle.block.proofs.Lengths.{head-length, block-length}
+use Rattle.block.proofs.Within.{key-length, value-length}
 use Rattle.parser.specs.Filling.{entryTexts, entryEnds, HeadersFit, Headed, LinesFit}
 use Rattle.parser.specs.declared.Heads.{Heads}
 use Rattle.parser.specs.declared.Walk.{Walk}
@@ -37,31 +37,14 @@ use Rattle.parser.proofs.Wholes.{head, linePlace, movePlace, commentPlace, text
 use Rattle.edit.specs.Edit.{fresh}
 use Rattle.edit.specs.Editing.{storedOf}
 use Rattle.edit.specs.Splicing.{linesAfter, recordAfter, entriesAfter, sizesOf, Unfilled}
-use Rattle.edit.proofs.Rests.{parts-none}
 use Rattle.edit.proofs.Sounds.{entries-after}
 
 -- ---- the header entries of a sound block
 
 module _ (b : List ℕ) (s : Sound b) where
-  header-within : (k : ℕ) → k < headersIn b → textPlace b + headerBytes b k + (keyLength b k + valueLength b k) ≤ length b
-  header-within k h = omega (arith, sum-within (λ k. keyLength b k + valueLength b k) k (headersIn b) h, s .totals .1 .1 .1)
-
-  -- also in laws Held
-  key-length : (k : ℕ) → k < headersIn b → length (keyOf b k) ≡ keyLength b k
-  unfolding keyOf
-  key-length k h =
-      length-take-le (keyLength b k) (drop (textPlace b + keyOffset b k) b)
-      (omega (arith, length-drop (textPlace b + keyOffset b k) b, header-within k h, s .headers k h .0))
-
-  value-length : (k : ℕ) → k < headersIn b → length (valueOf b k) ≡ valueLength b k
-  unfolding valueOf
-  value-length k h =
-      length-take-le (valueLength b k) (drop (textPlace b + valueOffset b k) b)
-      (omega (arith, length-drop (textPlace b + valueOffset b k) b, header-within k h, s .headers k h .1 .0))
-
   -- their texts are as long as their rows say
   texts-long : (n : ℕ) → n ≤ headersIn b → headerBytes b n ≡ length (headerText (run (headerIn b) 0 n))
-  texts-long zero h = sum-none (λ k. keyLength b k + valueLength b k) ∙ sym (ap length (parts-none (λ (x : Header). x .key ++ x .value) (headerIn b) 0))
+  texts-long zero h = sum-none (λ k. keyLength b k + valueLength b k) ∙ sym (ap length (concat-none (λ (x : Header). x .key ++ x .value) (headerIn b) 0))
   texts-long (suc n) h =
       let hs = run (headerIn b) 0 n in
       let key = keyOf b n in
@@ -69,9 +52,14 @@ module _ (b : List ℕ) (s : Sound b) where
       let e : length (headerText (run (headerIn b) 0 (suc n))) ≡ length (headerText hs) + length (key ++ value) =
       ap (λ (l : List Header). length (headerText l)) (run-snoc (headerIn b) n)
       ∙ ap length (concat-snoc (λ (x : Header). x .key ++ x .value) hs (headerIn b n)) ∙ length-append (headerText hs) (key ++ value) in
-      omega (arith, e, length-append key value, key-length n (omega arith), value-length n (omega arith), texts-long n (omega arith), sum-suc (λ k. keyLength b k + valueLength b k) n)
+      omega (arith, e, length-append key value, key-length b s n (omega arith), value-length b s n (omega arith), texts-long n (omega arith), sum-suc (λ k. keyLength b k + valueLength b k) n)
 
 -- ---- the block of the edited record
+
+-- a position that is read has all its bytes
+pub position-long : (b : List ℕ) → length (positionBytes (positionIn (drop 28 b))) ≡ 100
+unfolding positionIn
+position-long b = position-length (positionIn (drop 28 b)) (bytes-length (drop 28 b) 4 81) (bytes-length (drop 28 b) 85 14)
 
 module _ (b : List ℕ) (s : Sound b) (p q : ℕ) (t : List ℕ) (within : (p ≤ q) × (q ≤ linesIn b)) where
   abbrev hd : List Header
@@ -86,14 +74,10 @@ module _ (b : List ℕ) (s : Sound b) (p q : ℕ) (t : List ℕ) (within : (p �
   abbrev block : List ℕ
   block = encode (recordAfter b p q t)
 
-  position-long : length (positionBytes start) ≡ 100
-  unfolding positionIn
-  position-long = position-length start (bytes-length (drop 28 b) 4 81) (bytes-length (drop 28 b) 85 14)
-
   block-long : length block
       ≡ blockLength (length hd) (length ls) (length (entriesOf ls)) (length (commentsOf (entriesOf ls))) (length (headerText hd) + length (commentText (commentsOf (entriesOf ls))))
   unfolding fresh decode
-  block-long = block-length (recordAfter b p q t) position-long
+  block-long = block-length (recordAfter b p q t) (position-long b)
 
   block-is : encodeFlat 1 (positionBytes start) hd ls (entriesOf ls) (commentsOf (entriesOf ls)) ≡ block
   unfolding encode fresh decode
@@ -162,7 +146,7 @@ module _ (b : List ℕ) (s : Sound b) (p q : ℕ) (t : List ℕ) (within : (p �
           → Wrote (fitting (positionBytes y) (midOf 28 (length o₁ - 28) o₁)) (midOf 28 (length o₁ - 28) o₁) x j
           → putMid 28 (length o₁ - 28) o₁ x ≡ put o 0 (front ++ positionBytes start)
       front-stored {o₁} {x} {r} {j} {y} e one two =
-          front-put front start o (head-length 1 n m (z .lines) (z .entries) (z .comments)) head-room position-long (head-stored one)
+          front-put front start o (head-length 1 n m (z .lines) (z .entries) (z .comments)) head-room (position-long b) (head-stored one)
           (subst (λ (a : Position). Wrote (fitting (positionBytes a) (midOf 28 (length o₁ - 28) o₁)) (midOf 28 (length o₁ - 28) o₁) x j) e two)
 
       module _ {o₁ : List ℕ} (one : o₁ ≡ put o 0 (front ++ positionBytes start)) where
@@ -183,7 +167,7 @@ module _ (b : List ℕ) (s : Sound b) (p q : ℕ) (t : List ℕ) (within : (p �
             heads k = record { rows = 128; text = k; bytes = 0 }
 
         pub headers-fit : HeadersFit hd begins o₁
-        headers-fit = headers-room n start hd ls position-long o size (fits .2) o₁ first-is begins begins-is (fits .1)
+        headers-fit = headers-room n start hd ls (position-long b) o size (fits .2) o₁ first-is begins begins-is (fits .1)
 
         module _ {r : Heads} {o₂ : List ℕ} (two : Headed hd begins r o₁ o₂) where
           abbrev walk : Walk
@@ -205,7 +189,7 @@ module _ (b : List ℕ) (s : Sound b) (p q : ℕ) (t : List ℕ) (within : (p �
               walked i j = record { moves = i; comments = j; text = r .text; entries = 0; noted = 0; bytes = r .bytes; next = cursor 0 }
 
           lines-fit : LinesFit ls (linePlace n start hd ls) walk o₂
-          lines-fit = lines-room n start hd ls position-long o size (fits .2) o₁ first-is begins r o₂ begins-is two walk (cursor 0) walk-is (fits .1)
+          lines-fit = lines-room n start hd ls (position-long b) o size (fits .2) o₁ first-is begins r o₂ begins-is two walk (cursor 0) walk-is (fits .1)
 
           -- the rows of the lines
           module _ {rows : List ℕ} (rows-are : rows ≡ table lineRow lineStep 0 ls) {o₃ : List ℕ} {e : ℕ}
@@ -233,7 +217,7 @@ module _ (b : List ℕ) (s : Sound b) (p q : ℕ) (t : List ℕ) (within : (p �
 
             pub block-stored : {o₄ : List ℕ} → o₄ ≡ puts o₃ (entryEnds walk) (entryTexts 0 (walk .bytes) (entriesAfter b p q t)) → o₄ ≡ block ++ drop n o
             block-stored {o₄} q =
-                block-filled n start hd ls position-long o size (fits .2) o₁ first-is begins r o₂ begins-is two walk (cursor 0) walk-is
+                block-filled n start hd ls (position-long b) o size (fits .2) o₁ first-is begins r o₂ begins-is two walk (cursor 0) walk-is
                 (q ∙ ap (λ (es : List Noted). puts o₃ (entryEnds walk) (entryTexts 0 (walk .bytes) es)) (sym entries-are)
                 ∙ ap (λ (u : List ℕ). puts u (entryEnds walk) (entryTexts 0 (walk .bytes) (entriesOf ls))) (rows-put ∙ ap₂ (put o₂) line-place rows-are))
                 ∙ ap (λ (l : List ℕ). l ++ drop n o) block-is

@@ -5,11 +5,10 @@
 use Prim.Native.Nat.{ℕ, _+_, _*_, _-_, _≤_, _<_}
 use native.Mathlib.Omega.{arith}
 use native.Mathlib.Decide.{decLt}
-use mathlib.Core.Path.{_≡_, sym, ap, ap₂, _∙_}
+use mathlib.Core.Path.{_≡_, sym, ap, _∙_}
 use mathlib.Core.List.{List}
 use mathlib.Core.Bool.{Bool}
-use lib.ListN.{length, take}
-use lib.Seq.{getD-take}
+use lib.ListN.{length}
 use lib.Dec.{ltb}
 use borrow.Author.Tests.{eq-eqb, ne-eqb, lt-ltb, le-ltb}
 use Rattle.lists.specs.Pick.{pick}
@@ -18,13 +17,14 @@ use Rattle.jkf.proofs.Nears.{near-before}
 use Rattle.block.specs.Model.{Line}
 use Rattle.block.specs.Attach.{Play, starts, parentIn, attach}
 use Rattle.block.specs.Decode.{run, linesIn, parentOf, lineIn, decode}
+use Rattle.block.proofs.Tabling.{run-next, run-end}
+use Rattle.block.proofs.Lining.{le16-take}
 use Rattle.parser.proofs.Hung.{attach-length, attach-line, parent-first}
 use Rattle.parser.proofs.Rowed.{parent-back}
 use Rattle.edit.specs.Edit.{renumbered, none, line, changedFrom}
 use Rattle.edit.specs.Splicing.{AllRowed}
 use Rattle.edit.proofs.Nearing.{renumbered-low, renumbered-high}
 use Rattle.edit.proofs.Placing.{parent-near}
-use Rattle.edit.proofs.Played.{run-next, run-end}
 
 -- a new number is at most one more
 pub renumbered-near : (n i : ℕ) → renumbered n i ≤ i + 1
@@ -35,11 +35,6 @@ renumbered-near n i = go (decLt i n)
     go (no h) = omega (arith, renumbered-high n i (omega arith))
 
 -- ---- a line's row
-
--- a number of two bytes in the front of a list
-front-number : (l : List ℕ) (n at : ℕ) → at + 1 < n → le16 l at ≡ le16 (take n l) at
-front-number l n at h =
-    sym (ap₂ (λ (x y : ℕ). x + 256 * y) (getD-take n l at 0 (omega arith)) (getD-take n l (at + 1) 0 h))
 
 module _ (ps : List Play) (rows : List ℕ) (w : AllRowed ps rows) where
   -- a parent stands before its line
@@ -53,7 +48,7 @@ module _ (ps : List Play) (rows : List ℕ) (w : AllRowed ps rows) where
   pub parent-read : (k : ℕ) → k < length ps → le16 rows (8 * k + 6) ≡ parentIn ps k
   parent-read k h =
       let e = ap (λ (l : Line). l .parent) (attach-line ps k h) in
-      front-number rows (8 * length ps) (8 * k + 6) (omega arith)
+      sym (le16-take rows (8 * length ps) (8 * k + 6) (omega arith))
       ∙ ap (λ (l : List ℕ). le16 l (8 * k + 6)) (w .bytes)
       ∙ parent-back 0 (attach ps) k (omega (arith, attach-length ps)) (omega (arith, e, parent-small k h))
       ∙ e
@@ -70,7 +65,7 @@ module _ (b : List ℕ) (n lines : ℕ) (e : lines ≡ linesIn b) where
     pub changed-none : lines ≤ i → changedFrom ps n i (run (lineIn b) i (lines - i)) ≡ pick (ltb lines (linesIn b)) (line lines) none
     unfolding changedFrom
     changed-none h =
-        ap (changedFrom ps n i) (run-end (lineIn b) lines i h)
+        ap (changedFrom ps n i) (run-end (lineIn b) i lines i h)
         ∙ sym (ap (λ (t : Bool). pick t (line lines) none) (le-ltb lines (linesIn b) (omega arith)))
 
     module _ (rows : List ℕ) (w : AllRowed ps rows) (m : length ps ≡ lines + 1) (h : i < lines) (k p j q : ℕ)
@@ -85,13 +80,13 @@ module _ (b : List ℕ) (n lines : ℕ) (e : lines ≡ linesIn b) where
       pub changed-next : p ≡ q → changedFrom ps n i (run (lineIn b) i (lines - i)) ≡ changedFrom ps n (i + 1) (run (lineIn b) (i + 1) (lines - (i + 1)))
       unfolding changedFrom
       changed-next s =
-          ap (changedFrom ps n i) (run-next (lineIn b) lines i h)
+          ap (changedFrom ps n i) (run-next (lineIn b) i lines i h)
           ∙ ap (λ (t : Bool). pick t (changedFrom ps n (i + 1) (run (lineIn b) (i + 1) (lines - (i + 1)))) (line i)) (eq-eqb _ _ (found ∙ s ∙ said))
 
       -- line i does not
       pub changed-here : (p ≡ q → ⊥) → changedFrom ps n i (run (lineIn b) i (lines - i)) ≡ pick (ltb i (linesIn b)) (line i) none
       unfolding changedFrom
       changed-here s =
-          ap (changedFrom ps n i) (run-next (lineIn b) lines i h)
+          ap (changedFrom ps n i) (run-next (lineIn b) i lines i h)
           ∙ ap (λ (t : Bool). pick t (changedFrom ps n (i + 1) (run (lineIn b) (i + 1) (lines - (i + 1)))) (line i)) (ne-eqb _ _ (λ z. s (sym found ∙ z ∙ sym said)))
           ∙ sym (ap (λ (t : Bool). pick t (line i) none) (lt-ltb i (linesIn b) (omega arith)))

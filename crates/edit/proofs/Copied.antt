@@ -3,59 +3,26 @@
 use Prim.Native.Nat.{ℕ, _+_, _-_, _≤_, _<_}
 use native.Mathlib.Omega.{arith}
 use mathlib.Core.Path.{_≡_, refl, sym, ap, ap₂, _∙_, subst}
-use mathlib.Core.List.{List, [], _∷_, _++_, append-nil}
+use mathlib.Core.List.{List, [], _∷_}
 use lib.ListN.{length, drop, length-append}
 use lib.Dec.{eqb}
 use Rattle.lists.specs.Pick.{pick}
 use borrow.Rule.Slice.PartMut.{midOf}
-use Rattle.lent.specs.Bytes.{Wrote, bytes16, fitting}
-use Rattle.lent.specs.Regions.{Stored, put}
+use Rattle.lent.specs.Bytes.{Wrote, fitting}
+use Rattle.lent.specs.Regions.{Stored}
 use Rattle.lent.proofs.Writes.{rest-length}
-use Rattle.lent.proofs.Regions.{length-put, filled-length, stored-all}
-use Rattle.text.specs.declared.Cursor.{Cursor}
+use Rattle.lent.proofs.Regions.{filled-length}
 use Rattle.jkf.specs.Entries.{entryIn, entryBytes}
 use Rattle.jkf.specs.declared.Entry.{Entry}
 use Rattle.block.specs.Model.{Noted}
-use Rattle.block.specs.Encode.{table, concat, commentsOf, commentText}
+use Rattle.block.specs.Encode.{concat, commentsOf, commentText}
 use Rattle.block.specs.Decode.{run, movePlace, firstComment, commentCount, commentOf, notedIn}
-use Rattle.block.proofs.Tabling.{length-run, concat-append}
+use Rattle.block.proofs.Tabling.{length-run, concat-append, concat-none, concat-more, concat-longer}
 use Rattle.parser.specs.Filling.{CommentsFit, EntriesFit, Commented, Entered}
 use Rattle.parser.specs.declared.Walk.{Walk}
 use Rattle.parser.proofs.Walks.{Commenting, commenting-start, commenting-fits, commenting-step, commenting-done, Entering, entering-start, entering-fits, entering-step, entering-done}
 use Rattle.parser.proofs.Entries.{noted-fit, noted-filled}
-use Rattle.edit.proofs.Rests.{rest, rest-all, rest-none, rest-next, parts-none, parts-more, parts-longer}
-
--- ---- one comment
-
-pub comment-long : (c : List ℕ) → length (commentText (c ∷ [])) ≡ length c
-unfolding concat
-comment-long c = ap length (append-nil c)
-
--- its row and its bytes are stored where the comment rows and the texts end
-pub comment-copied : (c : List ℕ) (next : Cursor) (w : Walk) {o o₁ o₂ : List ℕ} {p q : ℕ} → CommentsFit (c ∷ []) w o
-    → Stored (fitting (bytes16 (w .bytes) ++ bytes16 (length c)) (drop (w .comments) o)) o o₁ (w .comments) p
-    → Stored (fitting c (drop (w .text) o₁)) o₁ o₂ (w .text) q
-    → Commented (c ∷ []) (next .at) w
-    (record { moves = w .moves; comments = p; text = q; entries = w .entries; noted = w .noted + 1; bytes = w .bytes + length c; next = next }) o o₂
-unfolding table concat
-comment-copied c next w {o} {o₁} {o₂} {p} {q} f x y =
-    let r = f .room in
-    let one : c ++ [] ≡ c = append-nil c in
-    let x₁ = stored-all {t = bytes16 (w .bytes) ++ bytes16 (length c)} (omega (arith, r .0, r .1 .0)) x in
-    let l : length o₁ ≡ length o = ap length (x₁ .bytes) ∙ length-put o (w .comments) (bytes16 (w .bytes) ++ bytes16 (length c)) in
-    let y₁ = stored-all {t = c} (omega (arith, r .1 .0, ap length one)) y in
-    record {
-      filled =
-          record {
-            bytes = y₁ .bytes ∙ ap₂ (λ (u t : List ℕ). put u (w .text) t) (x₁ .bytes) (sym one);
-            ends = (x₁ .end, (omega (arith, y₁ .end, ap length one), tt));
-          };
-      moves = refl;
-      entries = refl;
-      noted = refl;
-      bytes = omega (arith, ap length one);
-      next = refl;
-    }
+use Rattle.edit.proofs.Rests.{rest, rest-all, rest-none, rest-next}
 
 -- ---- comments of a run
 
@@ -144,7 +111,7 @@ module _ {es₀ : List Noted} {e₀ : ℕ} {w v : Walk} {o₀ o : List ℕ} (g :
 -- of no entry
 module _ (g : ℕ → Noted) (k : ℕ) where
   pub comments-none : length (commentsOf (run g k 0)) ≡ 0
-  comments-none = ap length (parts-none (λ e. e .comments) g k)
+  comments-none = ap length (concat-none (λ e. e .comments) g k)
 
   pub bytes-none : length (commentText (commentsOf (run g k 0))) ≡ 0
   unfolding concat run
@@ -153,10 +120,10 @@ module _ (g : ℕ → Noted) (k : ℕ) where
 -- the comments of one entry more, and their bytes
 module _ (g : ℕ → Noted) (k i : ℕ) where
   pub comments-more : length (commentsOf (run g k (i + 1))) ≡ length (commentsOf (run g k i)) + length (g (k + i) .comments)
-  comments-more = parts-longer (λ e. e .comments) g k i
+  comments-more = concat-longer (λ e. e .comments) g k i
 
   pub bytes-more : length (commentText (commentsOf (run g k (i + 1)))) ≡ length (commentText (commentsOf (run g k i))) + length (commentText (g (k + i) .comments))
   bytes-more =
-      ap (λ (cs : List (List ℕ)). length (commentText cs)) (parts-more (λ (e : Noted). e .comments) g k i)
+      ap (λ (cs : List (List ℕ)). length (commentText cs)) (concat-more (λ (e : Noted). e .comments) g k i)
       ∙ ap length (concat-append (λ c. c) (commentsOf (run g k i)) (g (k + i) .comments))
       ∙ length-append (commentText (commentsOf (run g k i))) (commentText (g (k + i) .comments))

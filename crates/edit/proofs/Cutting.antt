@@ -69,8 +69,8 @@ module _ (ps : List Play) (k : ℕ) where
         go (yes h) = run .each i (omega arith) (omega arith)
         go (no h) = let e : k ≡ i = omega arith in omega (arith, ap (starts ps) e)
 
-    pub run-next : k + m < length ps → starts ps (k + m) < starts ps k
-    run-next l =
+    past-run : k + m < length ps → starts ps (k + m) < starts ps k
+    past-run l =
         let e : k + 1 + notBelow (starts ps k) (drop (k + 1) ps) ≡ k + m = omega arith in
         subst (λ (q : ℕ). starts ps q < starts ps k) e (run .next (omega arith))
 
@@ -92,7 +92,7 @@ module _ (ps : List Play) (k : ℕ) where
         go (yes h) = λ a. absurd (omega (arith, near-before (starts ps) (starts ps i) i z))
         go (no h) =
             let b : k + m ≤ i = g (omega arith) in
-            cut-apart cut-starts (ok .lines .origin) run-high i z b (run-next (omega arith))
+            cut-apart cut-starts (ok .lines .origin) run-high i z b (past-run (omega arith))
 
     near-lowered : (i : ℕ) → 0 < i → i < length ps → Kept k m i
         → near (starts ps″) (starts ps i) (lowered k m i) ≡ lowered k m (near (starts ps) (starts ps i) i)
@@ -106,7 +106,7 @@ module _ (ps : List Play) (k : ℕ) where
         go (no h) =
             let b : k + m ≤ i = g (omega arith) in
             ap (near (starts ps″) (starts ps i)) (lowered-high k m i (omega arith))
-            ∙ cut-after cut-starts (ok .lines .origin) run-high i z b (run-next (omega arith))
+            ∙ cut-after cut-starts (ok .lines .origin) run-high i z b (past-run (omega arith))
 
     kept-hangs : (i : ℕ) → 0 < i → i < length ps → Kept k m i → Hangs (starts ps″) (counts ps″) (lowered k m i)
     kept-hangs i z l g =

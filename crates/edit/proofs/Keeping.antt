@@ -22,7 +22,7 @@ use Rattle.block.specs.Formed.{lineOf}
 use Rattle.parser.proofs.Hung.{Hangs, attach-length, attach-line, parent-first, parent-later}
 use Rattle.edit.specs.Edit.{placeOf, putIn, renumbered, none, line, changedFrom}
 use Rattle.edit.specs.Splicing.{Lines}
-use Rattle.edit.proofs.Nearing.{put-kept, renumbered-low, renumbered-high, hang-made, hang-moved, hung-all}
+use Rattle.edit.proofs.Nearing.{put-kept, renumbered-low, renumbered-high, hangs-there, hang-moved, hung-all}
 use Rattle.edit.proofs.Placing.{each-hangs, parent-near, PutsIn, put-length, put-list, ply-low, ply-within, place-past, place-within, put-starts, put-counts, new-hangs, before-same, after-same}
 
 -- lines of which none has another parent
@@ -85,7 +85,7 @@ module _ (ps : List Play) (k : ℕ) (v : Play) where
     new-line-hangs : Hangs (starts ps′) (counts ps′) n
     new-line-hangs =
         let e = put-starts ps k v ok .new in
-        hang-made (starts ps′) (counts ps′) n k (starts ps k) (counts ps k) near-new (put-starts ps k v ok .before k past) (put-counts ps k v ok .before k past)
+        hangs-there (starts ps′) (counts ps′) n k (starts ps k) (counts ps k) near-new (put-starts ps k v ok .before k past) (put-counts ps k v ok .before k past)
         (omega (arith, ply-low ps k (v .start) ok)) (omega (arith, ply-within ps k (v .start) ok))
 
     -- ---- all lines

@@ -1,5 +1,4 @@
 pub mod Rests
-pub mod Belonging
 pub mod Copied
 pub mod Headers
 pub mod Played

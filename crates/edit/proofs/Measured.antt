@@ -11,7 +11,7 @@ use Rattle.block.specs.Encode.{commentsOf, commentText}
 use Rattle.block.specs.Decode.{run, movesIn, notedIn}
 use Rattle.block.specs.Sound.{entriesBefore}
 use Rattle.block.proofs.Tabling.{length-run}
-use Rattle.parser.specs.Plays.{entriesAt}
+use Rattle.parser.specs.Plays.{entriesAt, plyAt}
 use Rattle.parser.specs.Filling.{extentAt}
 use Rattle.parser.specs.declared.Extent.{Extent}
 use Rattle.parser.specs.declared.Remarks.{Remarks}
@@ -35,26 +35,34 @@ module _ (xs ys zs : List Noted) where
 
 -- ---- the text's, as they were counted
 
-module _ (t : List ℕ) (x : Extent) (is : x ≡ extentAt t 0) where
+module _ {x : Extent} (t : List ℕ) (is : x ≡ extentAt t 0) where
   abbrev own : List Noted
   own = entriesAt t 0 .state
 
-  x-entries : x .entries ≡ length own
+  pub start-is : x .start ≡ plyAt t 0
   unfolding extentAt
-  x-entries = ap (λ (y : Extent). y .entries) is
+  start-is = ap (λ (y : Extent). y .start) is
 
-  x-comments : x .comments ≡ length (commentsOf own)
+  pub entries-are : x .entries ≡ length own
   unfolding extentAt
-  x-comments = ap (λ (y : Extent). y .comments) is
+  entries-are = ap (λ (y : Extent). y .entries) is
 
-  x-bytes : x .bytes ≡ length (commentText (commentsOf own))
+  comments-are : x .comments ≡ length (commentsOf own)
   unfolding extentAt
-  x-bytes = ap (λ (y : Extent). y .bytes) is
+  comments-are = ap (λ (y : Extent). y .comments) is
 
-  pub extent-small : length t ≤ 65535 → (x .entries ≤ 65535) × (x .comments ≤ 65535) × (x .bytes ≤ 65535)
-  extent-small h =
-      let a = text-small t h in
-      (omega (arith, a .0, x-entries), omega (arith, a .1, x-comments), omega (arith, a .2, x-bytes))
+  bytes-are : x .bytes ≡ length (commentText (commentsOf own))
+  unfolding extentAt
+  bytes-are = ap (λ (y : Extent). y .bytes) is
+
+  pub end-is : x .next .at ≡ entriesAt t 0 .at
+  unfolding extentAt
+  end-is = ap (λ (y : Extent). y .next .at) is
+
+pub extent-small : (t : List ℕ) (x : Extent) → x ≡ extentAt t 0 → length t ≤ 65535 → (x .entries ≤ 65535) × (x .comments ≤ 65535) × (x .bytes ≤ 65535)
+extent-small t x is h =
+    let a = text-small t h in
+    (omega (arith, a .0, entries-are t is), omega (arith, a .1, comments-are t is), omega (arith, a .2, bytes-are t is))
 
 -- ---- all
 
@@ -87,11 +95,11 @@ measured b p q t lines {x} {before} {after} {moves} front back is e f g one two 
     let ys = entriesAt t 0 .state in
     let zs = run (notedIn b) after (moves - after) in
     let a : before + x .entries + (moves - after) ≡ length (xs ++ (ys ++ zs)) =
-    omega (arith, entries-three xs ys zs, x-entries t x is, length-run (notedIn b) 0 before, length-run (notedIn b) after (moves - after)) in
+    omega (arith, entries-three xs ys zs, entries-are t is, length-run (notedIn b) 0 before, length-run (notedIn b) after (moves - after)) in
     let c : front .count + x .comments + back .count ≡ length (commentsOf (xs ++ (ys ++ zs))) =
-    omega (arith, comments-three xs ys zs, x-comments t x is, one .0, two .0) in
+    omega (arith, comments-three xs ys zs, comments-are t is, one .0, two .0) in
     let n : front .bytes + x .bytes + back .bytes ≡ length (commentText (commentsOf (xs ++ (ys ++ zs)))) =
-    omega (arith, bytes-three xs ys zs, x-bytes t x is, one .1, two .1) in
+    omega (arith, bytes-three xs ys zs, bytes-are t is, one .1, two .1) in
     ap (λ (k : ℕ). sized k (front .count + x .comments + back .count) (front .bytes + x .bytes + back .bytes)) a
     ∙ ap (λ (k : ℕ). sized (length (xs ++ (ys ++ zs))) k (front .bytes + x .bytes + back .bytes)) c
     ∙ ap (λ (k : ℕ). sized (length (xs ++ (ys ++ zs))) (length (commentsOf (xs ++ (ys ++ zs)))) k) n

@@ -183,8 +183,8 @@ module _ {f f′ : ℕ → ℕ} {k m : ℕ} (cut : Cut f f′ k m) where
 -- ---- what hung still hangs
 
 -- line i hangs on line p, with start t and n entries
-pub hang-made : (f c : ℕ → ℕ) (i p t n : ℕ) → near f (f i) i ≡ p → f p ≡ t → c p ≡ n → t ≤ f i → f i - t < n → Hangs f c i
-hang-made f c i p t n e₁ e₂ e₃ a b =
+pub hangs-there : (f c : ℕ → ℕ) (i p t n : ℕ) → near f (f i) i ≡ p → f p ≡ t → c p ≡ n → t ≤ f i → f i - t < n → Hangs f c i
+hangs-there f c i p t n e₁ e₂ e₃ a b =
     let x : f (near f (f i) i) ≡ t = ap f e₁ ∙ e₂ in
     let y : c (near f (f i) i) ≡ n = ap c e₁ ∙ e₃ in
     record { from = omega arith; within = omega arith }
@@ -193,7 +193,7 @@ hang-made f c i p t n e₁ e₂ e₃ a b =
 pub hang-moved : (f c f′ c′ : ℕ → ℕ) (i i′ p′ : ℕ) → f′ i′ ≡ f i → near f′ (f i) i′ ≡ p′ → f′ p′ ≡ f (near f (f i) i) → c′ p′ ≡ c (near f (f i) i)
     → Hangs f c i → Hangs f′ c′ i′
 hang-moved f c f′ c′ i i′ p′ e₁ e₂ e₃ e₄ h =
-    hang-made f′ c′ i′ p′ (f (near f (f i) i)) (c (near f (f i) i)) (ap (λ (s : ℕ). near f′ s i′) e₁ ∙ e₂) e₃ e₄ (omega (arith, h .from)) (omega (arith, h .within))
+    hangs-there f′ c′ i′ p′ (f (near f (f i) i)) (c (near f (f i) i)) (ap (λ (s : ℕ). near f′ s i′) e₁ ∙ e₂) e₃ e₄ (omega (arith, h .from)) (omega (arith, h .within))
 
 -- lines that hang each are lines that all hang
 pub hung-all : (f c : ℕ → ℕ) (n k : ℕ) → ((j : ℕ) → k ≤ j → j < k + n → Hangs f c j) → hungFrom f c k n ≡ all

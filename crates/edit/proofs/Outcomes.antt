@@ -8,8 +8,7 @@ use lib.ListN.{length, drop}
 use lib.Dec.{ltb}
 use borrow.Author.Tests.{eq-eqb, ne-eqb, lt-ltb, le-ltb}
 use Rattle.lists.specs.Pick.{pick}
-use Rattle.jkf.specs.Answers.{Outcome, refuse}
-use Rattle.jkf.specs.declared.Answer.{Answer}
+use Rattle.jkf.specs.Answers.{refuse}
 use Rattle.jkf.specs.declared.Answer.the-variants.{NoSuchPart, NotOneVariation, OutsideLine, EntryTaken, ParentChanges, NotSound}
 use Rattle.block.specs.Model.{Record}
 use Rattle.block.specs.Attach.{Play, starts, counts}
@@ -19,10 +18,6 @@ use Rattle.block.specs.Sound.{soundb}
 use Rattle.block.proofs.Tabling.{length-run}
 use Rattle.edit.specs.Edit.{playsIn, fresh, isVariation, variationOf, isPlyOf, carries, placeOf, putIn, none, line, changedFrom, insertAt, insertOn, insert, removedFrom, without, remove}
 use Rattle.edit.specs.Editing.{storedOf, editedOf, putInOf, cutOf}
-
--- an outcome under another name                                                                       -- also in converter Showing
-pub told : {x y : Outcome} {a : Answer} {o : List ℕ} → y ≡ x → (a ≡ x .answer) × (o ≡ x .buffer) → (a ≡ y .answer) × (o ≡ y .buffer)
-told e p = rw e p
 
 -- a block says as many lines as it counts
 pub lines-counted : (b : List ℕ) → length (decode b .lines) ≡ linesIn b

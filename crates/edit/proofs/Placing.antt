@@ -17,7 +17,7 @@ use lib.Dec.{eqb, leb, ltb}
 use borrow.Author.Tests.{eq-eqb, leb-true, ltb-true, le-leb, lt-ltb}
 use Rattle.lists.specs.Pick.{pick}
 use Rattle.lists.proofs.Laws.{by-pick, pick-both, pick-none}
-use Rattle.jkf.specs.Attaching.{near, hangs, all}
+use Rattle.jkf.specs.Attaching.{near, hangs}
 use Rattle.jkf.specs.declared.Hang.the-variants.{On}
 use Rattle.jkf.proofs.Nears.{hangs-made}
 use Rattle.block.specs.Model.{Line}

@@ -1,53 +1,24 @@
 -- The lines that a block says are runs over its rows: where a line starts and how many entries it has is read in its row, and what a search
 -- finds from line k on is told by row k and what it finds from line k + 1 on.
---     leads-..       how many lines stand before the first that ends the search
+--     passes-..      how many lines stand before the first that ends the search
 --     carries-..     whether a line hangs on another at a ply
 -- Assumes nothing.
-use Prim.Native.Nat.{ℕ, zero, suc, _+_, _-_, _≤_, _<_}
+use Prim.Native.Nat.{ℕ, suc, _+_, _-_, _≤_, _<_}
 use native.Mathlib.Nat.{zero-add}
 use native.Mathlib.Omega.{arith}
 use mathlib.Core.Path.{_≡_, refl, sym, ap, ap₂, _∙_}
-use mathlib.Core.List.{List, [], _∷_, map}
+use mathlib.Core.List.{List, [], _∷_}
 use mathlib.Core.Bool.{Bool, true, false}
 use lib.ListN.{length, drop}
-use lib.Seq.{drop-at}
 use lib.Dec.{eqb}
 use borrow.Author.Tests.{le-leb, lt-leb}
 use Rattle.lists.specs.Pick.{pick}
 use Rattle.block.specs.Model.{Line}
 use Rattle.block.specs.Attach.{Play, play, playOf, starts, counts}
 use Rattle.block.specs.Decode.{run, linesIn, startOf, firstEntry, entryCount, notedIn, lineIn, decode}
-use Rattle.block.proofs.Tabling.{length-run, run-add, run-getD}
+use Rattle.block.proofs.Tabling.{length-run, run-getD, drop-run, run-next, run-end, map-run}
 use Rattle.edit.specs.Edit.{playsIn, isPlyOf, carries, above, placeOf, notBelow, removedFrom}
 use Rattle.edit.specs.Splicing.{playIn}
-
--- ---- runs
-
-module _ {X : Type 0} (g : ℕ → X) where
-  -- of what is made of the numbers, something is made
-  pub map-run : {Y : Type 0} (f : X → Y) (k n : ℕ) → map f (run g k n) ≡ run (λ (i : ℕ). f (g i)) k n
-  unfolding run
-  map-run f k zero = refl
-  map-run f k (suc n) = ap (λ l. f (g k) ∷ l) (map-run f (k + 1) n)
-
-  -- without its first k
-  pub drop-run : (k n : ℕ) → k ≤ n → drop k (run g 0 n) ≡ run g k (n - k)
-  drop-run k n h =
-      let e : n ≡ k + (n - k) = omega arith in
-      ap (λ (m : ℕ). drop k (run g 0 m)) e
-      ∙ ap (drop k) (run-add g 0 k (n - k))
-      ∙ drop-at (run g 0 k) (run g (0 + k) (n - k)) k (length-run g 0 k)
-      ∙ ap (λ (i : ℕ). run g i (n - k)) (zero-add k)
-
-  -- what is left of n: the next one first
-  pub run-next : (n k : ℕ) → k < n → run g k (n - k) ≡ g k ∷ run g (k + 1) (n - (k + 1))
-  unfolding run
-  run-next n k h = let e : n - k ≡ suc (n - (k + 1)) = omega arith in ap (run g k) e
-
-  -- nothing
-  pub run-end : (n k : ℕ) → n ≤ k → run g k (n - k) ≡ []
-  unfolding run
-  run-end n k h = let e : n - k ≡ 0 = omega arith in ap (run g k) e
 
 -- ---- the lines of a block
 
@@ -55,6 +26,9 @@ module _ (b : List ℕ) where
   pub plays-are : playsIn (decode b .lines) ≡ run (playIn b) 0 (linesIn b)
   unfolding decode
   plays-are = map-run (lineIn b) (λ (l : Line). play (l .start) (l .entries)) 0 (linesIn b)
+
+  pub plays-long : length (playsIn (decode b .lines)) ≡ linesIn b
+  plays-long = ap length plays-are ∙ length-run (playIn b) 0 (linesIn b)
 
   pub play-is : (k : ℕ) → k < linesIn b → playOf (playsIn (decode b .lines)) k ≡ playIn b k
   play-is k h =
@@ -98,41 +72,41 @@ module _ (b : List ℕ) where
 -- ---- how many lines stand before the first that ends a search
 
 -- h counts the lines that it goes past, up to the first that ends it
-pub record Leads (past ends : Play → Type 0) (h : List Play → ℕ) : Type 0 where
+pub record Passes (past ends : Play → Type 0) (h : List Play → ℕ) : Type 0 where
   pub none : h [] ≡ 0
   pub first : (p : Play) (ps : List Play) → past p → h (p ∷ ps) ≡ suc (h ps)
   pub stop : (p : Play) (ps : List Play) → ends p → h (p ∷ ps) ≡ 0
 
-pub above-leads : (j : ℕ) → Leads (λ p. j < p .start) (λ p. p .start ≤ j) (above j)
+pub above-passes : (j : ℕ) → Passes (λ p. j < p .start) (λ p. p .start ≤ j) (above j)
 unfolding above
-above-leads j =
+above-passes j =
     record {
       none = refl;
       first = λ p ps l. rw (lt-leb (p .start) j l);
       stop = λ p ps l. rw (le-leb (p .start) j l);
     }
 
-pub below-leads : (s : ℕ) → Leads (λ p. s ≤ p .start) (λ p. p .start < s) (notBelow s)
+pub below-passes : (s : ℕ) → Passes (λ p. s ≤ p .start) (λ p. p .start < s) (notBelow s)
 unfolding notBelow
-below-leads s =
+below-passes s =
     record {
       none = refl;
       first = λ p ps l. rw (le-leb s (p .start) l);
       stop = λ p ps l. rw (lt-leb s (p .start) l);
     }
 
-module _ {past ends : Play → Type 0} {h : List Play → ℕ} (w : Leads past ends h) (g : ℕ → Play) (n k : ℕ) where
+module _ {past ends : Play → Type 0} {h : List Play → ℕ} (w : Passes past ends h) (g : ℕ → Play) (n k : ℕ) where
   -- past line k
-  pub leads-on : k < n → past (g k) → k + h (run g k (n - k)) ≡ k + 1 + h (run g (k + 1) (n - (k + 1)))
-  leads-on l p = omega (arith, ap h (run-next g n k l) ∙ w .first (g k) (run g (k + 1) (n - (k + 1))) p)
+  pub passes-on : k < n → past (g k) → k + h (run g k (n - k)) ≡ k + 1 + h (run g (k + 1) (n - (k + 1)))
+  passes-on l p = omega (arith, ap h (run-next g k n k l) ∙ w .first (g k) (run g (k + 1) (n - (k + 1))) p)
 
   -- line k ends it
-  pub leads-stop : k < n → ends (g k) → k + h (run g k (n - k)) ≡ k
-  leads-stop l p = omega (arith, ap h (run-next g n k l) ∙ w .stop (g k) (run g (k + 1) (n - (k + 1))) p)
+  pub passes-stop : k < n → ends (g k) → k + h (run g k (n - k)) ≡ k
+  passes-stop l p = omega (arith, ap h (run-next g k n k l) ∙ w .stop (g k) (run g (k + 1) (n - (k + 1))) p)
 
   -- there is no line left
-  pub leads-none : n ≤ k → k + h (run g k (n - k)) ≡ k
-  leads-none l = omega (arith, ap h (run-end g n k l) ∙ w .none)
+  pub passes-none : n ≤ k → k + h (run g k (n - k)) ≡ k
+  passes-none l = omega (arith, ap h (run-end g k n k l) ∙ w .none)
 
 -- ---- whether a line hangs on line k at ply j
 
@@ -148,11 +122,11 @@ module _ (k j : ℕ) (g : ℕ → Line) (n i : ℕ) where
   unfolding carries
   carries-next t l e =
       let r = carries k j (run g (i + 1) (n - (i + 1))) in
-      ap (carries k j) (run-next g n i l)
+      ap (carries k j) (run-next g i n i l)
       ∙ both-tests (eqb (g i .parent) k) (eqb (g i .start) j) r
       ∙ ap (λ (u : Bool). pick u true r) (sym e)
 
   -- there is no line left
   pub carries-none : n ≤ i → carries k j (run g i (n - i)) ≡ false
   unfolding carries
-  carries-none l = ap (carries k j) (run-end g n i l)
+  carries-none l = ap (carries k j) (run-end g i n i l)

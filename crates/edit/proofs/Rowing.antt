@@ -2,7 +2,7 @@
 -- finds in the lines, and the row made after them is that of line i.
 --     rowed-none, row-put, rowed-all   no row yet, one row more, and all of them
 --     row-linked                       a search may follow the parents in the rows
---     Keeping                             the rows of a block's lines, up to line m
+--     Keeping                          the rows of a block's lines, up to line m
 --     rows-put                         those before a new line, its own, and those after it
 -- Assumes nothing.
 use Prim.Native.Nat.{ℕ, _+_, _*_, _-_, _≤_, _<_}
@@ -13,7 +13,7 @@ use native.Mathlib.Decide.{decLt}
 use mathlib.Core.Path.{_≡_, refl, sym, ap, ap₂, _∙_, subst}
 use mathlib.Core.List.{List, [], _++_, append-assoc}
 use mathlib.Core.Bool.{Bool, true, false}
-use lib.ListN.{length, getD, take, drop, length-append, length-drop, List·getD-append}
+use lib.ListN.{length, take, drop, length-append, length-drop, List·getD-append}
 use lib.Seq.{length-take-le, take-suc, take-all, take-at, getD-take, getD-drop, getD-append-add}
 use lib.Dec.{eqb}
 use borrow.Author.Tests.{eq-eqb, ne-eqb}
@@ -30,6 +30,7 @@ use Rattle.block.specs.Formed.{lineOf}
 use Rattle.block.specs.Encode.{table, concat, lineRow, lineStep, entriesOf}
 use Rattle.block.specs.Decode.{linesIn, startOf, firstEntry, entryCount, notedIn, decode}
 use Rattle.block.proofs.Tabling.{after, table-snoc, after-adds, length-run, concat-sum, concat-next}
+use Rattle.block.proofs.Lining.{le16-take}
 use Rattle.parser.specs.Filling.{playEntries}
 use Rattle.parser.proofs.Rowed.{line, start-back, count-back, parent-back}
 use Rattle.parser.proofs.Lining.{hangs-before}
@@ -37,7 +38,7 @@ use Rattle.parser.proofs.Hung.{no-parent, attach-length, attach-line}
 use Rattle.edit.specs.Edit.{playsIn}
 use Rattle.edit.specs.Splicing.{spliced, playIn, rowAfter, RowsFit, Rowed, Keeps, Adds, AllRowed}
 use Rattle.edit.proofs.Placing.{parent-near, in-front, past-front}
-use Rattle.edit.proofs.Played.{plays-are, play-is}
+use Rattle.edit.proofs.Played.{play-is, plays-long}
 
 -- ---- no row yet
 
@@ -70,11 +71,8 @@ module _ {ps : List Play} {n : ℕ} (fit : RowsFit ps n) {i e : ℕ} {rows : Lis
   line-early : (j : ℕ) → j < i → lineOf (take i (attach ps)) j ≡ line (starts ps j) (parentIn ps j) (playOf ps j .entries)
   line-early j h = getD-take i (attach ps) j (line 0 0 []) h ∙ attach-line ps j (omega (arith, done .few))
 
-  byte-back : (k : ℕ) → k < 8 * i → getD rows k 0 ≡ getD (rowsOf ps i) k 0
-  byte-back k h = sym (getD-take (8 * i) rows k 0 h) ∙ ap (λ (l : List ℕ). getD l k 0) (done .bytes)
-
   two-back : (k : ℕ) → k + 1 < 8 * i → le16 rows k ≡ le16 (rowsOf ps i) k
-  two-back k h = ap₂ (λ (a b : ℕ). a + 256 * b) (byte-back k (omega arith)) (byte-back (k + 1) h)
+  two-back k h = sym (le16-take rows (8 * i) k h) ∙ ap (λ (l : List ℕ). le16 l k) (done .bytes)
 
   start-read : (j : ℕ) → j < i → startAt rows j ≡ starts ps j
   start-read j h =
@@ -261,17 +259,14 @@ module _ (b : List ℕ) (p q : ℕ) (vs : List Play) (below : p ≤ q) (within :
   abbrev new : List Play
   new = spliced p q vs (playsIn (decode b .lines))
 
-  old-length : length (playsIn (decode b .lines)) ≡ linesIn b
-  old-length = ap length (plays-are b) ∙ length-run (playIn b) 0 (linesIn b)
-
   front-fits : p ≤ length (playsIn (decode b .lines))
-  front-fits = omega (arith, old-length)
+  front-fits = omega (arith, plays-long b)
 
   new-length : length (spliced p q vs (playsIn (decode b .lines))) ≡ p + length vs + (linesIn b - q)
   new-length =
       omega (
         arith,
-        old-length,
+        plays-long b,
         length-append (take p old) (vs ++ drop q old),
         length-take-le p old front-fits,
         length-append vs (drop q old),
@@ -318,7 +313,7 @@ next-few : (t : Bool) (p : ℕ) → pick t p (p + 1) ≤ p + 1
 next-few true p = omega arith
 next-few false p = omega arith
 
-next-is : (t : Bool) (p : ℕ) → pick t p (p + 1) ≡ p + pick t 0 1
+pub next-is : (t : Bool) (p : ℕ) → pick t p (p + 1) ≡ p + pick t 0 1
 next-is true p = omega arith
 next-is false p = omega arith
 

@@ -2,6 +2,7 @@
 -- put in or a run of them cut out.
 --     entries-after                     all entries with some lines replaced
 --     lines-hang, lines-afresh          its lines all hang, and hung afresh they are the same
+--     parent-is                         with the parents that they have
 --     starts-small, put-fits, cut-fits  numbers of 16 bits, and rows of 18688 bytes
 --     puts-in                           what a put-in asks
 -- Assumes nothing.
@@ -13,7 +14,6 @@ use mathlib.Core.Path.{_≡_, refl, sym, ap, ap₂, _∙_, subst}
 use mathlib.Core.List.{List, [], _∷_, _++_}
 use mathlib.Core.Bool.{true, false}
 use lib.ListN.{length, take, drop}
-use lib.Seq.{take-at}
 use Rattle.jkf.specs.Attaching.{near}
 use Rattle.jkf.proofs.Nears.{near-before, near-same}
 use Rattle.block.specs.Model.{Noted, Line}
@@ -22,31 +22,19 @@ use Rattle.block.specs.Encode.{concat, entriesOf}
 use Rattle.block.specs.Decode.{run, linesIn, movesIn, startOf, firstEntry, entryCount, parentOf, notedIn, lineIn, decode}
 use Rattle.block.specs.Sound.{Sound, sum, entriesBefore}
 use Rattle.block.specs.Formed.{lineOf}
-use Rattle.block.proofs.Sums.{sum-more, sum-rises, sum-within}
+use Rattle.block.proofs.Sums.{sum-more, sum-rises, sum-within, sum-some}
 use Rattle.block.proofs.Hanging.{Hung, hang-first, hang-says}
-use Rattle.block.proofs.Tabling.{length-run, run-add, run-all, concat-append}
+use Rattle.block.proofs.Tabling.{run-add, run-all, concat-append, take-run, drop-run}
 use Rattle.parser.specs.Plays.{plyAt}
 use Rattle.parser.specs.Filling.{playEntries}
 use Rattle.parser.proofs.Hung.{Hangs, start-low, attach-length, attach-entries, attach-line, parent-first, parent-later}
 use Rattle.edit.specs.Edit.{playsIn, isVariation, variationOf, isPlyOf, carries, putIn, removedFrom, without}
 use Rattle.edit.specs.Splicing.{linesOf, spliced, linesAfter, Lines, playIn, RowsFit, entriesAfter}
-use Rattle.edit.proofs.Played.{drop-run, plays-are, play-is, starts-is, counts-is}
+use Rattle.edit.proofs.Played.{plays-are, play-is, starts-is, counts-is, plays-long}
 use Rattle.edit.proofs.Nearing.{Put, Cut, hang-moved, hung-all}
 use Rattle.edit.proofs.Placing.{PutsIn, put-length, put-list, ply-within}
 use Rattle.edit.proofs.Cutting.{CutsOut, cut-length, cut-list, run-within, lines-after-cut}
 use Rattle.edit.proofs.Texts.{text-small, no-lines, one-variation, lines-entries}
-
--- numbers that are none of them 0
-sum-some : (f : ℕ → ℕ) (n : ℕ) → ((k : ℕ) → k < n → 1 ≤ f k) → n ≤ sum f n
-unfolding sum
-sum-some f zero h = omega arith
-sum-some f (suc n) h = omega (arith, sum-some f n (λ k l. h k (omega arith)), h n (omega arith))
-
--- of a run the first k
-take-run : {X : Type 0} (g : ℕ → X) (k n : ℕ) → k ≤ n → take k (run g 0 n) ≡ run g 0 k
-take-run g k n h =
-    let e : n ≡ k + (n - k) = omega arith in
-    ap (λ (m : ℕ). take k (run g 0 m)) e ∙ ap (take k) (run-add g 0 k (n - k)) ∙ take-at (run g 0 k) (run g (0 + k) (n - k)) k (length-run g 0 k)
 
 -- without the parents that they were given, lines are what they were
 module _ (ps : List Play) where
@@ -107,11 +95,8 @@ module _ (b : List ℕ) (s : Sound b) where
   pub before-all : entriesBefore b (linesIn b) ≡ movesIn b
   before-all = s .totals .1 .0
 
-  pub before-rises : (p q : ℕ) → p ≤ q → entriesBefore b p ≤ entriesBefore b q
+  before-rises : (p q : ℕ) → p ≤ q → entriesBefore b p ≤ entriesBefore b q
   before-rises p q h = sum-rises (λ k. entryCount b k) p q h
-
-  pub before-within : (k : ℕ) → k ≤ linesIn b → entriesBefore b k ≤ movesIn b
-  before-within k h = omega (arith, before-rises k (linesIn b) h, before-all)
 
   -- ---- all entries
 
@@ -165,9 +150,6 @@ module _ (b : List ℕ) (s : Sound b) where
   lines-few =
       omega (arith, sum-some (λ k. entryCount b k) (linesIn b) (λ k h. s .lines k h .1 .0), before-all, s .totals .1 .1 .1, s .head .1 .0)
 
-  pub plays-long : length ps ≡ linesIn b
-  plays-long = ap length (plays-are b) ∙ length-run (playIn b) 0 (linesIn b)
-
   -- ---- all lines hang
 
   main-line : (startOf b 0 ≡ 0) × (parentOf b 0 ≡ 0)
@@ -193,12 +175,12 @@ module _ (b : List ℕ) (s : Sound b) where
   lines-hang =
       record {
         origin = starts-is b 0 (s .totals .0) ∙ main-line .0;
-        hung = hung-all (starts ps) (counts ps) (length ps - 1) 1 (λ j z l. line-hangs j z (omega (arith, plays-long, s .totals .0)));
+        hung = hung-all (starts ps) (counts ps) (length ps - 1) 1 (λ j z l. line-hangs j z (omega (arith, plays-long b, s .totals .0)));
       }
 
   -- ---- hung afresh they are the same
 
-  parent-is : (k : ℕ) → k < linesIn b → parentOf b k ≡ parentIn ps k
+  pub parent-is : (k : ℕ) → k < linesIn b → parentOf b k ≡ parentIn ps k
   parent-is k h = go (decLt 0 k)
     where
       go : Dec (0 < k) → parentOf b k ≡ parentIn ps k
@@ -209,14 +191,14 @@ module _ (b : List ℕ) (s : Sound b) where
           subst (λ (i : ℕ). parentOf b i ≡ parentIn ps i) e (main-line .1 ∙ sym (parent-first ps))
 
   pub lines-afresh : decode b .lines ≡ attach ps
-  lines-afresh = unfold decode in (run-all (lineIn b) _ (linesIn b) (attach ps) (sym (attach-length ps ∙ plays-long)) (λ i h. line i (omega (arith, attach-length ps, plays-long))))
+  lines-afresh = unfold decode in (run-all (lineIn b) _ (linesIn b) (attach ps) (sym (attach-length ps ∙ plays-long b)) (λ i h. line i (omega (arith, attach-length ps, plays-long b))))
     where
       -- a line of play with its parent
       with : Play → ℕ → Line
       with p k = record { start = p .start; parent = k; entries = p .entries }
 
       line : (i : ℕ) → i < linesIn b → lineIn b i ≡ lineOf (attach ps) i
-      line i h = ap₂ with (sym (play-is b i h)) (parent-is i h) ∙ sym (attach-line ps i (omega (arith, plays-long)))
+      line i h = ap₂ with (sym (play-is b i h)) (parent-is i h) ∙ sym (attach-line ps i (omega (arith, plays-long b)))
 
   -- ---- numbers of 16 bits do for them
 
@@ -244,10 +226,10 @@ module _ (b : List ℕ) (s : Sound b) where
       subst (λ (vs : List Play). RowsFit (spliced n n vs ps) 18688) (sym e) (rows-fit (putIn n (variationOf t) ps) w (omega (arith, long, lines-few)) (each short))
     where
       fits : n ≤ length ps
-      fits = omega (arith, plays-long)
+      fits = omega (arith, plays-long b)
 
       long : length (putIn n (variationOf t) ps) ≡ linesIn b + 1
-      long = omega (arith, put-length ps n (variationOf t) fits, plays-long)
+      long = omega (arith, put-length ps n (variationOf t) fits, plays-long b)
 
       each : length t ≤ 65535 → (k : ℕ) → k < length (putIn n (variationOf t) ps) → Small (playOf (putIn n (variationOf t) ps) k)
       each short k l =
@@ -258,10 +240,10 @@ module _ (b : List ℕ) (s : Sound b) where
   pub cut-fits : (k : ℕ) → 0 < k → k < linesIn b → RowsFit (linesAfter b k (k + removedFrom ps k) []) 18688
   cut-fits k z h =
       subst (λ (vs : List Play). RowsFit (spliced k (k + removedFrom ps k) vs ps) 18688) (sym no-lines)
-      (rows-fit (without k (removedFrom ps k) ps) (lines-after-cut ps k ok) (omega (arith, long, plays-long, lines-few)) each)
+      (rows-fit (without k (removedFrom ps k) ps) (lines-after-cut ps k ok) (omega (arith, long, plays-long b, lines-few)) each)
     where
       ok : CutsOut ps k
-      ok = record { lines = lines-hang; later = z; line = omega (arith, plays-long) }
+      ok = record { lines = lines-hang; later = z; line = omega (arith, plays-long b) }
 
       long : length (without k (removedFrom ps k) ps) ≡ length ps - removedFrom ps k
       long = cut-length ps k (removedFrom ps k) (run-within ps k ok)
@@ -269,7 +251,7 @@ module _ (b : List ℕ) (s : Sound b) where
       each : (i : ℕ) → i < length (without k (removedFrom ps k) ps) → Small (playOf (without k (removedFrom ps k) ps) i)
       each i l =
           cut-each Small (cut-list ps k (removedFrom ps k) (run-within ps k ok) (play 0 [])) (length ps)
-          (λ q m. each-small q (omega (arith, plays-long))) (run-within ps k ok) i (omega (arith, long))
+          (λ q m. each-small q (omega (arith, plays-long b))) (run-within ps k ok) i (omega (arith, long))
 
   -- ---- what put-in asks
 
@@ -281,7 +263,7 @@ module _ (b : List ℕ) (s : Sound b) where
       ok =
           record {
             lines = lines-hang;
-            line = omega (arith, plays-long);
+            line = omega (arith, plays-long b);
             ply = ply;
             free = subst (λ (ls : List Line). carries k j (drop 1 ls) ≡ false) lines-afresh free;
           }

@@ -7,10 +7,10 @@ use mathlib.Core.List.{List, [], _∷_, append-nil}
 use mathlib.Core.Bool.{Bool, true, false}
 use lib.ListN.{length}
 use lib.Dec.{eqb, ltb}
-use borrow.Author.Tests.{ltb-false, eqb-true, ne-eqb}
+use borrow.Author.Tests.{ltb-false, eqb-true, eqb-false, ne-eqb}
 use Rattle.lists.specs.Pick.{pick}
 use Rattle.lists.specs.Repeat.{manyFrom}
-use Rattle.lists.proofs.Laws.{by-pick, pick-none}
+use Rattle.lists.proofs.Laws.{by-pick, pick-none, pick-both}
 use Rattle.text.specs.Utf8.{wellFormed}
 use Rattle.block.specs.Model.{Noted}
 use Rattle.block.specs.Attach.{Play, starts, counts}
@@ -51,13 +51,18 @@ module _ (t : List ℕ) where
   some-line : (length es ≡ 0 → ⊥) → linesOf t ≡ variationOf t ∷ []
   some-line h = ap (λ (x : Bool). pick x [] (variationOf t ∷ [])) (ne-eqb (length es) 0 h)
 
-  pub one-variation : isVariation t ≡ true → (length t ≤ 65535) × (linesOf t ≡ variationOf t ∷ [])
+  -- it is not too long, has an entry, and is UTF-8
+  pub variation-says : isVariation t ≡ true → (length t ≤ 65535) × (length es ≡ 0 → ⊥) × (wellFormed t ≡ length t)
   unfolding isVariation
-  one-variation h =
+  variation-says h =
       let end = pick (eqb (entriesAt t 0 .at) (length t)) (eqb (wellFormed t) (length t)) false in
       let (a, r) = pick-none (ltb 65535 (length t)) (pick (eqb (length es) 0) false end) h in
       let (b, r′) = pick-none (eqb (length es) 0) end r in
-      (ltb-false _ _ a, ap (λ (x : Bool). pick x [] (variationOf t ∷ [])) b)
+      let (_, w) = pick-both (eqb (entriesAt t 0 .at) (length t)) (eqb (wellFormed t) (length t)) r′ in
+      (ltb-false _ _ a, eqb-false _ _ b, eqb-true _ _ w)
+
+  pub one-variation : isVariation t ≡ true → (length t ≤ 65535) × (linesOf t ≡ variationOf t ∷ [])
+  one-variation h = let (short, some, _) = variation-says h in (short, some-line some)
 
   pub adds-text : Adds (linesOf t) 0 (plyAt t 0) (length es)
   adds-text =

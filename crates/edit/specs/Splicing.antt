@@ -10,7 +10,7 @@ use Rattle.lent.specs.Bytes.{bytes16}
 use Rattle.lent.specs.Regions.{Room}
 use Rattle.text.specs.Text.{cursor}
 use Rattle.jkf.specs.Attaching.{hangs, onHang, all, startAt, countAt}
-use Rattle.block.specs.Model.{Noted, Line, Record}
+use Rattle.block.specs.Model.{Noted, Record}
 use Rattle.block.specs.Attach.{Play, play, playOf, starts, counts, attach, allHung}
 use Rattle.block.specs.Encode.{table, lineRow, lineStep, commentsOf, commentText}
 use Rattle.block.specs.Decode.{run, movesIn, startOf, firstEntry, entryCount, notedIn, decode}

@@ -1,12 +1,13 @@
--- A number and two figures say one answer: the way back, so that no two answers have the same figures.
+-- A number and two figures say one answer: the way back, so that no two answers have the same figures. And an outcome under another name.
 -- Assumes nothing.
+use Prim.Native.Nat.{ℕ}
 use mathlib.Core.Path.{_≡_, refl, sym, ap, _∙_}
-use mathlib.Core.List.{[], _∷_}
+use mathlib.Core.List.{List, [], _∷_}
 use lib.ListN.{getD}
 use Rattle.jkf.specs.declared.Answer.{Answer}
 use Rattle.jkf.specs.declared.Answer.the-variants.{Done, TextTooLong, NotUtf8, HandLine, BlockTooLong, BufferShort, NoEntry, NotSound, HandCount, CannotWrite, NoSuchPart, NotOneVariation, OutsideLine, EntryTaken, ParentChanges}
 use Rattle.jkf.specs.declared.Figures.{Figures}
-use Rattle.jkf.specs.Answers.{figures}
+use Rattle.jkf.specs.Answers.{figures, Outcome}
 
 -- The answers in the order of their numbers, with these figures; a number past them is taken for the refusal without any.
 abbrev pub answerOf : Figures → Answer
@@ -51,3 +52,7 @@ back (ParentChanges x) = refl
 
 pub figures-one : (a b : Answer) → figures a ≡ figures b → a ≡ b
 figures-one a b e = sym (back a) ∙ ap answerOf e ∙ back b
+
+-- what holds of an outcome holds of it under another name
+pub told : {x y : Outcome} {a : Answer} {o : List ℕ} → y ≡ x → (a ≡ x .answer) × (o ≡ x .buffer) → (a ≡ y .answer) × (o ≡ y .buffer)
+told e p = rw e p

@@ -2,6 +2,7 @@
 -- edited record, which is well formed, stands at the front of the buffer.
 --     put-done, cut-done   so for put-in and cut
 --     parent-kept          put-in never refuses for a parent
+--     cut-not-long         cut never for the length of the block
 -- Assumes nothing.
 use Prim.Native.Nat.{ℕ, _+_, _≤_, _<_}
 use native.Mathlib.Omega.{arith}
@@ -19,23 +20,25 @@ use Rattle.jkf.specs.Answers.{figures, Outcome, refuse}
 use Rattle.block.specs.Model.{Line, Record}
 use Rattle.block.specs.Attach.{Play, starts, counts}
 use Rattle.block.specs.Encode.{encode}
-use Rattle.block.specs.Decode.{decode, linesIn, lineIn}
+use Rattle.block.specs.Decode.{decode}
 use Rattle.block.specs.Sound.{soundb, Sound}
 use Rattle.block.specs.Formed.{Formed}
 use Rattle.block.proofs.Deciding.{sound-says}
-use Rattle.block.proofs.Tabling.{length-run}
 use Rattle.parser.specs.Plays.{plyAt}
 use Rattle.edit.specs.Edit.{Edited, edited, refused, Changed, none, onChanged, playsIn, fresh, isVariation, variationOf, isPlyOf, carries, placeOf, putIn, changedFrom, insertAt, insertOn, insert, removedFrom, without, remove}
 use Rattle.edit.specs.Editing.{storedOf, editedOf, putInOf, cutOf}
 use Rattle.edit.proofs.Placing.{PutsIn, place-past}
 use Rattle.edit.proofs.Keeping.{still-lines, no-parent-changes}
 use Rattle.edit.proofs.Cutting.{CutsOut, lines-after-cut}
-use Rattle.edit.proofs.Sounds.{lines-hang, lines-afresh, plays-long, puts-in}
+use Rattle.edit.proofs.Sounds.{lines-hang, lines-afresh, puts-in}
 use Rattle.parser.proofs.Alls.{next}
+use Rattle.edit.proofs.Played.{plays-long}
+use Rattle.edit.proofs.Outcomes.{lines-counted}
 use Rattle.laws.proofs.Parts.{Bytes}
 use Rattle.laws.proofs.Forming.{refused as not-done, done-second}
 use Rattle.laws.proofs.Firsts.{led-take, led-drop, led-append}
 use Rattle.laws.proofs.Relining.{Standing, relined-formed, block-lines, text-line}
+use Rattle.laws.proofs.Fewer.{cut-short}
 
 -- ---- an edit
 
@@ -85,10 +88,6 @@ module _ {r : Record} {second : ℕ} {Asked : Type 0} (o : List ℕ) where
   edited-low (makes {x} {n = k} p q a) = stored-low (encode x) k o
   edited-low (refuses h l) = l
 
-lines-many : (b : List ℕ) → length (decode b .lines) ≡ linesIn b
-unfolding decode
-lines-many b = length-run (lineIn b) 0 (linesIn b)
-
 -- ---- put-in
 
 module _ (b : List ℕ) (k : ℕ) (t : List ℕ) where
@@ -112,7 +111,7 @@ module _ (b : List ℕ) (k : ℕ) (t : List ℕ) where
       (λ l. by-pick Puts (isVariation t) _ _
       (λ v. by-pick Puts (isPlyOf (starts ps k) (counts ps k) (plyAt t 0)) _ _
       (λ p. by-pick Puts (carries k (plyAt t 0) (drop 1 (decode b .lines))) _ _ (λ _. refuses (omega arith) (omega arith))
-      (λ c. placed (puts-in b s k (plyAt t 0) (omega (arith, lines-many b, ltb-true k (length (decode b .lines)) l)) p c .0) v))
+      (λ c. placed (puts-in b s k (plyAt t 0) (omega (arith, lines-counted b, ltb-true k (length (decode b .lines)) l)) p c .0) v))
       (λ _. refuses (omega arith) (omega arith)))
       (λ _. refuses (omega arith) (omega arith)))
       (λ _. refuses (omega arith) (omega arith))
@@ -189,7 +188,27 @@ module _ (b : List ℕ) (k : ℕ) where
       (λ _. refuses (omega arith) (omega arith)))
     where
       ok : (k ≡ 0 → ⊥) → k < length (decode b .lines) → CutsOut (playsIn (decode b .lines)) k
-      ok z l = record { lines = lines-hang b s; later = omega arith; line = omega (arith, plays-long b s, lines-many b) }
+      ok z l = record { lines = lines-hang b s; later = omega arith; line = omega (arith, plays-long b, lines-counted b) }
+
+-- a cut's answer has not the number of a block that is too long
+pub cut-not-long : (b o : List ℕ) → Bytes b → (k : ℕ) → figures (cutOf b k o .answer) .number ≡ 4 → ⊥
+unfolding cutOf remove editedOf storedOf figures
+cut-not-long b o bs k =
+    by-pick Not (soundb b) (editedOf (remove (decode b) k) o) (refuse NotSound o) (λ e. taken (sound-says b e)) (λ _ z. omega arith)
+  where
+    Not : Outcome → Type 0
+    Not x = figures (x .answer) .number ≡ 4 → ⊥
+
+    taken : Sound b → Not (editedOf (remove (decode b) k) o)
+    taken s =
+        by-pick (λ (x : Edited). Not (editedOf x o)) (eqb k 0) _ _ (λ _ z. omega arith)
+        (λ _. by-pick (λ (x : Edited). Not (editedOf x o)) (ltb k (length (decode b .lines))) _ _
+        (λ _. by-pick Not (ltb 65535 (length after)) _ _ (λ e _. omega (arith, ltb-true 65535 (length after) e, cut-short b s bs k (cutMany b k)))
+        (λ _. by-pick Not (ltb (length o) (length after)) _ _ (λ _ z. omega arith) (λ _ z. omega arith)))
+        (λ _ z. omega arith))
+      where
+        after : List ℕ
+        after = encode (fresh (decode b) (cutLines b k))
 
 -- what a cut that is done says, of the block after it and the number of lines cut
 pub record CutDone (b : List ℕ) (k : ℕ) (after : List ℕ) (m : ℕ) : Type 0 where

@@ -7,10 +7,10 @@
 --     put-rest, cut-rest       as many lines as there should be, and headers and position as they were
 --     put-undone               the cut of the line just put in gives the block back
 --     no-parent-refused        put-in never refuses for a parent
+--     no-cut-too-long          cut never refuses for the length of the block
 -- (01, Put-in and cut)
 -- Assumes nothing.
 use Prim.Native.Nat.{ℕ, _+_, _-_, _≤_, _<_}
-use native.Mathlib.Nat.{zero-add}
 use native.Mathlib.Omega.{arith}
 use mathlib.Core.Path.{_≡_, sym, ap, ap₂, _∙_, subst}
 use mathlib.Core.List.{List, []}
@@ -21,7 +21,7 @@ use borrow.Author.Tests.{ne-eqb, lt-ltb, le-leb, leb-true, leb-false}
 use Rattle.lists.specs.Pick.{pick}
 use Rattle.lists.proofs.Laws.{by-pick}
 use Rattle.jkf.specs.declared.Answer.{Answer}
-use Rattle.jkf.specs.declared.Answer.the-variants.{Done, NotSound, ParentChanges}
+use Rattle.jkf.specs.declared.Answer.the-variants.{Done, BlockTooLong, NotSound, ParentChanges}
 use Rattle.jkf.specs.Answers.{figures, Outcome, refuse}
 use Rattle.jkf.specs.Attaching.{hangs}
 use Rattle.jkf.specs.declared.Hang.the-variants.{On}
@@ -29,27 +29,27 @@ use Rattle.jkf.proofs.Nears.{near-same, hangs-made}
 use Rattle.block.specs.Model.{Line, Record}
 use Rattle.block.specs.Attach.{Play, play, playOf, starts, counts, parentIn, attach}
 use Rattle.block.specs.Encode.{encode}
-use Rattle.block.specs.Decode.{decode, linesIn, startOf, entryCount, parentOf, lineIn}
+use Rattle.block.specs.Decode.{decode, linesIn, startOf, entryCount, parentOf}
 use Rattle.block.specs.Sound.{Sound}
 use Rattle.block.specs.Formed.{lineOf, Formed}
 use Rattle.block.proofs.Deciding.{sound-answers}
-use Rattle.block.proofs.Tabling.{run-getD}
 use Rattle.parser.specs.Plays.{entriesAt, plyAt}
 use Rattle.parser.proofs.Hung.{attach-length, attach-line}
 use Rattle.edit.specs.Edit.{Edited, edited, playsIn, fresh, variationOf, renumbered, removedFrom, without, lowered, Kept, remove}
 use Rattle.edit.specs.Editing.{storedOf, editedOf, putInOf, cutOf}
-use Rattle.edit.proofs.Played.{starts-is, counts-is}
+use Rattle.edit.proofs.Played.{starts-is, counts-is, plays-long}
 use Rattle.edit.proofs.Placing.{put-length, put-list, ply-low, ply-within, place-past, place-within, put-starts, put-counts, new-hangs}
 use Rattle.edit.proofs.Keeping.{kept-after-put, new-parent}
 use Rattle.edit.proofs.Cutting.{HangsFrom as HangsIn, itself as itselfIn, on as onIn, cut-length, run-within, kept-after-cut, run-is-what-hangs}
-use Rattle.edit.proofs.Sounds.{lines-afresh, plays-long, plays-back}
+use Rattle.edit.proofs.Sounds.{lines-afresh, plays-back, parent-is}
 use Rattle.edit.proofs.Undoing.{cut-undoes}
 use Rattle.laws.proofs.Parts.{Bytes}
 use Rattle.laws.proofs.Fields.{lines-are, start-is, entry-count-is}
 use Rattle.laws.proofs.Decoded.{formed-fits, decode-encode}
 use Rattle.laws.proofs.Encoded.{encode-decode}
 use Rattle.laws.proofs.Made.{sound-encode}
-use Rattle.laws.proofs.Edited.{putPlace, putLines, PutDone, put-done, parent-kept, cutMany, cutLines, CutDone, cut-done}
+use Rattle.laws.proofs.Edited.{putPlace, putLines, PutDone, put-done, parent-kept, cutMany, cutLines, CutDone, cut-done, cut-not-long}
+use Rattle.laws.proofs.Fewer.{same-record}
 
 -- ---- words
 
@@ -126,7 +126,7 @@ module _ (b t o : List ℕ) (bs : Bytes b) (ts : Bytes t) (k n i : ℕ) (done : 
   puts = put-done b t o bs ts k n i done
 
   put-long : length (putLines b k t) ≡ linesIn b + 1
-  put-long = put-length (playsOf b) (putPlace b k t) (variationOf t) (place-within (playsOf b) k (plyAt t 0) (puts .put)) ∙ ap (λ (x : ℕ). x + 1) (plays-long b (puts .sound))
+  put-long = put-length (playsOf b) (putPlace b k t) (variationOf t) (place-within (playsOf b) k (plyAt t 0) (puts .put)) ∙ ap (λ (x : ℕ). x + 1) (plays-long b)
 
   pub put-sound : Sound (blockIn n (putInOf b k t o))
   put-sound = relined-sound b (putLines b k t) (blockIn n (putInOf b k t o)) (puts .formed) (puts .front)
@@ -144,7 +144,7 @@ module _ (b t o : List ℕ) (bs : Bytes b) (ts : Bytes t) (k n i : ℕ) (done : 
       ≡ withParent (renumbered i (lineOf (decode b .lines) l .parent)) (lineOf (decode b .lines) l)
   put-keeps l h =
       let c = blockIn n (putInOf b k t o) in
-      let a : l < length (playsOf b) = omega (arith, plays-long b (puts .sound)) in
+      let a : l < length (playsOf b) = omega (arith, plays-long b) in
       let (e, p) = kept-after-put (playsOf b) k (variationOf t) (puts .put) l (play 0 []) a in
       subst (λ (x : ℕ). lineOf (decode c .lines) (renumbered x l) ≡ withParent (renumbered x (lineOf (decode b .lines) l .parent)) (lineOf (decode b .lines) l)) (sym (puts .place))
       (ap (λ (ls : List Line). lineOf ls (renumbered (putPlace b k t) l)) (relined-lines b (putLines b k t) c (puts .formed) (puts .front))
@@ -162,7 +162,7 @@ module _ (b t o : List ℕ) (bs : Bytes b) (ts : Bytes t) (k n i : ℕ) (done : 
       let qs = putLines b k t in
       let fits = place-within (playsOf b) k (plyAt t 0) (puts .put) in
       ap (λ (ls : List Line). lineOf ls (putPlace b k t)) (relined-lines b qs (blockIn n (putInOf b k t o)) (puts .formed) (puts .front))
-      ∙ attach-line qs (putPlace b k t) (omega (arith, put-long, plays-long b (puts .sound)))
+      ∙ attach-line qs (putPlace b k t) (omega (arith, put-long, plays-long b))
       ∙ ap₂ (λ (x : Play) (y : ℕ). record { start = x .start; parent = y; entries = x .entries })
       (put-list (playsOf b) (putPlace b k t) (variationOf t) fits (play 0 []) .new) (new-parent (playsOf b) k (variationOf t) (puts .put))
 
@@ -187,10 +187,10 @@ module _ (b t o : List ℕ) (bs : Bytes b) (ts : Bytes t) (k n i : ℕ) (done : 
       qs = putLines b k t
 
       old : k < linesIn b
-      old = omega (arith, puts .put .line, plays-long b (puts .sound))
+      old = omega (arith, puts .put .line, plays-long b)
 
       few : putPlace b k t < length (putLines b k t)
-      few = omega (arith, put-long, place-within (playsOf b) k (plyAt t 0) (puts .put), plays-long b (puts .sound))
+      few = omega (arith, put-long, place-within (playsOf b) k (plyAt t 0) (puts .put), plays-long b)
 
       st : (j : ℕ) → j < length qs → startOf c j ≡ starts qs j
       st = relined-starts b qs c (puts .formed) (puts .front)
@@ -217,12 +217,11 @@ module _ (b t o : List ℕ) (bs : Bytes b) (ts : Bytes t) (k n i : ℕ) (done : 
       let fits = place-within (playsOf b) k (plyAt t 0) (puts .put) in
       let (alone, back) = cut-undoes (playsOf b) k (variationOf t) (puts .put) in
       ap (λ (x : Record). remove x i) (relined-is b qs (blockIn n (putInOf b k t o)) (puts .formed) (puts .front))
-      ∙ remove-made r i (omega arith) (omega (arith, attach-length qs, put-long, plays-long b (puts .sound)))
+      ∙ remove-made r i (omega arith) (omega (arith, attach-length qs, put-long, plays-long b))
       ∙ ap (λ (l : List Play). edited (fresh r (without i (removedFrom l i) l)) (removedFrom l i)) (plays-back qs)
       ∙ ap (λ (m : ℕ). edited (fresh r (without i m qs)) m) alone
       ∙ ap (λ (l : List Play). edited (fresh r l) 1) back
-      ∙ ap (λ (ls : List Line). edited (record { version = decode b .version; headers = decode b .headers; position = decode b .position; lines = ls }) 1)
-      (sym (lines-afresh b (puts .sound)))
+      ∙ ap (λ (x : Record). edited x 1) (same-record b (puts .sound))
 
   pub put-undone : (o′ : List ℕ) → cutOf (blockIn n (putInOf b k t o)) i o′ ≡ storedOf b 1 o′
   unfolding cutOf editedOf
@@ -239,6 +238,10 @@ no-parent-refused b t o k i e = omega (arith, ap (λ (x : Answer). figures x .nu
 
 -- ---- cut
 
+pub no-cut-too-long : (b o : List ℕ) (k n : ℕ) → Bytes b → cutOf b k o .answer ≡ BlockTooLong n → ⊥
+unfolding figures
+no-cut-too-long b o k n bs e = cut-not-long b o bs k (ap (λ (x : Answer). figures x .number) e)
+
 module _ (b o : List ℕ) (bs : Bytes b) (k n m : ℕ) (done : cutOf b k o .answer ≡ Done n m) where
   cuts : CutDone b k (blockIn n (cutOf b k o)) m
   cuts = cut-done b o bs k n m done
@@ -253,14 +256,7 @@ module _ (b o : List ℕ) (bs : Bytes b) (k n m : ℕ) (done : cutOf b k o .answ
 
   line-is : (l : ℕ) → l < linesIn b → lineOf (decode b .lines) l ≡ record { start = starts (playsOf b) l; parent = parentIn (playsOf b) l; entries = playOf (playsOf b) l .entries }
   line-is l h =
-      ap (λ (ls : List Line). lineOf ls l) (lines-afresh b (cuts .sound)) ∙ attach-line (playsOf b) l (omega (arith, plays-long b (cuts .sound)))
-
-  parent-is : (l : ℕ) → l < linesIn b → parentOf b l ≡ parentIn (playsOf b) l
-  unfolding decode
-  parent-is l h =
-      ap (parentOf b) (sym (zero-add l))
-      ∙ sym (ap (λ (x : Line). x .parent) (run-getD (lineIn b) (record { start = 0; parent = 0; entries = [] }) 0 (linesIn b) l h))
-      ∙ ap (λ (x : Line). x .parent) (line-is l h)
+      ap (λ (ls : List Line). lineOf ls l) (lines-afresh b (cuts .sound)) ∙ attach-line (playsOf b) l (omega (arith, plays-long b))
 
   -- ---- the block after it
 
@@ -273,7 +269,7 @@ module _ (b o : List ℕ) (bs : Bytes b) (k n m : ℕ) (done : cutOf b k o .answ
   cut-rest =
       let c = blockIn n (cutOf b k o) in
       let (h, p) = relined-rest b (cutLines b k) c (cuts .formed) (cuts .front) in
-      (omega (arith, relined-many b (cutLines b k) c (cuts .formed) (cuts .front), cut-long, cut-within, cuts .many, plays-long b (cuts .sound)), h, p)
+      (omega (arith, relined-many b (cutLines b k) c (cuts .formed) (cuts .front), cut-long, cut-within, cuts .many, plays-long b), h, p)
 
   pub cut-keeps : (l : ℕ) → l < linesIn b → Kept k m l
       → (lineOf (decode (blockIn n (cutOf b k o)) .lines) (lowered k m l)
@@ -287,7 +283,7 @@ module _ (b o : List ℕ) (bs : Bytes b) (k n m : ℕ) (done : cutOf b k o .answ
       c = blockIn n (cutOf b k o)
 
       a : l < length (playsOf b)
-      a = omega (arith, plays-long b (cuts .sound))
+      a = omega (arith, plays-long b)
 
       low : Kept k (cutMany b k) l → lowered k (cutMany b k) l < length (cutLines b k)
       low g =
@@ -310,13 +306,13 @@ module _ (b o : List ℕ) (bs : Bytes b) (k n m : ℕ) (done : cutOf b k o .answ
 
   in-lines : {l : ℕ} → HangsFrom b k l → HangsIn (playsOf b) k l
   in-lines itself = itselfIn
-  in-lines (on {l} z h r) = onIn z (omega (arith, plays-long b (cuts .sound))) (subst (HangsIn (playsOf b) k) (parent-is l h) (in-lines r))
+  in-lines (on {l} z h r) = onIn z (omega (arith, plays-long b)) (subst (HangsIn (playsOf b) k) (parent-is b (cuts .sound) l h) (in-lines r))
 
   in-block : {l : ℕ} → HangsIn (playsOf b) k l → HangsFrom b k l
   in-block itselfIn = itself
   in-block (onIn {i = l} z h r) =
-      let a : l < linesIn b = omega (arith, plays-long b (cuts .sound)) in
-      on z a (subst (HangsFrom b k) (sym (parent-is l a)) (in-block r))
+      let a : l < linesIn b = omega (arith, plays-long b) in
+      on z a (subst (HangsFrom b k) (sym (parent-is b (cuts .sound) l a)) (in-block r))
 
   pub cut-takes : (l : ℕ) → (HangsFrom b k l → (k ≤ l) × (l < k + m)) × ((k ≤ l) × (l < k + m) → HangsFrom b k l)
   cut-takes l =

@@ -20,9 +20,10 @@ use Rattle.block.specs.Decode.{decode, headersIn, linesIn, movesIn, commentsIn,
 use Rattle.block.specs.Sound.{sum, Sound, headerBytes, commentBytes, commentsBefore, entriesBefore}
 use Rattle.block.proofs.Sums.{sum-none, sum-suc}
 use Rattle.block.proofs.Tabling.{length-run, table-grows, concat-grows}
+use Rattle.block.proofs.Within.{key-length, value-length}
 use Rattle.laws.proofs.Parts.{Part, then, part-from, part-as, part-of, part-length, Bytes, number-part, two-part, four-part}
 use Rattle.laws.proofs.Positions.{position-bytes}
-use Rattle.laws.proofs.Held.{whole-length, key-part, value-part, key-length, value-length, comment-part, comment-length, entry-is, all-entries, all-comments}
+use Rattle.laws.proofs.Held.{whole-length, key-part, value-part, comment-part, comment-length, entry-is, all-entries, all-comments}
 
 -- one part after another, from the front on
 join : {b t u : List ℕ} {n m : ℕ} → Part b 0 n t → Part b n m u → Part b 0 (n + m) (t ++ u)
@@ -80,10 +81,10 @@ module _ (b : List ℕ) (s : Sound b) (u : Bytes b) where
   header-row k h =
       let e₁ = s .headers k h .0 in
       let e₂ = s .headers k h .1 .0 in
-      let n₁ = key-length b s u k h in
-      let n₂ = value-length b s u k h in
+      let n₁ = key-length b s k h in
+      let n₂ = value-length b s k h in
       four (headerPlace b k) (headerBytes b k) (length (keyOf b k)) (headerBytes b k + length (keyOf b k)) (length (valueOf b k)) (sym e₁) n₁ (omega arith) n₂
-      (omega (arith, whole-length b s u))
+      (omega (arith, whole-length b s))
 
   header-table : Part b 128 (8 * headersIn b) (table headerRow headerStep 0 (run (headerIn b) 0 (headersIn b)))
   header-table =
@@ -91,14 +92,14 @@ module _ (b : List ℕ) (s : Sound b) (u : Bytes b) where
         is =
             ap (λ (n : ℕ). table headerRow headerStep n (run (headerIn b) 0 (headersIn b))) (sym (sum-none (λ k. keyLength b k + valueLength b k)))
             ∙ table-grows headerRow headerStep (headerIn b) (headerBytes b) (λ k. take (8 * k) (drop 128 b)) (headersIn b) refl
-            (λ k h. omega (arith, key-length b s u k h, value-length b s u k h, sum-suc (λ k. keyLength b k + valueLength b k) k))
+            (λ k h. omega (arith, key-length b s k h, value-length b s k h, sum-suc (λ k. keyLength b k + valueLength b k) k))
             (λ k h. grows 128 8 k (header-row k h));
       }
 
   line-row : (k : ℕ) → k < linesIn b → Part b (128 + 8 * headersIn b + 8 * k) 8 (lineRow (entriesBefore b k) (lineIn b k))
   line-row k h =
       four (linePlace b k) (startOf b k) (entriesBefore b k) (length (lineIn b k .entries)) (parentOf b k) refl (sym (s .lines k h .0))
-      (length-run (notedIn b) (firstEntry b k) (entryCount b k)) refl (omega (arith, whole-length b s u))
+      (length-run (notedIn b) (firstEntry b k) (entryCount b k)) refl (omega (arith, whole-length b s))
 
   line-table : Part b (128 + 8 * headersIn b) (8 * linesIn b) (table lineRow lineStep 0 (run (lineIn b) 0 (linesIn b)))
   line-table =
@@ -116,7 +117,7 @@ module _ (b : List ℕ) (s : Sound b) (u : Bytes b) where
       record {
         is =
             ap (λ (i : ℕ). entryBytes (notedIn b k .what) (pick (eqb i 0) 0 (commentsBefore b k)) i) n
-            ∙ sym (entry-is b s u k h);
+            ∙ sym (entry-is b s k h);
       }
 
   entry-table : Part b (128 + 8 * headersIn b + 8 * linesIn b) (20 * movesIn b) (table entryRow entryStep 0 (run (notedIn b) 0 (movesIn b)))
@@ -133,8 +134,8 @@ module _ (b : List ℕ) (s : Sound b) (u : Bytes b) where
       → Part b (128 + 8 * headersIn b + 8 * linesIn b + 20 * movesIn b + 4 * k) 4 (commentRow (headerBytes b (headersIn b) + commentBytes b k) (commentOf b k))
   comment-row k h =
       part-as (bytes16 (commentOffset b k) ++ bytes16 (commentLength b k))
-      (ap₂ (λ (x y : ℕ). bytes16 x ++ bytes16 y) (sym (s .comments k h .0)) (comment-length b s u k h))
-      (two-part b u (commentPlace b k) (omega (arith, whole-length b s u)))
+      (ap₂ (λ (x y : ℕ). bytes16 x ++ bytes16 y) (sym (s .comments k h .0)) (comment-length b s k h))
+      (two-part b u (commentPlace b k) (omega (arith, whole-length b s)))
 
   comment-table : (n : ℕ) → n ≡ headerBytes b (headersIn b)
       → Part b (128 + 8 * headersIn b + 8 * linesIn b + 20 * movesIn b) (4 * commentsIn b) (table commentRow commentStep n (run (commentOf b) 0 (commentsIn b)))
@@ -145,7 +146,7 @@ module _ (b : List ℕ) (s : Sound b) (u : Bytes b) where
             ap (λ (n : ℕ). table commentRow commentStep n (run (commentOf b) 0 (commentsIn b))) z
             ∙ table-grows commentRow commentStep (commentOf b) (λ k. headerBytes b (headersIn b) + commentBytes b k)
             (λ k. take (4 * k) (drop (128 + 8 * headersIn b + 8 * linesIn b + 20 * movesIn b) b)) (commentsIn b) refl
-            (λ k h. omega (arith, comment-length b s u k h, sum-suc (λ k. commentLength b k) k))
+            (λ k h. omega (arith, comment-length b s k h, sum-suc (λ k. commentLength b k) k))
             (λ k h. grows (128 + 8 * headersIn b + 8 * linesIn b + 20 * movesIn b) 4 k (comment-row k h));
       }
 
@@ -157,7 +158,7 @@ module _ (b : List ℕ) (s : Sound b) (u : Bytes b) where
         is =
             concat-grows (λ (h : Header). h .key ++ h .value) (headerIn b) (λ k. take (headerBytes b k) (drop (textPlace b) b)) (headersIn b)
             (ap (λ (n : ℕ). take n (drop (textPlace b) b)) (sum-none (λ k. keyLength b k + valueLength b k)))
-            (λ k h. onward (textPlace b) (λ k. keyLength b k + valueLength b k) k (then (key-part b s u k h) (value-part b s u k h)));
+            (λ k h. onward (textPlace b) (λ k. keyLength b k + valueLength b k) k (then (key-part b s k h) (value-part b s k h)));
       }
 
   comment-text : Part b (textPlace b + headerBytes b (headersIn b)) (commentBytes b (commentsIn b)) (commentText (run (commentOf b) 0 (commentsIn b)))
@@ -166,7 +167,7 @@ module _ (b : List ℕ) (s : Sound b) (u : Bytes b) where
         is =
             concat-grows (λ (c : List ℕ). c) (commentOf b) (λ k. take (commentBytes b k) (drop (textPlace b + headerBytes b (headersIn b)) b)) (commentsIn b)
             (ap (λ (n : ℕ). take n (drop (textPlace b + headerBytes b (headersIn b)) b)) (sum-none (λ k. commentLength b k)))
-            (λ k h. onward (textPlace b + headerBytes b (headersIn b)) (λ k. commentLength b k) k (comment-part b s u k h));
+            (λ k h. onward (textPlace b + headerBytes b (headersIn b)) (λ k. commentLength b k) k (comment-part b s k h));
       }
 
   -- ---- the whole
@@ -186,7 +187,7 @@ module _ (b : List ℕ) (s : Sound b) (u : Bytes b) where
       let ls = run (lineIn b) 0 (linesIn b) in
       let es = run (notedIn b) 0 (movesIn b) in
       let cs = run (commentOf b) 0 (commentsIn b) in
-      let w = whole-length b s u in
+      let w = whole-length b s in
       let n₁ : length (headerText hs) ≡ headerBytes b (headersIn b) = part-length header-text (omega arith) in
       let n₂ : length (commentText cs) ≡ commentBytes b (commentsIn b) = part-length comment-text (omega arith) in
       let h₁ : length hs ≡ headersIn b = length-run (headerIn b) 0 (headersIn b) in
@@ -206,8 +207,8 @@ encode-decode b s u =
     let ls = run (lineIn b) 0 (linesIn b) in
     let es = run (notedIn b) 0 (movesIn b) in
     let p = positionBytes (positionIn (drop 28 b)) in
-    ap (λ (l : List Noted). encodeFlat (le16 b 2) p hs ls l (commentsOf l)) (all-entries b s u)
-    ∙ ap (λ (c : List (List ℕ)). encodeFlat (le16 b 2) p hs ls es c) (all-comments b s u)
+    ap (λ (l : List Noted). encodeFlat (le16 b 2) p hs ls l (commentsOf l)) (all-entries b s)
+    ∙ ap (λ (c : List (List ℕ)). encodeFlat (le16 b 2) p hs ls es c) (all-comments b s)
     ∙ flat-back b s u
 
 -- no two sound blocks hold the same record

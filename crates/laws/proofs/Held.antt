@@ -1,4 +1,4 @@
--- What a sound block holds, list by list: its texts are as long as their rows say, and the entries of the lines, and the comments of the
+-- What a sound block holds, list by list: its texts stand where their rows say, and the entries of the lines, and the comments of the
 -- entries, follow one another, so that taken together they are all entries and all comments. For a row says where its part begins, that is
 -- the sum of the lengths before it, and no sum goes past the whole.
 -- Assumes nothing.
@@ -7,23 +7,21 @@ use native.Mathlib.Nat.{zero-add, add-zero}
 use native.Mathlib.Omega.{arith}
 use mathlib.Core.Path.{_≡_, sym, ap, _∙_}
 use mathlib.Core.List.{List, _++_, append-nil}
-use mathlib.Core.Bool.{Bool, true, false}
-use lib.ListN.{length, take, drop, take-append-drop}
+use mathlib.Core.Bool.{Bool}
+use lib.ListN.{length, take, drop}
 use lib.Dec.{eqb}
 use borrow.Author.Tests.{ne-eqb}
 use Rattle.lists.specs.Pick.{pick}
-use Rattle.lent.specs.Bytes.{le16}
 use Rattle.jkf.specs.Entries.{entryIn, entryBytes}
 use Rattle.block.specs.Model.{Noted, Line}
 use Rattle.block.specs.Encode.{entriesOf, commentsOf}
 use Rattle.block.specs.Decode.{headersIn, linesIn, movesIn, commentsIn, movePlace, textPlace, keyOffset, keyLength, valueOffset, valueLength, firstEntry, entryCount, firstComment, commentCount, commentOffset, commentLength, keyOf, valueOf, commentOf, notedIn, lineIn, run}
 use Rattle.block.specs.Sound.{Sound, headerBytes, commentBytes, commentsBefore, entriesBefore}
 use Rattle.block.proofs.Deciding.{same-is}
-use Rattle.block.proofs.Lining.{le16-drop}
-use Rattle.block.proofs.Sums.{sum-none, sum-suc, sum-rises, sum-within}
+use Rattle.block.proofs.Sums.{sum-none, sum-suc, sum-within}
 use Rattle.block.proofs.Tabling.{run-none, run-add, concat-grows}
-use Rattle.jkf.proofs.EntriesBack.{first-back}
-use Rattle.laws.proofs.Parts.{Part, Bytes, part-of, part-from, part-length, number-small}
+use Rattle.block.proofs.Within.{first-comment}
+use Rattle.laws.proofs.Parts.{Part, part-of, part-from, part-length}
 
 -- a run goes on with another that begins where it ends, or is empty
 follow : {X : Type 0} (f : ℕ → X) (a j n : ℕ) → j ≡ pick (eqb n 0) 0 a → run f 0 a ++ run f j n ≡ run f 0 (a + n)
@@ -32,14 +30,11 @@ follow f a j (suc n) e =
     let q : j ≡ 0 + a = e ∙ ap (λ (t : Bool). pick t 0 a) (ne-eqb (suc n) 0 (λ z. omega arith)) ∙ sym (zero-add a) in
     ap (λ (i : ℕ). run f 0 a ++ run f i (suc n)) q ∙ sym (run-add f 0 a (suc n))
 
-module _ (b : List ℕ) (s : Sound b) (u : Bytes b) where
+module _ (b : List ℕ) (s : Sound b) where
   pub whole-length : textPlace b + headerBytes b (headersIn b) + commentBytes b (commentsIn b) ≡ length b
   whole-length = s .totals .1 .1 .1
 
   -- ---- the texts of header entry k
-
-  pub header-within : (k : ℕ) → k < headersIn b → headerBytes b k + (keyLength b k + valueLength b k) ≤ headerBytes b (headersIn b)
-  header-within k h = sum-within (λ k. keyLength b k + valueLength b k) k (headersIn b) h
 
   pub key-part : (k : ℕ) → k < headersIn b → Part b (textPlace b + headerBytes b k) (keyLength b k) (keyOf b k)
   unfolding keyOf
@@ -52,12 +47,6 @@ module _ (b : List ℕ) (s : Sound b) (u : Bytes b) where
   value-part k h =
       let e : textPlace b + valueOffset b k ≡ textPlace b + headerBytes b k + keyLength b k = omega (arith, s .headers k h .1 .0) in
       part-from _ e (part-of b (textPlace b + valueOffset b k) (valueLength b k))
-
-  pub key-length : (k : ℕ) → k < headersIn b → length (keyOf b k) ≡ keyLength b k
-  key-length k h = part-length (key-part k h) (omega (arith, whole-length, header-within k h))
-
-  pub value-length : (k : ℕ) → k < headersIn b → length (valueOf b k) ≡ valueLength b k
-  value-length k h = part-length (value-part k h) (omega (arith, whole-length, header-within k h))
 
   -- ---- comment k
 
@@ -81,22 +70,6 @@ module _ (b : List ℕ) (s : Sound b) (u : Bytes b) where
       ≡ entryBytes (entryIn (drop (movePlace b k) b)) (pick (eqb (commentCount b k) 0) 0 (commentsBefore b k)) (commentCount b k)
   entry-is k h = same-is _ _ (s .entries k h .1)
 
-  pub comments-small : (k : ℕ) → k ≤ movesIn b → commentsBefore b k < 65536
-  comments-small k h =
-      omega (arith, sum-rises (λ k. commentCount b k) k (movesIn b) h, s .totals .1 .1 .0, number-small b u 12)
-
-  -- where its comments begin, if it has some
-  pub first-comment : (k : ℕ) → k < movesIn b → firstComment b k ≡ pick (eqb (commentCount b k) 0) 0 (commentsBefore b k)
-  first-comment k h =
-      let l = drop (movePlace b k) b in
-      let f = pick (eqb (commentCount b k) 0) 0 (commentsBefore b k) in
-      let e : l ≡ entryBytes (entryIn l) f (commentCount b k) ++ drop 20 l = sym (take-append-drop 20 l) ∙ ap (λ (t : List ℕ). t ++ drop 20 l) (entry-is k h) in
-      sym (le16-drop b (movePlace b k) 16) ∙ ap (λ (t : List ℕ). le16 t 16) e ∙ first-back (entryIn l) f (commentCount b k) (drop 20 l) (small (eqb (commentCount b k) 0))
-    where
-      small : (t : Bool) → pick t 0 (commentsBefore b k) < 65536
-      small true = omega arith
-      small false = comments-small k (omega arith)
-
   -- ---- all entries, and all comments
 
   entries-next : (k : ℕ) → k < linesIn b → run (notedIn b) 0 (entriesBefore b k) ++ lineIn b k .entries ≡ run (notedIn b) 0 (entriesBefore b (suc k))
@@ -114,7 +87,7 @@ module _ (b : List ℕ) (s : Sound b) (u : Bytes b) where
 
   comments-next : (k : ℕ) → k < movesIn b → run (commentOf b) 0 (commentsBefore b k) ++ notedIn b k .comments ≡ run (commentOf b) 0 (commentsBefore b (suc k))
   comments-next k h =
-      follow (commentOf b) (commentsBefore b k) (firstComment b k) (commentCount b k) (first-comment k h)
+      follow (commentOf b) (commentsBefore b k) (firstComment b k) (commentCount b k) (first-comment b s k h)
       ∙ ap (run (commentOf b) 0) (sym (sum-suc (λ k. commentCount b k) k))
 
   pub all-comments : commentsOf (run (notedIn b) 0 (movesIn b)) ≡ run (commentOf b) 0 (commentsIn b)

@@ -14,5 +14,6 @@ pub mod Forming
 pub mod Reading
 pub mod Firsts
 pub mod Relining
+pub mod Fewer
 pub mod Edited
 pub mod Editing

@@ -12,12 +12,11 @@ use mathlib.Core.Bool.{Bool, true, false}
 use lib.ListN.{length, take, drop, length-drop}
 use lib.Seq.{getD-drop}
 use lib.Dec.{eqb, ltb}
-use borrow.Author.Tests.{eqb-true, eqb-false, ltb-true, lt-ltb, ne-eqb}
+use borrow.Author.Tests.{ltb-true, lt-ltb, ne-eqb}
 use Rattle.lists.specs.Pick.{pick}
 use Rattle.lists.specs.Test.{each, claim}
-use Rattle.lists.proofs.Laws.{by-pick, pick-both, pick-none}
+use Rattle.lists.proofs.Laws.{by-pick}
 use Rattle.lent.specs.Bytes.{bytes16}
-use Rattle.text.specs.Utf8.{wellFormed}
 use Rattle.jkf.specs.Entries.{timeBytes, timeOf, headBytes as entryHead, entryBytes}
 use Rattle.jkf.specs.Positions.{positionBytes, positionIn}
 use Rattle.jkf.specs.declared.Entry.{Entry}
@@ -27,24 +26,25 @@ use Rattle.block.specs.Model.{Header, Noted}
 use Rattle.block.specs.Attach.{Play, play, counts, attach}
 use Rattle.block.specs.Encode.{encode, entryRow, entryStep, entriesOf, commentsOf, headerText}
 use Rattle.block.specs.Decode.{decode, run, headersIn, linesIn, movesIn, commentsIn, movePlace, textPlace, keyOffset, keyLength, valueOffset, valueLength, firstEntry, entryCount, firstComment, commentCount, commentOffset, commentLength, textAt, keyOf, valueOf, commentOf, headerIn, notedIn}
-use Rattle.block.specs.Sound.{Sound, valid, before, kindTest, entriesBefore, commentsBefore}
+use Rattle.block.specs.Sound.{Sound, valid, before, kindTest, commentsBefore}
 use Rattle.block.specs.Formed.{headerOf, notedOf, headerFits, Formed}
-use Rattle.block.proofs.Sums.{sum-none, sum-within}
+use Rattle.block.proofs.Sums.{sum-within}
 use Rattle.block.proofs.Tabling.{length-run, run-getD}
+use Rattle.block.proofs.Within.{first-comment, some-entry, entries-within, first-none}
 use Rattle.moves.proofs.Answers.{line-is}
 use Rattle.moves.proofs.Fits.{move-line-fits, entry-bytes-small}
 use Rattle.moves.proofs.Smalls.{Bytes as AllBytes, empty, each as eachByte, bytes-at, bytes-from, bytes-take, bytes-drop, bytes-join, bytes-16}
-use Rattle.parser.specs.Plays.{entriesAt}
 use Rattle.parser.proofs.Alls.{All, all-at, all-concat}
 use Rattle.parser.proofs.Hung.{attach-length, attach-entries, lines-hang}
 use Rattle.moves.proofs.Worded.{remark-well}
 use Rattle.edit.specs.Edit.{playsIn, fresh, isVariation, variationOf}
 use Rattle.edit.specs.Splicing.{Lines, playIn}
 use Rattle.edit.proofs.Played.{plays-are}
-use Rattle.edit.proofs.Sounds.{first-is, before-all}
+use Rattle.edit.proofs.Sounds.{first-is}
+use Rattle.edit.proofs.Texts.{variation-says}
 use Rattle.laws.proofs.Parts.{Bytes}
 use Rattle.laws.proofs.Positions.{position-bytes}
-use Rattle.laws.proofs.Held.{entry-is, first-comment}
+use Rattle.laws.proofs.Held.{entry-is}
 use Rattle.laws.proofs.Playing.{comments-all, entries-all, later-kind}
 use Rattle.laws.proofs.Smalling.{bytes-concat, bytes-table, lines-bytes, remarks-bytes}
 use Rattle.laws.proofs.Heading.{headers-bytes}
@@ -214,7 +214,7 @@ module _ (b : List ℕ) (s : Sound b) (u : Bytes b) where
       go : (i : ℕ) → firstComment b k ≤ i → i < firstComment b k + commentCount b k → i < commentsIn b
       go i x y =
           let e : eqb (commentCount b k) 0 ≡ false = ne-eqb (commentCount b k) 0 (λ z. omega arith) in
-          let f : firstComment b k ≡ commentsBefore b k = first-comment b s u k l ∙ ap (λ (t : Bool). pick t 0 (commentsBefore b k)) e in
+          let f : firstComment b k ≡ commentsBefore b k = first-comment b s k l ∙ ap (λ (t : Bool). pick t 0 (commentsBefore b k)) e in
           omega (arith, sum-within (λ k. commentCount b k) k (movesIn b) l, s .totals .1 .1 .0)
 
   comment-bytes : (j : ℕ) → AllBytes (commentOf b j)
@@ -224,38 +224,31 @@ module _ (b : List ℕ) (s : Sound b) (u : Bytes b) where
   entry-stands : (k : ℕ) → k < movesIn b → Stands (notedIn b k)
   entry-stands k h =
       record {
-        row = λ n. other-row (notedIn b k .what) _ _ _ _ (subst AllBytes (entry-is b s u k h) (bytes-take 20 (bytes-drop (movePlace b k) bytes)));
+        row = λ n. other-row (notedIn b k .what) _ _ _ _ (subst AllBytes (entry-is b s k h) (bytes-take 20 (bytes-drop (movePlace b k) bytes)));
         valids = comments-of (λ c. claim (valid c)) (λ j l. s .comments j l .1) k h;
         texts = comments-of AllBytes (λ j _. comment-bytes j) k h;
       }
-
-  some-entries : (k : ℕ) → k < linesIn b → 1 ≤ entryCount b k
-  some-entries k h = s .lines k h .1 .0
-
-  line-within : (k : ℕ) → k < linesIn b → entriesBefore b k + entryCount b k ≤ movesIn b
-  line-within k h = omega (arith, sum-within (λ k. entryCount b k) k (linesIn b) h, before-all b s)
 
   pub block-lines : Standing (playsIn (decode b .lines))
   block-lines = subst Standing (sym (plays-are b)) (led-run (playIn b) (linesIn b) (s .totals .0) main side)
     where
       main : Main (playIn b 0)
       main =
-          let n = line-within 0 (s .totals .0) in
-          let z = sum-none (λ k. entryCount b k) in
-          let o = some-entries 0 (s .totals .0) in
-          subst (λ (i : ℕ). Led First Later (run (notedIn b) i (entryCount b 0))) (sym (first-is b s 0 (s .totals .0) ∙ z))
+          let n = entries-within b s 0 (s .totals .0) in
+          let o = some-entry b s 0 (s .totals .0) in
+          subst (λ (i : ℕ). Led First Later (run (notedIn b) i (entryCount b 0))) (sym (first-none b s))
           (led-run (notedIn b) (entryCount b 0) (omega arith)
           (entry-stands 0 (omega arith), slot-first (notedIn b 0 .what) (s .entries 0 (omega arith) .0))
           (λ i a l. (entry-stands i (omega arith), kind-same i 1 (notedIn b i .what) a (omega arith) (s .entries i (omega arith) .0))))
 
       side : (k : ℕ) → 0 < k → k < linesIn b → Side (playIn b k)
       side k z h =
-          let n = line-within k h in
+          let n = entries-within b s k h in
           let e = first-is b s k h in
           let f = sum-within (λ k. entryCount b k) 0 k z in
-          let o = some-entries 0 (s .totals .0) in
+          let o = some-entry b s 0 (s .totals .0) in
           record {
-            some = omega (arith, length-run (notedIn b) (firstEntry b k) (entryCount b k), some-entries k h);
+            some = omega (arith, length-run (notedIn b) (firstEntry b k) (entryCount b k), some-entry b s k h);
             each =
                 all-run (notedIn b) (entryCount b k) (firstEntry b k)
                 (λ i a l. (entry-stands i (omega arith), kind-same i 1 (notedIn b i .what) (omega arith) (omega arith) (s .entries i (omega arith) .0)));
@@ -263,22 +256,11 @@ module _ (b : List ℕ) (s : Sound b) (u : Bytes b) where
 
 -- ---- the line of a text
 
-variation-says : (t : List ℕ) → isVariation t ≡ true → (1 ≤ length (entriesAt t 0 .state)) × (wellFormed t ≡ length t)
-unfolding isVariation
-variation-says t h =
-    let es = entriesAt t 0 .state in
-    let end = pick (eqb (entriesAt t 0 .at) (length t)) (eqb (wellFormed t) (length t)) false in
-    let (_, r) = pick-none (ltb 65535 (length t)) (pick (eqb (length es) 0) false end) h in
-    let (a, r′) = pick-none (eqb (length es) 0) end r in
-    let (_, w) = pick-both (eqb (entriesAt t 0 .at) (length t)) (eqb (wellFormed t) (length t)) r′ in
-    let z : length es ≡ 0 → ⊥ = eqb-false _ _ a in
-    (omega arith, eqb-true _ _ w)
-
 pub text-line : (t : List ℕ) → Bytes t → isVariation t ≡ true → Side (variationOf t)
 text-line t u v =
-    let (some, w) = variation-says t v in
+    let (_, some, w) = variation-says t v in
     record {
-      some = some;
+      some = omega (arith, some);
       each =
           entries-all t Later (λ at n e c q.
           let f = line-is (move-line-fits t at) q .entry in (

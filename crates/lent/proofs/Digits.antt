@@ -1,7 +1,8 @@
 -- Laws of decimal numbers: the digits of a number are those of its tens, and its last one.
 -- Assumes nothing.
-use Prim.Native.Nat.{ℕ, zero, suc, _+_, _-_, _/_, _%_, _≤_, _<_}
+use Prim.Native.Nat.{ℕ, zero, suc, _+_, _*_, _-_, _/_, _%_, _≤_, _<_}
 use native.Mathlib.Omega.{arith}
+use native.Mathlib.Decide.{decLt}
 use mathlib.Core.Path.{_≡_, refl, ap, _∙_}
 use mathlib.Core.List.{List, [], _∷_, _++_}
 use mathlib.Core.Bool.{Bool, true, false}
@@ -39,6 +40,37 @@ decimal-length-one n h = ap length (decimal-one n h)
 
 pub decimal-length-more : (n : ℕ) → 10 ≤ n → length (decimal n) ≡ length (decimal (n / 10)) + 1
 decimal-length-more n h = ap length (decimal-more n h) ∙ length-append (decimal (n / 10)) ((48 + n % 10) ∷ [])
+
+-- ---- how many digits
+
+-- ten, and ten times as much for each further digit
+abbrev ten : ℕ → ℕ
+ten zero = 10
+ten (suc k) = 10 * ten k
+
+-- a number of one digit more is ten times as large
+digits : (k v : ℕ) → v < ten k → length (decimal v) ≤ k + 1
+digits zero v h = omega (arith, decimal-length-one v h)
+digits (suc k) v h = go (decLt v 10) (digits k)
+  where
+    go : Dec (v < 10) → ((w : ℕ) → w < ten k → length (decimal w) ≤ k + 1) → length (decimal v) ≤ suc k + 1
+    go (yes l) ih = omega (arith, decimal-length-one v l)
+    go (no l) ih = let g : 10 ≤ v = omega arith in omega (arith, decimal-length-more v g, ih (v / 10) (omega arith))
+
+pub digits-two : (v : ℕ) → v < 100 → length (decimal v) ≤ 2
+digits-two = digits 1
+
+pub digits-three : (v : ℕ) → v < 1000 → length (decimal v) ≤ 3
+digits-three = digits 2
+
+pub digits-five : (v : ℕ) → v < 100000 → length (decimal v) ≤ 5
+digits-five = digits 4
+
+pub digits-six : (v : ℕ) → v < 1000000 → length (decimal v) ≤ 6
+digits-six = digits 5
+
+pub digits-twenty : (v : ℕ) → v < 100000000000000000000 → length (decimal v) ≤ 20
+digits-twenty = digits 19
 
 -- a number as wide as asked, or wider, stands alone
 pub padded-none : (w b n : ℕ) → w ≤ length (decimal n) → padded w b n ≡ decimal n

@@ -1,3 +1,4 @@
 pub mod Writes
+pub mod Room
 pub mod Digits
 pub mod Regions

@@ -40,7 +40,7 @@ one-more : (c : List ℕ) (cs : List (List ℕ)) → length (commentText (c ∷ 
 unfolding concat
 one-more c cs = length-append c (commentText cs)
 
-only-one : (c : List ℕ) → length (commentText (c ∷ [])) ≡ length c
+pub only-one : (c : List ℕ) → length (commentText (c ∷ [])) ≡ length c
 unfolding concat
 only-one c = ap length (append-nil c)
 
@@ -144,31 +144,24 @@ module _ {es₀ : List Noted} {e₀ e : ℕ} {w v : Walk} {o₀ o : List ℕ} wh
 -- ---- one comment
 
 -- its row and its bytes are stored where the comment rows and the texts end
--- the length of a comment that is a part of the text
-pub comment-long : (s : List ℕ) (from to : ℕ) → (from ≤ to) × (to ≤ length s) → length (commentText (take (to - from) (drop from s) ∷ [])) ≡ to - from
-comment-long s from to h =
-    only-one (take (to - from) (drop from s)) ∙ length-take-le (to - from) (drop from s) (rw (length-drop from s) (omega arith))
-
-pub comment-filled : (s : List ℕ) (from to : ℕ) (next : Cursor) (w : Walk) {o o₁ o₂ : List ℕ} {p q : ℕ} → (from ≤ to) × (to ≤ length s)
-    → Room (length o) (commentEnds w) (commentTexts (w .bytes) (take (to - from) (drop from s) ∷ []))
-    → Stored (fitting (bytes16 (w .bytes) ++ bytes16 (to - from)) (drop (w .comments) o)) o o₁ (w .comments) p
-    → Stored (fitting (take (to - from) (drop from s)) (drop (w .text) o₁)) o₁ o₂ (w .text) q
-    → Commented (take (to - from) (drop from s) ∷ []) (next .at) w
-    (record { moves = w .moves; comments = p; text = q; entries = w .entries; noted = w .noted + 1; bytes = w .bytes + (to - from); next = next }) o o₂
+pub comment-stored : (c : List ℕ) (n : ℕ) (next : Cursor) (w : Walk) {o o₁ o₂ : List ℕ} {p q : ℕ} → length c ≡ n
+    → Room (length o) (commentEnds w) (commentTexts (w .bytes) (c ∷ []))
+    → Stored (fitting (bytes16 (w .bytes) ++ bytes16 n) (drop (w .comments) o)) o o₁ (w .comments) p
+    → Stored (fitting c (drop (w .text) o₁)) o₁ o₂ (w .text) q
+    → Commented (c ∷ []) (next .at) w
+    (record { moves = w .moves; comments = p; text = q; entries = w .entries; noted = w .noted + 1; bytes = w .bytes + n; next = next }) o o₂
 unfolding table concat
-comment-filled s from to next w {o} {o₁} {o₂} {p} {q} h r x y =
-    let t : List ℕ = take (to - from) (drop from s) in
-    let n : length t ≡ to - from = length-take-le (to - from) (drop from s) (rw (length-drop from s) (omega arith)) in
-    let one : t ++ [] ≡ t = append-nil t in
-    let x₁ = stored-all {t = bytes16 (w .bytes) ++ bytes16 (to - from)} (omega (arith, r .0, r .1 .0)) x in
-    let l : length o₁ ≡ length o = ap length (x₁ .bytes) ∙ length-put o (w .comments) (bytes16 (w .bytes) ++ bytes16 (to - from)) in
-    let y₁ = stored-all {t = t} (omega (arith, r .1 .0, ap length one)) y in
+comment-stored c n next w {o} {o₁} {o₂} {p} {q} e r x y =
+    let one : c ++ [] ≡ c = append-nil c in
+    let x₁ = stored-all {t = bytes16 (w .bytes) ++ bytes16 n} (omega (arith, r .0, r .1 .0)) x in
+    let l : length o₁ ≡ length o = ap length (x₁ .bytes) ∙ length-put o (w .comments) (bytes16 (w .bytes) ++ bytes16 n) in
+    let y₁ = stored-all {t = c} (omega (arith, r .1 .0, ap length one)) y in
     record {
       filled =
           record {
             bytes =
                 y₁ .bytes ∙ ap (λ (u : List ℕ). put o₁ (w .text) u) (sym one)
-                ∙ ap (λ (u : List ℕ). put u (w .text) (t ++ [])) (x₁ .bytes ∙ ap (λ (m : ℕ). put o (w .comments) (bytes16 (w .bytes) ++ bytes16 m)) (sym n));
+                ∙ ap (λ (u : List ℕ). put u (w .text) (c ++ [])) (x₁ .bytes ∙ ap (λ (m : ℕ). put o (w .comments) (bytes16 (w .bytes) ++ bytes16 m)) (sym e));
             ends = (x₁ .end, (omega (arith, y₁ .end, ap length one), tt));
           };
       moves = refl;
@@ -177,6 +170,22 @@ comment-filled s from to next w {o} {o₁} {o₂} {p} {q} h r x y =
       bytes = omega (arith, ap length one);
       next = refl;
     }
+
+-- a part of a text is as long as its places say
+part-long : (s : List ℕ) (from to : ℕ) → (from ≤ to) × (to ≤ length s) → length (take (to - from) (drop from s)) ≡ to - from
+part-long s from to h = length-take-le (to - from) (drop from s) (rw (length-drop from s) (omega arith))
+
+-- the length of a comment that is a part of the text
+pub comment-long : (s : List ℕ) (from to : ℕ) → (from ≤ to) × (to ≤ length s) → length (commentText (take (to - from) (drop from s) ∷ [])) ≡ to - from
+comment-long s from to h = only-one (take (to - from) (drop from s)) ∙ part-long s from to h
+
+pub comment-filled : (s : List ℕ) (from to : ℕ) (next : Cursor) (w : Walk) {o o₁ o₂ : List ℕ} {p q : ℕ} → (from ≤ to) × (to ≤ length s)
+    → Room (length o) (commentEnds w) (commentTexts (w .bytes) (take (to - from) (drop from s) ∷ []))
+    → Stored (fitting (bytes16 (w .bytes) ++ bytes16 (to - from)) (drop (w .comments) o)) o o₁ (w .comments) p
+    → Stored (fitting (take (to - from) (drop from s)) (drop (w .text) o₁)) o₁ o₂ (w .text) q
+    → Commented (take (to - from) (drop from s) ∷ []) (next .at) w
+    (record { moves = w .moves; comments = p; text = q; entries = w .entries; noted = w .noted + 1; bytes = w .bytes + (to - from); next = next }) o o₂
+comment-filled s from to next w h = comment-stored (take (to - from) (drop from s)) (to - from) next w (part-long s from to h)
 
 -- ---- the comments at a place
 

@@ -1,8 +1,7 @@
 -- The texts of the listing in pieces: how long each is, and that there is room for each piece where there is for the whole.
 -- Assumes nothing.
-use Prim.Native.Nat.{ℕ, zero, suc, _+_, _-_, _*_, _/_, _≤_, _<_}
+use Prim.Native.Nat.{ℕ, suc, _+_, _-_, _≤_, _<_}
 use native.Mathlib.Omega.{arith}
-use native.Mathlib.Decide.{decLt}
 use native.Mathlib.Numerals.{add-one}
 use mathlib.Core.Path.{_≡_, sym, ap, _∙_}
 use mathlib.Core.List.{List, [], _∷_, _++_}
@@ -11,54 +10,12 @@ use borrow.Author.Tests.{le-leb, lt-leb}
 use borrow.Rule.Slice.PartMut.{midOf, putMid}
 use Rattle.lent.specs.Bytes.{Wrote, fitting}
 use Rattle.lent.specs.Numbers.{decimal}
-use Rattle.lent.proofs.Digits.{decimal-length-one, decimal-length-more}
-use Rattle.lent.proofs.Writes.{as-text, nothing, written, wrote-all, wrote-length, rest-length, then}
+use Rattle.lent.proofs.Digits.{digits-five, digits-twenty}
+use Rattle.lent.proofs.Writes.{as-text, nothing, written, wrote-all, then}
 use Rattle.block.specs.Encode.{concat}
 use Rattle.block.specs.Decode.{run, linesIn, startOf, entryCount, parentOf}
 use Rattle.block.proofs.Tabling.{run-snoc, concat-snoc}
 use Rattle.shown.specs.Listing.{field, fields, lastFields, readTag, blockTag, refusedTag, spaceTag, lineTag, startTag, movesTag, parentTag, readText, refusalText, rowText, lineText, linesText, listingText, listingRoom, listed}
-
--- ---- pieces one after another
-
--- each piece has room where the whole has; also in converter Room: room-front, room-after, then-piece
-pub room-front : (t u : List ℕ) {n : ℕ} → length (t ++ u) ≤ n → length t ≤ n
-room-front t u h = omega (arith, length-append t u)
-
-pub room-after : {t₁ o o₁ : List ℕ} {n : ℕ} (t₂ : List ℕ) → Wrote t₁ o o₁ n → length (t₁ ++ t₂) ≤ length o
-    → length t₂ ≤ length (midOf n (length o₁ - n) o₁)
-room-after {t₁ = t₁} {o₁ = o₁} {n = n} t₂ w h = omega (arith, length-append t₁ t₂, w .count, wrote-length w, rest-length o₁ n)
-
-pub then-piece : {t₁ o o₁ p : List ℕ} {n₁ n₂ : ℕ} (t₂ : List ℕ) → Wrote t₁ o o₁ n₁ → length (t₁ ++ t₂) ≤ length o
-    → Wrote (fitting t₂ (midOf n₁ (length o₁ - n₁) o₁)) (midOf n₁ (length o₁ - n₁) o₁) p n₂
-    → Wrote (t₁ ++ t₂) o (putMid n₁ (length o₁ - n₁) o₁ p) (n₁ + n₂)
-then-piece t₂ w h v = then w (wrote-all {t = t₂} (room-after t₂ w h) v)
-
--- ---- digits
-
--- ten, and ten times as much for each further digit
-abbrev ten : ℕ → ℕ
-ten zero = 10
-ten (suc k) = 10 * ten k
-
--- a number of one digit more is ten times as large
--- also in converter Lengthy: more-digits
-more-digits : (m k : ℕ) → 1 ≤ k → ((v : ℕ) → v < m → length (decimal v) ≤ k) → (v : ℕ) → v < 10 * m → length (decimal v) ≤ k + 1
-more-digits m k p f v h = go (decLt v 10)
-  where
-    go : Dec (v < 10) → length (decimal v) ≤ k + 1
-    go (yes l) = omega (arith, decimal-length-one v l)
-    go (no l) = let g : 10 ≤ v = omega arith in omega (arith, decimal-length-more v g, f (v / 10) (omega arith))
-
--- a number below that has no more digits
-digits : (k v : ℕ) → v < ten k → length (decimal v) ≤ k + 1
-digits zero v h = omega (arith, decimal-length-one v h)
-digits (suc k) v h = omega (arith, more-digits (ten k) (k + 1) (omega arith) (digits k) v h)
-
-pub digits-five : (v : ℕ) → v < 65536 → length (decimal v) ≤ 5
-digits-five v h = let g : v < 100000 = omega arith in digits 4 v g
-
-pub digits-twenty : (v : ℕ) → v < 18446744073709551616 → length (decimal v) ≤ 20
-digits-twenty v h = let g : v < 100000000000000000000 = omega arith in digits 19 v g
 
 -- ---- how long the texts are
 
@@ -90,7 +47,7 @@ read-wrote taken len w = written w
 pub read-fits : (taken len : ℕ) {o o′ : List ℕ} {n : ℕ} → taken < 18446744073709551616 → len < 18446744073709551616 → 53 ≤ length o
     → Wrote (fitting (readText taken len) o) o o′ n → Wrote (readText taken len) o o′ n × (n ≤ 53)
 read-fits taken len {o} h g l w =
-    let s : length (readText taken len) ≤ 53 = omega (arith, read-length taken len, digits-twenty taken h, digits-twenty len g) in
+    let s : length (readText taken len) ≤ 53 = omega (arith, read-length taken len, digits-twenty taken (omega arith), digits-twenty len (omega arith)) in
     let v = wrote-all {t = readText taken len} (omega arith) w in
     (v, omega (arith, v .count))
 
@@ -105,7 +62,7 @@ pub row-room : (k start moves parent n : ℕ) → 48 ≤ n → k < 65536 → sta
     → length (rowText k start moves parent) ≤ n
 unfolding rowText
 row-room k start moves parent n h a b c d =
-    omega (arith, length-append (fields lineTag k startTag start) (lastFields movesTag moves parentTag parent), fields-length lineTag k startTag start, last-length movesTag moves parentTag parent, digits-five k a, digits-five start b, digits-five moves c, digits-five parent d)
+    omega (arith, length-append (fields lineTag k startTag start) (lastFields movesTag moves parentTag parent), fields-length lineTag k startTag start, last-length movesTag moves parentTag parent, digits-five k (omega arith), digits-five start (omega arith), digits-five moves (omega arith), digits-five parent (omega arith))
 
 -- ---- the lines of a block
 

@@ -8,7 +8,7 @@ use Rattle.jkf.specs.Positions.{positionIn}
 use Rattle.block.specs.Decode.{decode}
 use Rattle.converter.specs.Diagrams.{positionText}
 use Rattle.converter.specs.Show.{linesText}
-use Rattle.converter.proofs.Room.{room-after, room-as}
+use Rattle.lent.proofs.Room.{room-after, room-as}
 use Rattle.converter.proofs.Showing.{record-is, record-room}
 use borrow.Author.Needs.{needs}
 use Rattle.converter.proofs.put_record.Statement.{statement}

@@ -4,8 +4,9 @@ use mathlib.Core.Path.{refl, sym, _∙_}
 use denote.Ref.{now}
 use borrow.Author.Tests.{not-true, not-false}
 use Rattle.block.proofs.Deciding.{sound-says}
-use Rattle.converter.proofs.Showing.{told, not-sound, is-sound}
+use Rattle.converter.proofs.Showing.{not-sound, is-sound}
 use borrow.Author.Needs.{needs}
+use Rattle.jkf.proofs.Answering.{told}
 use Rattle.converter.proofs.write.Statement.{statement}
 use Rattle.converter.proofs.write.Tie as tie
 

@@ -10,8 +10,9 @@ use Rattle.jkf.specs.declared.Answer.the-variants.{Done, BufferShort}
 use Rattle.block.specs.Decode.{decode}
 use Rattle.converter.specs.Show.{recordText, leftOut}
 use Rattle.converter.proofs.Blocked.{left-out-is}
-use Rattle.converter.proofs.Showing.{told, too-short, has-room}
+use Rattle.converter.proofs.Showing.{too-short, has-room}
 use borrow.Author.Needs.{needs}
+use Rattle.jkf.proofs.Answering.{told}
 use Rattle.converter.proofs.write_all.Statement.{statement}
 use Rattle.converter.proofs.write_all.Tie as tie
 

@@ -3,8 +3,9 @@
 use mathlib.Core.Path.{refl, sym, _∙_}
 use denote.Ref.{now}
 use Rattle.block.specs.Decode.{decode}
-use Rattle.converter.proofs.Showing.{told, lines-refused, lines-clear}
+use Rattle.converter.proofs.Showing.{lines-refused, lines-clear}
 use borrow.Author.Needs.{needs}
+use Rattle.jkf.proofs.Answering.{told}
 use Rattle.converter.proofs.write_lines.Statement.{statement}
 use Rattle.converter.proofs.write_lines.Tie as tie
 

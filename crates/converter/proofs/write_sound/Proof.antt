@@ -5,8 +5,9 @@ use denote.Ref.{now}
 use Rattle.block.specs.Decode.{decode}
 use Rattle.converter.specs.Show.{handsObstacle}
 use Rattle.converter.specs.declared.Obstacle.the-variants.{Clear}
-use Rattle.converter.proofs.Showing.{told, position-is, hands-refused, hands-clear}
+use Rattle.converter.proofs.Showing.{position-is, hands-refused, hands-clear}
 use borrow.Author.Needs.{needs}
+use Rattle.jkf.proofs.Answering.{told}
 use Rattle.converter.proofs.write_sound.Statement.{statement}
 use Rattle.converter.proofs.write_sound.Tie as tie
 

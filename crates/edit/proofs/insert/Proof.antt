@@ -5,10 +5,11 @@ use mathlib.Core.Path.{refl, sym, _∙_}
 use denote.Ref.{now}
 use borrow.Author.Needs.{needs}
 use borrow.Author.Tests.{not-true, not-false}
-use Rattle.edit.proofs.Afresh.{entries-are, end-is}
-use Rattle.edit.proofs.Outcomes.{told, insert-past, no-variation, variation}
+use Rattle.jkf.proofs.Answering.{told}
+use Rattle.edit.proofs.Outcomes.{insert-past, no-variation, variation}
 use Rattle.edit.proofs.insert.Statement.{statement}
 use Rattle.edit.proofs.insert.Tie as tie
+use Rattle.edit.proofs.Measured.{entries-are, end-is}
 
 lines-in-requires : tie.Need-lines-in-requires
 lines-in-requires c κs = search needs

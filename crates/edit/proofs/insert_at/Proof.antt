@@ -9,6 +9,7 @@ use lib.ListN.{length}
 use lib.Seq.{length-take-le}
 use denote.Ref.{now}
 use borrow.Author.Needs.{needs}
+use Rattle.jkf.proofs.Answering.{told}
 use Rattle.block.specs.Model.{Record}
 use Rattle.block.specs.Encode.{encode}
 use Rattle.block.specs.Decode.{linesIn, decode}
@@ -17,7 +18,7 @@ use Rattle.edit.specs.Splicing.{linesAfter, AllRowed}
 use Rattle.edit.specs.Editing.{storedOf}
 use Rattle.edit.proofs.Texts.{one-variation}
 use Rattle.edit.proofs.Afresh.{rows-within, rows-are, after-long, put-record, put-asks, put-rowed, put-changed}
-use Rattle.edit.proofs.Outcomes.{told, parent-changes, none-changes}
+use Rattle.edit.proofs.Outcomes.{parent-changes, none-changes}
 use Rattle.edit.proofs.insert_at.Statement.{statement}
 use Rattle.edit.proofs.insert_at.Tie as tie
 use Rattle.edit.proofs.insert_at.Reads as reads

@@ -4,13 +4,15 @@ use mathlib.Core.Path.{refl, sym, _∙_}
 use denote.Ref.{now}
 use borrow.Author.Needs.{needs}
 use borrow.Author.Tests.{not-true, not-false}
+use Rattle.jkf.proofs.Answering.{told}
 use Rattle.block.specs.Decode.{decode}
 use Rattle.edit.specs.Edit.{playsIn, variationOf}
 use Rattle.edit.proofs.Sounds.{puts-in}
-use Rattle.edit.proofs.Afresh.{start-is, put-still}
-use Rattle.edit.proofs.Outcomes.{told, outside, entry-taken, in-place}
+use Rattle.edit.proofs.Afresh.{put-still}
+use Rattle.edit.proofs.Outcomes.{outside, entry-taken, in-place}
 use Rattle.edit.proofs.insert_on.Statement.{statement}
 use Rattle.edit.proofs.insert_on.Tie as tie
+use Rattle.edit.proofs.Measured.{start-is}
 
 is-ply-of-requires : tie.Need-is-ply-of-requires
 is-ply-of-requires c κs = search needs

@@ -4,7 +4,8 @@ use native.Mathlib.Omega.{arith}
 use mathlib.Core.Path.{refl}
 use denote.Ref.{now}
 use borrow.Author.Needs.{needs}
-use Rattle.edit.proofs.Outcomes.{told, main-line, remove-past, removed}
+use Rattle.jkf.proofs.Answering.{told}
+use Rattle.edit.proofs.Outcomes.{main-line, remove-past, removed}
 use Rattle.edit.proofs.remove.Statement.{statement}
 use Rattle.edit.proofs.remove.Tie as tie
 

@@ -8,12 +8,12 @@ use lib.ListN.{length}
 use lib.Seq.{length-take-le}
 use denote.Ref.{now}
 use borrow.Author.Needs.{needs}
+use Rattle.jkf.proofs.Answering.{told}
 use Rattle.block.specs.Model.{Record}
 use Rattle.block.specs.Encode.{encode}
 use Rattle.edit.specs.Splicing.{linesAfter, AllRowed}
 use Rattle.edit.specs.Editing.{storedOf}
 use Rattle.edit.proofs.Afresh.{rows-within, rows-are, after-long, cut-record, cut-asks, cut-rowed}
-use Rattle.edit.proofs.Outcomes.{told}
 use Rattle.edit.proofs.remove_from.Statement.{statement}
 use Rattle.edit.proofs.remove_from.Tie as tie
 use Rattle.edit.proofs.remove_from.Reads as reads

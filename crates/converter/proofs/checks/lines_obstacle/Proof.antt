@@ -6,10 +6,10 @@ use mathlib.Core.Path.{_≡_, sym, ap, _∙_}
 use denote.Ref.{now}
 use borrow.Author.Needs.{needs}
 use Rattle.block.specs.Decode.{run, linesIn, lineIn, decode}
+use Rattle.block.proofs.Within.{lines-small, moves-small, entries-within}
 use Rattle.converter.specs.Show.{onObstacle, lineObstacle, linesObstacle}
 use Rattle.converter.specs.declared.Obstacle.{Obstacle}
 use Rattle.converter.specs.declared.Obstacle.the-variants.{At}
-use Rattle.converter.proofs.Within.{lines-small, moves-small, entries-within}
 use Rattle.converter.proofs.Blocked.{line-more, line-none, found-is, lines-obstacle-is}
 use Rattle.converter.proofs.checks.lines_obstacle.Statement.{statement}
 use Rattle.converter.proofs.checks.lines_obstacle.Tie as tie

@@ -10,9 +10,10 @@ use borrow.Fn.PlainCycle.{Measures, is, falls, and}
 use Rattle.block.specs.Decode.{run, lineIn}
 use Rattle.block.specs.Encode.{concat}
 use Rattle.lent.proofs.Writes.{as-text, nothing, then}
+use Rattle.block.proofs.Tabling.{concat-none}
 use Rattle.converter.specs.Show.{variationText}
-use Rattle.converter.proofs.Runs.{concat-none, concat-first}
-use Rattle.converter.proofs.Room.{room-after, room-as, room-front}
+use Rattle.converter.proofs.Runs.{concat-first}
+use Rattle.lent.proofs.Room.{room-after, room-as, room-front}
 use Rattle.converter.proofs.kif.put_variations.Reads as put-variations
 use Rattle.converter.proofs.kif.put_variations.Kinds as put-variations-kinds
 use Rattle.converter.proofs.kif.+put_variations.Lts-put_variations as put-variations-lts

@@ -8,8 +8,8 @@ use denote.Ref.{now}
 use borrow.Author.Needs.{needs}
 use Rattle.block.specs.Decode.{run, commentOf}
 use Rattle.lent.proofs.Writes.{as-text}
+use Rattle.block.proofs.Within.{comments-within, comments-small}
 use Rattle.converter.specs.Entries.{remarksText}
-use Rattle.converter.proofs.Within.{comments-within, comments-small}
 use Rattle.converter.proofs.kif.put_comments.Statement.{statement}
 use Rattle.converter.proofs.kif.put_comments.Tie as tie
 

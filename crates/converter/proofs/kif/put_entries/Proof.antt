@@ -11,7 +11,7 @@ use Rattle.lent.specs.Bytes.{Wrote}
 use Rattle.block.specs.Decode.{run, notedIn}
 use Rattle.converter.specs.Entries.{notedText, entriesText}
 use Rattle.converter.proofs.Runs.{entries-none, entries-front, entries-step}
-use Rattle.converter.proofs.Room.{room-left}
+use Rattle.lent.proofs.Room.{room-left}
 use Rattle.converter.proofs.kif.put_entries.Statement.{statement}
 use Rattle.converter.proofs.kif.put_entries.Tie as tie
 

@@ -9,7 +9,7 @@ use Rattle.converter.specs.Entries.{timeText, playText, widthOf, entryLi
 use Rattle.converter.proofs.Worded.{line-room}
 use Rattle.converter.proofs.kif.put_entry_line.Statement.{statement}
 use Rattle.converter.proofs.kif.put_entry_line.Tie as tie
-use Rattle.converter.proofs.Room.{room-after, then-piece}
+use Rattle.lent.proofs.Room.{room-after, then-piece}
 
 put-ply-requires : tie.Need-put-ply-requires
 put-ply-requires c κs = line-room (c .before .before .args .ply) (c .before .before .args .e) (c .before .before .pre) .0

@@ -5,7 +5,7 @@ use borrow.Author.Needs.{needs}
 use Rattle.lent.specs.Numbers.{padded}
 use Rattle.converter.proofs.kif.put_figure.Statement.{statement}
 use Rattle.converter.proofs.kif.put_figure.Tie as tie
-use Rattle.converter.proofs.Room.{two-of}
+use Rattle.lent.proofs.Room.{two-of}
 
 put-padded-requires : tie.Need-put-padded-requires
 put-padded-requires c κs = search needs

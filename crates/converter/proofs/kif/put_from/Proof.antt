@@ -6,7 +6,7 @@ use Rattle.lent.specs.Numbers.{decimal}
 use Rattle.converter.proofs.Worded.{four}
 use Rattle.converter.proofs.kif.put_from.Statement.{statement}
 use Rattle.converter.proofs.kif.put_from.Tie as tie
-use Rattle.converter.proofs.Room.{then-piece, two-of}
+use Rattle.lent.proofs.Room.{then-piece, two-of}
 
 slice-aggregate-put-bytes : tie.Need-slice-aggregate-put-bytes
 slice-aggregate-put-bytes c = search needs

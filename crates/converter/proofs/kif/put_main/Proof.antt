@@ -7,10 +7,10 @@ use denote.Ref.{now}
 use borrow.Author.Needs.{needs}
 use Rattle.block.specs.Decode.{run, notedIn, entryCount}
 use Rattle.lent.proofs.Writes.{as-text, then}
+use Rattle.block.proofs.Within.{entries-within, some-line, some-entry}
 use Rattle.converter.specs.Entries.{remarksText, entriesText}
-use Rattle.converter.proofs.Within.{entries-within, some-line, some-entry}
 use Rattle.converter.proofs.Playing.{main-text}
-use Rattle.converter.proofs.Room.{room-after, room-as, room-front}
+use Rattle.lent.proofs.Room.{room-after, room-as, room-front}
 use Rattle.converter.proofs.kif.put_main.Statement.{statement}
 use Rattle.converter.proofs.kif.put_main.Tie as tie
 

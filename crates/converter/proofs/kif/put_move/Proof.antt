@@ -8,7 +8,7 @@ use Rattle.converter.specs.Entries.{promoteText, originText, moveText}
 use Rattle.converter.proofs.Worded.{move-room}
 use Rattle.converter.proofs.kif.put_move.Statement.{statement}
 use Rattle.converter.proofs.kif.put_move.Tie as tie
-use Rattle.converter.proofs.Room.{room-after, then-piece}
+use Rattle.lent.proofs.Room.{room-after, then-piece}
 
 put-target-requires : tie.Need-put-target-requires
 put-target-requires c κs = move-room (c .before .before .args .m) (c .before .before .pre) .0

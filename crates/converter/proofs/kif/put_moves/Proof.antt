@@ -10,7 +10,7 @@ use Rattle.block.specs.Encode.{concat}
 use Rattle.lent.proofs.Writes.{as-text, wrote-all, then}
 use Rattle.converter.specs.Show.{numberLine, mainText, variationText}
 use Rattle.converter.proofs.Playing.{lines-text}
-use Rattle.converter.proofs.Room.{room-after, room-as, room-front}
+use Rattle.lent.proofs.Room.{room-after, room-as, room-front}
 use Rattle.converter.proofs.kif.put_moves.Statement.{statement}
 use Rattle.converter.proofs.kif.put_moves.Tie as tie
 

@@ -8,9 +8,9 @@ use Rattle.block.specs.Decode.{run, commentOf, notedIn}
 use Rattle.lent.proofs.Writes.{as-text, then}
 use Rattle.converter.specs.Entries.{entryLine, remarksText}
 use Rattle.converter.proofs.Playing.{row-number, noted-text, noted-bare}
-use Rattle.converter.proofs.Room.{room-after, room-as, room-front}
-use Rattle.converter.proofs.Within.{comments-within, comments-small}
+use Rattle.lent.proofs.Room.{room-after, room-as, room-front}
 use borrow.Author.Needs.{needs}
+use Rattle.block.proofs.Within.{comments-within, comments-small}
 use Rattle.converter.proofs.kif.put_noted.Statement.{statement}
 use Rattle.converter.proofs.kif.put_noted.Tie as tie
 

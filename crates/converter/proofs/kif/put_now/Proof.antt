@@ -8,7 +8,7 @@ use Rattle.converter.specs.Entries.{minute, second, figureText, nowText}
 use Rattle.converter.proofs.Worded.{now-room}
 use Rattle.converter.proofs.kif.put_now.Statement.{statement}
 use Rattle.converter.proofs.kif.put_now.Tie as tie
-use Rattle.converter.proofs.Room.{room-after}
+use Rattle.lent.proofs.Room.{room-after}
 
 slice-aggregate-put-bytes : tie.Need-slice-aggregate-put-bytes
 slice-aggregate-put-bytes c = search needs

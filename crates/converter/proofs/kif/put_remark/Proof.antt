@@ -4,7 +4,7 @@ use mathlib.Core.List.{[], _∷_, _++_}
 use denote.Ref.{now}
 use borrow.Author.Needs.{needs}
 use Rattle.converter.specs.Entries.{remarkText, starText}
-use Rattle.converter.proofs.Room.{then-piece, room-front}
+use Rattle.lent.proofs.Room.{then-piece, room-front}
 use Rattle.converter.proofs.kif.put_remark.Statement.{statement}
 use Rattle.converter.proofs.kif.put_remark.Tie as tie
 

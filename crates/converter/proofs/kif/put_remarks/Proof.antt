@@ -11,7 +11,7 @@ use Rattle.lent.specs.Bytes.{Wrote}
 use Rattle.block.specs.Decode.{run, commentOf}
 use Rattle.converter.specs.Entries.{remarkText, remarksText}
 use Rattle.converter.proofs.Runs.{remarks-none, remarks-front, remarks-step}
-use Rattle.converter.proofs.Room.{room-left}
+use Rattle.lent.proofs.Room.{room-left}
 use Rattle.converter.proofs.kif.put_remarks.Statement.{statement}
 use Rattle.converter.proofs.kif.put_remarks.Tie as tie
 

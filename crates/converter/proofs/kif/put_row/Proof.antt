@@ -3,7 +3,7 @@
 use mathlib.Core.Path.{ap}
 use Rattle.lent.proofs.Writes.{as-text}
 use Rattle.converter.specs.Entries.{entryLine}
-use Rattle.converter.proofs.Room.{room-as}
+use Rattle.lent.proofs.Room.{room-as}
 use borrow.Author.Needs.{needs}
 use Rattle.converter.proofs.kif.put_row.Statement.{statement}
 use Rattle.converter.proofs.kif.put_row.Tie as tie

@@ -9,7 +9,7 @@ use Rattle.converter.specs.Entries.{targetText}
 use Rattle.converter.proofs.Worded.{room-of, arm}
 use Rattle.converter.proofs.kif.put_target.Statement.{statement}
 use Rattle.converter.proofs.kif.put_target.Tie as tie
-use Rattle.converter.proofs.Room.{two-of}
+use Rattle.lent.proofs.Room.{two-of}
 
 enum-told : tie.Need-enum-told
 enum-told c = search needs

@@ -7,7 +7,7 @@ use Rattle.converter.specs.Entries.{nowText, totalText, padding, timeTex
 use Rattle.converter.proofs.Worded.{three, room-of}
 use Rattle.converter.proofs.kif.put_time.Statement.{statement}
 use Rattle.converter.proofs.kif.put_time.Tie as tie
-use Rattle.converter.proofs.Room.{room-after}
+use Rattle.lent.proofs.Room.{room-after}
 
 enum-told : tie.Need-enum-told
 enum-told c = search needs

@@ -7,7 +7,7 @@ use Rattle.converter.specs.Entries.{minute, second, figureText, totalTex
 use Rattle.converter.proofs.Worded.{total-room}
 use Rattle.converter.proofs.kif.put_total.Statement.{statement}
 use Rattle.converter.proofs.kif.put_total.Tie as tie
-use Rattle.converter.proofs.Room.{room-after}
+use Rattle.lent.proofs.Room.{room-after}
 
 hour-requires : tie.Need-hour-requires
 hour-requires c κs = search needs

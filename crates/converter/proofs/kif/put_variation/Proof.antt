@@ -6,11 +6,11 @@ use denote.Ref.{now}
 use borrow.Author.Needs.{needs}
 use Rattle.block.specs.Decode.{run, notedIn, firstEntry, entryCount}
 use Rattle.lent.proofs.Writes.{as-text, then}
+use Rattle.block.proofs.Within.{entries-within}
 use Rattle.converter.specs.Show.{variationHead}
 use Rattle.converter.specs.Entries.{entriesText}
-use Rattle.converter.proofs.Within.{entries-within}
 use Rattle.converter.proofs.Playing.{variation-text}
-use Rattle.converter.proofs.Room.{room-after, room-as, room-front}
+use Rattle.lent.proofs.Room.{room-after, room-as, room-front}
 use Rattle.converter.proofs.kif.put_variation.Statement.{statement}
 use Rattle.converter.proofs.kif.put_variation.Tie as tie
 

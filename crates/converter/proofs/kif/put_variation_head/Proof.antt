@@ -6,7 +6,7 @@ use borrow.Author.Needs.{needs}
 use Rattle.lent.proofs.Writes.{wrote-all}
 use Rattle.lent.specs.Numbers.{decimal}
 use Rattle.converter.specs.Show.{variationHead, variationTag, plyTag}
-use Rattle.converter.proofs.Room.{then-piece, room-front}
+use Rattle.lent.proofs.Room.{then-piece, room-front}
 use Rattle.converter.proofs.kif.put_variation_head.Statement.{statement}
 use Rattle.converter.proofs.kif.put_variation_head.Tie as tie
 

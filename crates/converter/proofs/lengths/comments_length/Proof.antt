@@ -6,8 +6,8 @@ use lib.ListN.{length}
 use borrow.Author.Needs.{needs}
 use denote.Ref.{now}
 use Rattle.block.specs.Decode.{run, commentOf}
+use Rattle.block.proofs.Within.{comments-small, comments-within}
 use Rattle.converter.specs.Entries.{remarksText}
-use Rattle.converter.proofs.Within.{comments-small, comments-within}
 use Rattle.converter.proofs.lengths.comments_length.Statement.{statement}
 use Rattle.converter.proofs.lengths.comments_length.Tie as tie
 

@@ -6,9 +6,9 @@ use mathlib.Core.Path.{_≡_, ap, _∙_}
 use lib.ListN.{length}
 use denote.Ref.{now}
 use Rattle.block.specs.Decode.{run, notedIn}
+use Rattle.block.proofs.Within.{moves-small}
 use Rattle.converter.specs.Entries.{entriesText}
 use Rattle.converter.proofs.Counted.{entries-zero, entries-next}
-use Rattle.converter.proofs.Within.{moves-small}
 use Rattle.converter.proofs.lengths.entries_length.Statement.{statement}
 use Rattle.converter.proofs.lengths.entries_length.Tie as tie
 

@@ -7,9 +7,9 @@ use lib.ListN.{length}
 use borrow.Author.Needs.{needs}
 use denote.Ref.{now}
 use Rattle.block.specs.Decode.{run, notedIn}
+use Rattle.block.proofs.Within.{some-line, some-entry, first-none, entries-within, moves-small}
 use Rattle.converter.specs.Entries.{entriesText}
 use Rattle.converter.proofs.Counted.{main-parts}
-use Rattle.converter.proofs.Within.{some-line, some-entry, first-none, entries-within, moves-small}
 use Rattle.converter.proofs.lengths.main_length.Statement.{statement}
 use Rattle.converter.proofs.lengths.main_length.Tie as tie
 

@@ -8,8 +8,8 @@ use Rattle.jkf.specs.Entries.{entryIn}
 use Rattle.block.specs.Decode.{run, commentOf}
 use Rattle.converter.specs.Entries.{entryLine, remarksText}
 use Rattle.converter.proofs.Playing.{row-number, noted-text, noted-bare}
-use Rattle.converter.proofs.Within.{comments-within, comments-small}
 use borrow.Author.Needs.{needs}
+use Rattle.block.proofs.Within.{comments-within, comments-small}
 use Rattle.converter.proofs.lengths.noted_length.Statement.{statement}
 use Rattle.converter.proofs.lengths.noted_length.Tie as tie
 

@@ -2,7 +2,8 @@
 -- Assumes nothing.
 use native.Mathlib.Omega.{arith}
 use borrow.Author.Needs.{needs}
-use Rattle.converter.proofs.Lengthy.{digits-three, unknown-length, from-length}
+use Rattle.lent.proofs.Digits.{digits-three}
+use Rattle.converter.proofs.Lengthy.{unknown-length, from-length}
 use Rattle.converter.proofs.lengths.origin_length.Statement.{statement}
 use Rattle.converter.proofs.lengths.origin_length.Tie as tie
 

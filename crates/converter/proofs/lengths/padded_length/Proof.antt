@@ -2,7 +2,8 @@
 -- Assumes nothing.
 use native.Mathlib.Omega.{arith}
 use borrow.Author.Needs.{needs}
-use Rattle.converter.proofs.Lengthy.{digits-six, padded-wide, padded-long}
+use Rattle.lent.proofs.Digits.{digits-six}
+use Rattle.converter.proofs.Lengthy.{padded-wide, padded-long}
 use Rattle.converter.proofs.lengths.padded_length.Statement.{statement}
 use Rattle.converter.proofs.lengths.padded_length.Tie as tie
 

@@ -7,10 +7,10 @@ use borrow.Author.Needs.{needs}
 use denote.Ref.{now}
 use Rattle.lent.specs.Numbers.{decimal}
 use Rattle.block.specs.Decode.{run, startOf, notedIn, lineIn}
+use Rattle.block.proofs.Within.{entries-within}
 use Rattle.converter.specs.Entries.{entriesText}
-use Rattle.converter.proofs.Lengthy.{digits-five}
+use Rattle.lent.proofs.Digits.{digits-five}
 use Rattle.converter.proofs.Counted.{variation-parts}
-use Rattle.converter.proofs.Within.{entries-within}
 use Rattle.converter.proofs.lengths.variation_length.Statement.{statement}
 use Rattle.converter.proofs.lengths.variation_length.Tie as tie
 

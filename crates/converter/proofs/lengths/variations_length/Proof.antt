@@ -8,9 +8,9 @@ use denote.Ref.{now}
 use Rattle.block.specs.Sound.{entriesBefore}
 use Rattle.block.specs.Decode.{run, lineIn}
 use Rattle.block.specs.Encode.{concat}
+use Rattle.block.proofs.Within.{lines-small, moves-small, entries-below}
 use Rattle.converter.specs.Show.{variationText}
-use Rattle.converter.proofs.Counted.{parts-zero, parts-next, entries-below, entries-after}
-use Rattle.converter.proofs.Within.{lines-small, moves-small}
+use Rattle.converter.proofs.Counted.{parts-zero, parts-next, entries-after}
 use Rattle.converter.proofs.lengths.variations_length.Statement.{statement}
 use Rattle.converter.proofs.lengths.variations_length.Tie as tie
 

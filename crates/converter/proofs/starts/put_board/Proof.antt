@@ -8,7 +8,7 @@ use Rattle.kakinoki.specs.Boards.{filesTag, ruleTag}
 use Rattle.converter.specs.Diagrams.{rowsText, boardText}
 use Rattle.converter.proofs.starts.put_board.Statement.{statement}
 use Rattle.converter.proofs.starts.put_board.Tie as tie
-use Rattle.converter.proofs.Room.{room-front, room-after, first-of, then-piece}
+use Rattle.lent.proofs.Room.{room-front, room-after, first-of, then-piece}
 
 -- both head lines
 abbrev head : List ℕ

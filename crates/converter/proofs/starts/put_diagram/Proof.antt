@@ -6,7 +6,7 @@ use Rattle.lent.proofs.Writes.{then}
 use Rattle.converter.specs.Diagrams.{presetLine, handLine, boardText, turnText, diagramText}
 use Rattle.converter.proofs.starts.put_diagram.Statement.{statement}
 use Rattle.converter.proofs.starts.put_diagram.Tie as tie
-use Rattle.converter.proofs.Room.{room-front, room-after}
+use Rattle.lent.proofs.Room.{room-front, room-after}
 
 put-upper-requires : tie.Need-put-upper-requires
 unfolding diagramText

@@ -10,7 +10,7 @@ use Rattle.converter.specs.Diagrams.{allHeld}
 use Rattle.converter.proofs.Cased.{hand-none, hand-some, hand-room}
 use Rattle.converter.proofs.starts.put_hand.Statement.{statement}
 use Rattle.converter.proofs.starts.put_hand.Tie as tie
-use Rattle.converter.proofs.Room.{instead}
+use Rattle.lent.proofs.Room.{instead}
 
 put-all-held-requires : tie.Need-put-all-held-requires
 put-all-held-requires c κs =

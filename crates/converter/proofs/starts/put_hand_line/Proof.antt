@@ -9,7 +9,7 @@ use Rattle.kakinoki.specs.Informations.{handsTag}
 use Rattle.converter.specs.Diagrams.{allHeld, orNone, handLine}
 use Rattle.converter.proofs.starts.put_hand_line.Statement.{statement}
 use Rattle.converter.proofs.starts.put_hand_line.Tie as tie
-use Rattle.converter.proofs.Room.{room-front, room-after, two-of, then-piece}
+use Rattle.lent.proofs.Room.{room-front, room-after, two-of, then-piece}
 
 cast-put-side : tie.Need-cast-put-side
 cast-put-side c = search needs

@@ -9,7 +9,7 @@ use Rattle.text.specs.Text.{wideColon}
 use Rattle.converter.specs.Headers.{headerLine}
 use Rattle.converter.proofs.starts.put_header.Statement.{statement}
 use Rattle.converter.proofs.starts.put_header.Tie as tie
-use Rattle.converter.proofs.Room.{then-piece, three-of, room-front}
+use Rattle.lent.proofs.Room.{then-piece, three-of, room-front}
 
 put-bytes-requires : tie.Need-put-bytes-requires
 put-bytes-requires c κs = search needs

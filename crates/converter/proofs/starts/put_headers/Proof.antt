@@ -7,7 +7,7 @@ use Rattle.converter.specs.Headers.{linesOf, headersOf, headersText}
 use Rattle.converter.proofs.Heading.{leads}
 use Rattle.converter.proofs.starts.put_headers.Statement.{statement}
 use Rattle.converter.proofs.starts.put_headers.Tie as tie
-use Rattle.converter.proofs.Room.{room-front, room-after}
+use Rattle.lent.proofs.Room.{room-front, room-after}
 
 leading-places-requires : tie.Need-leading-places-requires
 leading-places-requires c κs = search needs

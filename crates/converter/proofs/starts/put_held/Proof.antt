@@ -13,7 +13,7 @@ use Rattle.spell.specs.Tables.{kinds}
 use Rattle.converter.proofs.Cased.{moreText, held-none, held-some}
 use Rattle.converter.proofs.starts.put_held.Statement.{statement}
 use Rattle.converter.proofs.starts.put_held.Tie as tie
-use Rattle.converter.proofs.Room.{room-front, room-after, first-of, then-piece}
+use Rattle.lent.proofs.Room.{room-front, room-after, first-of, then-piece}
 
 returns : tie.Need-returns
 returns c = as-text (sym (held-none (c .before .before .args .kind) (c .before .before .args .count) (c .if1 .taken))) (nothing _)

@@ -9,12 +9,12 @@ use denote.Ref.{now}
 use Rattle.lent.specs.Bytes.{Wrote}
 use Rattle.lent.proofs.Writes.{then, as-text, nothing, wrote-length}
 use Rattle.block.specs.Decode.{headerIn}
+use Rattle.block.proofs.Tabling.{concat-none}
 use Rattle.converter.specs.Headers.{headerLine}
 use Rattle.converter.proofs.Heading.{line-in, leads, lead-none, lead-some, lead-room, wrote-as}
 use Rattle.converter.proofs.starts.put_leading.Statement.{statement}
 use Rattle.converter.proofs.starts.put_leading.Tie as tie
-use Rattle.converter.proofs.Runs.{concat-none}
-use Rattle.converter.proofs.Room.{room-after, room-as}
+use Rattle.lent.proofs.Room.{room-after, room-as}
 
 abbrev Inv-loop : tie.InvT-loop
 Inv-loop out₀ b places texts at₀ n₀ out at n = (n ≤ 12) × Wrote (leads b n) out₀ out at

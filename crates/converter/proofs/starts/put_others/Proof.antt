@@ -12,7 +12,7 @@ use Rattle.converter.specs.Headers.{leadingNumber, linesOf, headerLine}
 use Rattle.converter.proofs.Heading.{number-in, line-in, lines-none, lines-more, lines-same, lines-room, wrote-as}
 use Rattle.converter.proofs.starts.put_others.Statement.{statement}
 use Rattle.converter.proofs.starts.put_others.Tie as tie
-use Rattle.converter.proofs.Room.{room-after, room-as}
+use Rattle.lent.proofs.Room.{room-after, room-as}
 
 abbrev Inv-loop : tie.InvT-loop
 Inv-loop out₀ b count texts at₀ k₀ out at k = (k ≤ count) × Wrote (linesOf 0 (run (headerIn b) 0 k)) out₀ out at

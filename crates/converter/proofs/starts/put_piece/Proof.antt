@@ -6,7 +6,7 @@ use Rattle.spell.specs.Spell.{spelled}
 use Rattle.spell.specs.Tables.{kinds}
 use Rattle.converter.proofs.starts.put_piece.Statement.{statement}
 use Rattle.converter.proofs.starts.put_piece.Tie as tie
-use Rattle.converter.proofs.Room.{two-of}
+use Rattle.lent.proofs.Room.{two-of}
 
 slice-aggregate-put-bytes : tie.Need-slice-aggregate-put-bytes
 slice-aggregate-put-bytes c = search needs

@@ -8,7 +8,7 @@ use Rattle.kakinoki.specs.Informations.{presetTag}
 use Rattle.converter.specs.Diagrams.{presetLine}
 use Rattle.converter.proofs.starts.put_preset_line.Statement.{statement}
 use Rattle.converter.proofs.starts.put_preset_line.Tie as tie
-use Rattle.converter.proofs.Room.{three-of}
+use Rattle.lent.proofs.Room.{three-of}
 
 slice-aggregate-put-bytes : tie.Need-slice-aggregate-put-bytes
 slice-aggregate-put-bytes c = search needs

@@ -9,7 +9,7 @@ use Rattle.spell.specs.Tables.{numerals}
 use Rattle.converter.specs.Diagrams.{cellsText, rowText}
 use Rattle.converter.proofs.starts.put_row.Statement.{statement}
 use Rattle.converter.proofs.starts.put_row.Tie as tie
-use Rattle.converter.proofs.Room.{room-front, room-after, first-of}
+use Rattle.lent.proofs.Room.{room-front, room-after, first-of}
 
 slice-aggregate-put-bytes : tie.Need-slice-aggregate-put-bytes
 slice-aggregate-put-bytes c = search needs

@@ -7,7 +7,7 @@ use Rattle.spell.specs.Spell.{spelled}
 use Rattle.spell.specs.Tables.{numerals}
 use Rattle.converter.proofs.starts.put_row_end.Statement.{statement}
 use Rattle.converter.proofs.starts.put_row_end.Tie as tie
-use Rattle.converter.proofs.Room.{three-of}
+use Rattle.lent.proofs.Room.{three-of}
 
 slice-aggregate-put-bytes : tie.Need-slice-aggregate-put-bytes
 slice-aggregate-put-bytes c = search needs

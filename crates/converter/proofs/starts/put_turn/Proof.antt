@@ -12,7 +12,7 @@ use Rattle.kakinoki.specs.Informations.{turnTag}
 use Rattle.converter.proofs.Cased.{turn-none, turn-white}
 use Rattle.converter.proofs.starts.put_turn.Statement.{statement}
 use Rattle.converter.proofs.starts.put_turn.Tie as tie
-use Rattle.converter.proofs.Room.{three-of}
+use Rattle.lent.proofs.Room.{three-of}
 
 returns : tie.Need-returns
 returns c = as-text (sym (turn-none (c .before .before .args .turn) (c .if1 .taken))) (nothing _)

@@ -6,7 +6,7 @@ use Rattle.lent.proofs.Writes.{then}
 use Rattle.converter.specs.Diagrams.{presetLine, handLine, boardText}
 use Rattle.converter.proofs.starts.put_upper.Statement.{statement}
 use Rattle.converter.proofs.starts.put_upper.Tie as tie
-use Rattle.converter.proofs.Room.{room-front, room-after}
+use Rattle.lent.proofs.Room.{room-front, room-after}
 
 put-preset-line-requires : tie.Need-put-preset-line-requires
 put-preset-line-requires c κs =

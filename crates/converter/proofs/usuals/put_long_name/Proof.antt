@@ -2,7 +2,7 @@
 -- Assumes nothing.
 use mathlib.Core.Logic.{⊎-elim}
 use denote.Ref.{now}
-use Rattle.converter.proofs.Room.{bytes-of}
+use Rattle.lent.proofs.Room.{bytes-of}
 use Rattle.converter.proofs.Usually.{first-promoted, first-kind, second-kind, second-promoted, long-text}
 use borrow.Author.Needs.{needs}
 use Rattle.converter.proofs.usuals.put_long_name.Statement.{statement}

@@ -2,7 +2,7 @@
 -- Assumes nothing.
 use mathlib.Core.Path.{sym, _∙_}
 use denote.Ref.{now}
-use Rattle.converter.proofs.Room.{bytes-of}
+use Rattle.lent.proofs.Room.{bytes-of}
 use Rattle.converter.proofs.Usually.{short-text}
 use borrow.Author.Needs.{needs}
 use Rattle.converter.proofs.usuals.put_name.Statement.{statement}

@@ -3,7 +3,7 @@
 use native.Mathlib.Omega.{arith}
 use mathlib.Core.Logic.{⊎-elim}
 use denote.Ref.{now}
-use Rattle.converter.proofs.Room.{bytes-of}
+use Rattle.lent.proofs.Room.{bytes-of}
 use Rattle.converter.proofs.Usually.{file-same, file-square, rank-same, rank-square, start-text}
 use borrow.Author.Needs.{needs}
 use Rattle.converter.proofs.usuals.put_start.Statement.{statement}

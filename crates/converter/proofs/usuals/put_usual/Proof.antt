@@ -4,7 +4,7 @@ use mathlib.Core.Path.{sym}
 use denote.Ref.{now}
 use Rattle.lent.proofs.Writes.{as-text, then}
 use Rattle.converter.specs.Usuals.{nameText, clocksText}
-use Rattle.converter.proofs.Room.{room-after}
+use Rattle.lent.proofs.Room.{room-after}
 use Rattle.converter.proofs.Usually.{usual-line, usual-room}
 use borrow.Author.Needs.{needs}
 use Rattle.converter.proofs.usuals.put_usual.Statement.{statement}

@@ -8,7 +8,7 @@ use borrow.Author.Needs.{needs}
 use Rattle.block.specs.Decode.{run, decode}
 use Rattle.edit.specs.Edit.{playsIn, above, placeOf}
 use Rattle.edit.specs.Splicing.{playIn}
-use Rattle.edit.proofs.Played.{place-is, above-leads, leads-on, leads-stop, leads-none}
+use Rattle.edit.proofs.Played.{place-is, above-passes, passes-on, passes-stop, passes-none}
 use Rattle.edit.proofs.checks.place_of.Statement.{statement}
 use Rattle.edit.proofs.checks.place_of.Tie as tie
 
@@ -42,7 +42,7 @@ returns c =
     let l = c .before .before .before .loop in
     let a = c .before .before .before .before .before .before .args in
     let n = c .before .before .before .before .lines-in in
-    let w = leads-stop (above-leads (a .j)) (playIn (now (a .b))) (n .result) (l .n) (c .before .before .loop-test .taken) (omega (arith, c .if1 .taken, c .before .start-of .ensures .0)) in
+    let w = passes-stop (above-passes (a .j)) (playIn (now (a .b))) (n .result) (l .n) (c .before .before .loop-test .taken) (omega (arith, c .if1 .taken, c .before .start-of .ensures .0)) in
     (sym (l .inv .2 ∙ w), l .inv .0, omega (arith, n .ensures .0))
 
 add-n-2 : tie.Need-add-n-2 Inv-loop μ-loop
@@ -56,7 +56,7 @@ loop-again c =
     let l = c .before .before .before .loop in
     let a = c .before .before .before .before .before .before .args in
     let n = c .before .before .before .before .lines-in in
-    let w = leads-on (above-leads (a .j)) (playIn (now (a .b))) (n .result) (l .n) (c .before .before .loop-test .taken) (omega (arith, c .if1 .left, c .before .start-of .ensures .0)) in
+    let w = passes-on (above-passes (a .j)) (playIn (now (a .b))) (n .result) (l .n) (c .before .before .loop-test .taken) (omega (arith, c .if1 .left, c .before .start-of .ensures .0)) in
     (omega arith, omega arith, l .inv .2 ∙ w)
 
 returns-2 : tie.Need-returns-2 Inv-loop μ-loop
@@ -64,7 +64,7 @@ returns-2 c =
     let l = c .before .loop in
     let a = c .before .before .before .before .args in
     let n = c .before .before .lines-in in
-    let w = leads-none (above-leads (a .j)) (playIn (now (a .b))) (n .result) (l .n) (c .loop-test .left) in
+    let w = passes-none (above-passes (a .j)) (playIn (now (a .b))) (n .result) (l .n) (c .loop-test .left) in
     (sym (l .inv .2 ∙ w), l .inv .0, omega (arith, n .ensures .0))
 
 pub place-of-spec : {M : Type 1} → statement M

@@ -8,7 +8,7 @@ use borrow.Author.Needs.{needs}
 use Rattle.block.specs.Decode.{run, decode}
 use Rattle.edit.specs.Edit.{playsIn, notBelow, removedFrom}
 use Rattle.edit.specs.Splicing.{playIn}
-use Rattle.edit.proofs.Played.{removed-is, below-leads, leads-on, leads-stop, leads-none}
+use Rattle.edit.proofs.Played.{removed-is, below-passes, passes-on, passes-stop, passes-none}
 use Rattle.edit.proofs.checks.removed_from.Statement.{statement}
 use Rattle.edit.proofs.checks.removed_from.Tie as tie
 
@@ -52,7 +52,7 @@ returns c =
     let a = c .before .before .before .before .before .before .before .args in
     let n = c .before .before .before .before .lines-in in
     let s = c .before .before .before .before .before .start-of .result in
-    let w = l .inv .2 ∙ leads-stop (below-leads s) (playIn (now (a .b))) (n .result) (l .i) (c .before .before .loop-test .taken) (omega (arith, c .if1 .taken, c .before .start-of2 .ensures .0)) in
+    let w = l .inv .2 ∙ passes-stop (below-passes s) (playIn (now (a .b))) (n .result) (l .i) (c .before .before .loop-test .taken) (omega (arith, c .if1 .taken, c .before .start-of2 .ensures .0)) in
     (omega arith, omega arith, omega (arith, n .ensures .0))
 
 add-i-2 : tie.Need-add-i-2 Inv-loop μ-loop
@@ -67,7 +67,7 @@ loop-again c =
     let a = c .before .before .before .before .before .before .before .args in
     let n = c .before .before .before .before .lines-in in
     let s = c .before .before .before .before .before .start-of .result in
-    let w = leads-on (below-leads s) (playIn (now (a .b))) (n .result) (l .i) (c .before .before .loop-test .taken) (omega (arith, c .if1 .left, c .before .start-of2 .ensures .0)) in
+    let w = passes-on (below-passes s) (playIn (now (a .b))) (n .result) (l .i) (c .before .before .loop-test .taken) (omega (arith, c .if1 .left, c .before .start-of2 .ensures .0)) in
     (omega arith, omega arith, l .inv .2 ∙ w)
 
 sub-result-2 : tie.Need-sub-result-2 Inv-loop μ-loop
@@ -79,7 +79,7 @@ returns-2 c =
     let a = c .before .before .before .before .before .args in
     let n = c .before .before .lines-in in
     let s = c .before .before .before .start-of .result in
-    let w = l .inv .2 ∙ leads-none (below-leads s) (playIn (now (a .b))) (n .result) (l .i) (c .loop-test .left) in
+    let w = l .inv .2 ∙ passes-none (below-passes s) (playIn (now (a .b))) (n .result) (l .i) (c .loop-test .left) in
     (omega arith, omega arith, omega (arith, n .ensures .0))
 
 pub removed-from-spec : {M : Type 1} → statement M

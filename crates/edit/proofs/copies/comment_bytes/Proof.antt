@@ -7,8 +7,8 @@ use lib.ListN.{length}
 use denote.Ref.{now}
 use Rattle.block.specs.Encode.{commentText}
 use Rattle.block.specs.Decode.{run, commentPlace, commentOf}
-use Rattle.edit.proofs.Rests.{parts-none, parts-longer}
-use Rattle.edit.proofs.Belonging.{comment-short}
+use Rattle.block.proofs.Tabling.{concat-none, concat-longer}
+use Rattle.block.proofs.Within.{comment-most}
 use Rattle.edit.proofs.copies.comment_bytes.Statement.{statement}
 use Rattle.edit.proofs.copies.comment_bytes.Tie as tie
 
@@ -19,7 +19,7 @@ abbrev μ-loop : tie.MeasureT-loop
 μ-loop b first count n₀ i₀ n i = count - i
 
 loop-holds : tie.Need-loop-holds Inv-loop μ-loop
-loop-holds c = (omega arith, omega (arith, ap length (parts-none (λ t. t) (commentOf (c .before .args .b .now)) (c .before .args .first))), omega arith)
+loop-holds c = (omega arith, omega (arith, ap length (concat-none (λ t. t) (commentOf (c .before .args .b .now)) (c .before .args .first))), omega arith)
 
 add-comment-of : tie.Need-add-comment-of Inv-loop μ-loop
 add-comment-of c = omega arith
@@ -35,7 +35,7 @@ add-n c =
     let b = c .before .before .before .before .args .b .now in
     let k = c .before .before .before .before .args .first + c .before .before .loop .i in
     let g = c .before .before .before .shared-slice-known .given in
-    omega (arith, ap length (c .comment-of .ensures), comment-short b k (omega (arith, g (commentPlace b k + 2), g (commentPlace b k + 2 + 1))))
+    omega (arith, ap length (c .comment-of .ensures), comment-most b k, g (commentPlace b k + 2), g (commentPlace b k + 2 + 1))
 
 add-i : tie.Need-add-i Inv-loop μ-loop
 add-i c = omega arith
@@ -51,8 +51,8 @@ loop-again c =
     let k = f + l .i in
     let g = c .before .before .before .shared-slice-known .given in
     let e = ap length (c .comment-of .ensures) in
-    let m = comment-short b k (omega (arith, g (commentPlace b k + 2), g (commentPlace b k + 2 + 1))) in
-    (omega arith, omega (arith, l .inv .1, e, parts-longer (λ t. t) (commentOf b) f (l .i)), omega arith)
+    let m = comment-most b k in
+    (omega arith, omega (arith, l .inv .1, e, concat-longer (λ t. t) (commentOf b) f (l .i)), omega (arith, e, m, g (commentPlace b k + 2), g (commentPlace b k + 2 + 1)))
 
 returns : tie.Need-returns Inv-loop μ-loop
 returns c =

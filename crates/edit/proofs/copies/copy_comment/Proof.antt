@@ -1,7 +1,9 @@
 -- The row and the bytes are stored at their ends.
 -- Assumes nothing.
 use native.Mathlib.Omega.{arith}
-use Rattle.edit.proofs.Copied.{comment-long, comment-copied}
+use mathlib.Core.Path.{refl}
+use lib.ListN.{length}
+use Rattle.parser.proofs.Walks.{only-one, comment-stored}
 use borrow.Author.Needs.{needs}
 use Rattle.edit.proofs.copies.copy_comment.Statement.{statement}
 use Rattle.edit.proofs.copies.copy_comment.Tie as tie
@@ -31,7 +33,7 @@ add-t11 : tie.Need-add-t11
 add-t11 c = search needs
 
 add-t13 : tie.Need-add-t13
-add-t13 c = omega (arith, c .before .before .before .before .before .before .before .before .before .before .before .before .before .before .before .before .pre .bytes, comment-long (c .before .before .before .before .before .before .before .before .before .before .before .before .before .before .before .before .args .c .now))
+add-t13 c = omega (arith, c .before .before .before .before .before .before .before .before .before .before .before .before .before .before .before .before .pre .bytes, only-one (c .before .before .before .before .before .before .before .before .before .before .before .before .before .before .before .before .args .c .now))
 
 same-length : tie.Need-same-length
 same-length c = search needs
@@ -39,7 +41,7 @@ same-length c = search needs
 returns : tie.Need-returns
 returns c =
     let a = c .before .before .before .before .before .before .before .before .before .before .before .before .before .before .before .before .args in
-    comment-copied (a .c .now) (a .w .next) (a .w) (c .before .before .before .before .before .before .before .before .before .before .before .before .before .before .before .before .pre) (c .before .before .before .before .before .before .before .before .before .put-at .ensures) (c .before .before .before .before .before .put-at2 .ensures)
+    comment-stored (a .c .now) (length (a .c .now)) (a .w .next) (a .w) refl (c .before .before .before .before .before .before .before .before .before .before .before .before .before .before .before .before .pre .room) (c .before .before .before .before .before .before .before .before .before .put-at .ensures) (c .before .before .before .before .before .put-at2 .ensures)
 
 pub copy-comment-spec : {M : Type 1} → statement M
 copy-comment-spec =

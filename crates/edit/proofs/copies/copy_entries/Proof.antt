@@ -4,9 +4,9 @@ use Prim.Native.Nat.{_-_}
 use native.Mathlib.Omega.{arith}
 use Rattle.block.specs.Decode.{run, notedIn}
 use Rattle.lent.proofs.Regions.{left-length}
+use Rattle.block.proofs.Within.{moves-small}
 use Rattle.parser.proofs.Walks.{Entering}
 use Rattle.edit.proofs.Rests.{rest}
-use Rattle.edit.proofs.Belonging.{moves-small}
 use Rattle.edit.proofs.Copied.{entries-start, entries-fit, entries-step, entries-end}
 use Rattle.edit.proofs.copies.copy_entries.Statement.{statement}
 use Rattle.edit.proofs.copies.copy_entries.Tie as tie

@@ -3,9 +3,9 @@
 use native.Mathlib.Omega.{arith}
 use Rattle.jkf.specs.Entries.{entryBytes}
 use Rattle.lent.proofs.Regions.{stored-part}
-use Rattle.edit.proofs.Belonging.{comments-within}
 use Rattle.edit.proofs.Copied.{own-fit, own-room, own-end, own-filled}
 use borrow.Author.Needs.{needs}
+use Rattle.block.proofs.Within.{comments-within, comments-small}
 use Rattle.edit.proofs.copies.copy_entry.Statement.{statement}
 use Rattle.edit.proofs.copies.copy_entry.Tie as tie
 
@@ -24,7 +24,7 @@ copy-comments-requires c κs =
     let h = c .before .before .before .before .before .pre in
     let p = c .before .first-comment in
     let q = c .before .before .comment-count in (
-      omega (arith, comments-within (a .b .now) (h .0) (a .k) (h .1), p .ensures .0, q .ensures .0),
+      omega (arith, comments-within (a .b .now) (h .0) (a .k) (h .1), comments-small (a .b .now) (h .0), p .ensures .0, q .ensures .0),
       own-fit (a .b .now) (a .k) (h .2) (p .result) (q .result) (p .ensures .0) (q .ensures .0),
     )
 

@@ -7,7 +7,7 @@ use lib.ListN.{length}
 use Rattle.block.specs.Encode.{commentsOf, commentText}
 use Rattle.block.specs.Decode.{run, firstComment, commentCount, commentOf, notedIn}
 use Rattle.block.proofs.Tabling.{length-run}
-use Rattle.edit.proofs.Belonging.{moves-small, comments-within}
+use Rattle.block.proofs.Within.{moves-small, comments-within, comments-small}
 use Rattle.edit.proofs.Copied.{comments-none, bytes-none, comments-more, bytes-more}
 use Rattle.edit.proofs.copies.count_entries.Statement.{statement}
 use Rattle.edit.proofs.copies.count_entries.Tie as tie
@@ -44,7 +44,7 @@ comment-bytes-requires : tie.Need-comment-bytes-requires Inv-loop μ-loop
 comment-bytes-requires c κs =
     let a = c .before .before .before .before .before in
     let k = a .args .k + c .before .before .before .loop .i in
-    omega (arith, comments-within (a .args .b .now) (a .pre .0) k (omega (arith, a .pre .1, c .before .before .loop-test .taken)), c .first-comment .ensures .0, c .before .comment-count .ensures .0)
+    omega (arith, comments-within (a .args .b .now) (a .pre .0) k (omega (arith, a .pre .1, c .before .before .loop-test .taken)), comments-small (a .args .b .now) (a .pre .0), c .first-comment .ensures .0, c .before .comment-count .ensures .0)
 
 add-bytes : tie.Need-add-bytes Inv-loop μ-loop
 add-bytes c = omega (arith, moves-small (c .before .before .before .before .before .before .args .b .now) (c .before .before .before .before .before .before .pre .0), c .comment-bytes .ensures .1, c .before .before .comment-count .ensures .1, c .before .before .before .before .loop .inv .4)

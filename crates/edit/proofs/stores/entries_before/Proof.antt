@@ -5,7 +5,8 @@ use mathlib.Core.Path.{_≡_, ap, sym, _∙_}
 use borrow.Author.Needs.{needs}
 use Rattle.block.specs.Sound.{entriesBefore}
 use Rattle.block.specs.Decode.{linesIn}
-use Rattle.edit.proofs.Sounds.{first-is, before-all, before-within}
+use Rattle.block.proofs.Within.{entries-below}
+use Rattle.edit.proofs.Sounds.{first-is, before-all}
 use Rattle.edit.proofs.stores.entries_before.Statement.{statement}
 use Rattle.edit.proofs.stores.entries_before.Tie as tie
 
@@ -24,7 +25,7 @@ returns c =
     let b = a .b .now in
     let s = c .before .before .before .before .pre .0 in
     let e = c .first-entry .ensures .0 ∙ first-is b s (a .k) (omega arith) in
-    (e, omega (arith, e, before-within b s (a .k) (c .before .before .before .before .pre .1)))
+    (e, omega (arith, e, entries-below b s (a .k) (c .before .before .before .before .pre .1)))
 
 moves-in-requires : tie.Need-moves-in-requires
 moves-in-requires c κs = search needs

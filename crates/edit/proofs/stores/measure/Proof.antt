@@ -3,7 +3,7 @@
 -- Assumes nothing.
 use native.Mathlib.Omega.{arith}
 use borrow.Author.Needs.{needs}
-use Rattle.edit.proofs.Belonging.{moves-small}
+use Rattle.block.proofs.Within.{moves-small}
 use Rattle.edit.proofs.Measured.{extent-small, measured}
 use Rattle.edit.proofs.stores.measure.Statement.{statement}
 use Rattle.edit.proofs.stores.measure.Tie as tie

@@ -1,7 +1,6 @@
 -- The row and the bytes are stored at their ends.
 -- Assumes nothing.
-use Rattle.parser.proofs.Walks.{comment-long}
-use Rattle.parser.proofs.Walks.{comment-filled}
+use Rattle.parser.proofs.Walks.{comment-long, comment-filled}
 use native.Mathlib.Omega.{arith}
 use borrow.Author.Needs.{needs}
 use Rattle.parser.proofs.fills.fill_comment.Statement.{statement}

@@ -4,7 +4,7 @@ use denote.Ref.{now}
 use borrow.Author.Needs.{needs}
 use Rattle.lent.specs.Numbers.{decimal}
 use Rattle.lent.proofs.Writes.{wrote-all}
-use Rattle.shown.proofs.Texts.{room-front, then-piece}
+use Rattle.lent.proofs.Room.{room-front, then-piece}
 use Rattle.shown.proofs.rows.put_field.Statement.{statement}
 use Rattle.shown.proofs.rows.put_field.Tie as tie
 

@@ -4,7 +4,7 @@ use denote.Ref.{now}
 use borrow.Author.Needs.{needs}
 use Rattle.lent.proofs.Writes.{then}
 use Rattle.shown.specs.Listing.{field}
-use Rattle.shown.proofs.Texts.{room-front, room-after}
+use Rattle.lent.proofs.Room.{room-front, room-after}
 use Rattle.shown.proofs.rows.put_fields.Statement.{statement}
 use Rattle.shown.proofs.rows.put_fields.Tie as tie
 

@@ -4,7 +4,7 @@ use mathlib.Core.List.{[], _∷_}
 use denote.Ref.{now}
 use borrow.Author.Needs.{needs}
 use Rattle.shown.specs.Listing.{fields}
-use Rattle.shown.proofs.Texts.{room-front, then-piece}
+use Rattle.lent.proofs.Room.{room-front, then-piece}
 use Rattle.shown.proofs.rows.put_last.Statement.{statement}
 use Rattle.shown.proofs.rows.put_last.Tie as tie
 

@@ -3,7 +3,8 @@
 use native.Mathlib.Omega.{arith}
 use borrow.Author.Needs.{needs}
 use Rattle.lent.proofs.Writes.{unwritten}
-use Rattle.shown.proofs.Texts.{digits-twenty, read-length, read-room, read-wrote}
+use Rattle.lent.proofs.Digits.{digits-twenty}
+use Rattle.shown.proofs.Texts.{read-length, read-room, read-wrote}
 use Rattle.shown.proofs.rows.put_read.Statement.{statement}
 use Rattle.shown.proofs.rows.put_read.Tie as tie
 

@@ -3,7 +3,8 @@
 use native.Mathlib.Omega.{arith}
 use borrow.Author.Needs.{needs}
 use Rattle.lent.proofs.Writes.{unwritten, written}
-use Rattle.shown.proofs.Texts.{digits-twenty, refusal-length}
+use Rattle.lent.proofs.Digits.{digits-twenty}
+use Rattle.shown.proofs.Texts.{refusal-length}
 use Rattle.shown.proofs.rows.put_refusal.Statement.{statement}
 use Rattle.shown.proofs.rows.put_refusal.Tie as tie
 

@@ -1,22 +1,29 @@
--- In a sound block each line's entries lie among the entries, and each entry's comments among the comments: a row says where its part
--- begins, that is the sum of the counts before it, and no sum goes past the whole. All counts are below 65536, since the block is.
+-- In a sound block each line's entries lie among the entries, each entry's comments among the comments, and each header entry's texts among
+-- the texts: a row says where its part begins, that is the sum of the counts before it, and no sum goes past the whole. All counts are below
+-- 65536, since the block is.
 -- Assumes nothing.
 use Prim.Native.Nat.{ℕ, _+_, _≤_, _<_}
 use native.Mathlib.Omega.{arith}
 use mathlib.Core.Path.{_≡_, sym, ap, _∙_}
 use mathlib.Core.List.{List, _++_}
-use lib.ListN.{drop, take-append-drop}
+use lib.ListN.{length, drop, take-append-drop, length-take, length-drop}
+use lib.Seq.{length-take-le}
 use lib.Dec.{eqb}
 use Rattle.lists.specs.Pick.{pick}
 use Rattle.lists.proofs.Laws.{by-pick}
 use Rattle.lent.specs.Bytes.{le16}
 use Rattle.jkf.specs.Entries.{entryIn, entryBytes}
 use Rattle.jkf.proofs.EntriesBack.{first-back}
-use Rattle.block.specs.Decode.{linesIn, movesIn, commentsIn, movePlace, firstEntry, entryCount, firstComment, commentCount}
-use Rattle.block.specs.Sound.{Sound, commentsBefore}
+use Rattle.block.specs.Decode.{headersIn, linesIn, movesIn, commentsIn, movePlace, textPlace, keyOffset, keyLength, valueOffset, valueLength, firstEntry, entryCount, firstComment, commentCount, commentLength, keyOf, valueOf, commentOf}
+use Rattle.block.specs.Sound.{Sound, headerBytes, entriesBefore, commentsBefore}
 use Rattle.block.proofs.Lining.{le16-drop}
-use Rattle.block.proofs.Sums.{sum-none, sum-within}
+use Rattle.block.proofs.Sums.{sum-none, sum-rises, sum-within}
 use Rattle.block.proofs.Deciding.{same-is}
+
+-- a comment is no longer than its row says
+pub comment-most : (b : List ℕ) (k : ℕ) → length (commentOf b k) ≤ commentLength b k
+unfolding commentOf
+comment-most b k = simp length-take (omega arith)
 
 module _ (b : List ℕ) (s : Sound b) where
   -- ---- how many there are
@@ -33,7 +40,28 @@ module _ (b : List ℕ) (s : Sound b) where
   pub comments-small : commentsIn b < 65536
   comments-small = omega (arith, s .totals .1 .1 .1, s .head .1 .0)
 
+  -- ---- the texts of a header entry
+
+  header-within : (k : ℕ) → k < headersIn b → textPlace b + headerBytes b k + (keyLength b k + valueLength b k) ≤ length b
+  header-within k h = omega (arith, sum-within (λ k. keyLength b k + valueLength b k) k (headersIn b) h, s .totals .1 .1 .1)
+
+  pub key-length : (k : ℕ) → k < headersIn b → length (keyOf b k) ≡ keyLength b k
+  unfolding keyOf
+  key-length k h =
+      length-take-le (keyLength b k) (drop (textPlace b + keyOffset b k) b)
+      (omega (arith, length-drop (textPlace b + keyOffset b k) b, header-within k h, s .headers k h .0))
+
+  pub value-length : (k : ℕ) → k < headersIn b → length (valueOf b k) ≡ valueLength b k
+  unfolding valueOf
+  value-length k h =
+      length-take-le (valueLength b k) (drop (textPlace b + valueOffset b k) b)
+      (omega (arith, length-drop (textPlace b + valueOffset b k) b, header-within k h, s .headers k h .1 .0))
+
   -- ---- the entries of a line
+
+  -- the lines before one have no more entries than there are
+  pub entries-below : (k : ℕ) → k ≤ linesIn b → entriesBefore b k ≤ movesIn b
+  entries-below k h = omega (arith, sum-rises (λ k. entryCount b k) k (linesIn b) h, s .totals .1 .0)
 
   -- they end among the entries
   pub entries-within : (k : ℕ) → k < linesIn b → firstEntry b k + entryCount b k ≤ movesIn b
