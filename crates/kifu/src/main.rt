@@ -25,15 +25,14 @@ fn left(len: u64, taken: u64) -> u64 {
     if taken <= len { len - taken } else { 0 }
 }
 
-// Prints a block as a text, and says what is lost by that. There is room for the longest text: an entry of 20 bytes gives at most 65.
-fn print_text(name: &[u8], b: &[u8]) -> bool {
-    let mut out = [0u8; 220000];
-    let f = jkf::figures_of(converter::write(b, &mut out));
+// Prints a block as a text, and says what is lost by that.
+fn print_text(name: &[u8], b: &[u8], out: &mut [u8]) -> bool {
+    let f = jkf::figures_of(converter::write(b, out));
     if f.number != 0 {
         refusals::tell(name, f);
         return false;
     }
-    if !told(io::write_all(STDOUT_FILENO, shown::front(&out, f.first as usize))) {
+    if !told(io::write_all(STDOUT_FILENO, shown::front(&out[0..], f.first as usize))) {
         return false;
     }
     losses::tell(name, b, f.second);
@@ -67,11 +66,10 @@ fn print_read(taken: u64, len: u64) -> bool {
     io::write_all(STDOUT_FILENO, shown::front(&out, n))
 }
 
-// Prints the listing of a block. There is room for as many lines as a block can have, 2,335.
-fn print_listing(taken: u64, b: &[u8]) -> bool {
-    let mut out = [0u8; 112133];
-    let n = shown::put_listing(&mut out, taken, b);
-    io::write_all(STDOUT_FILENO, shown::front(&out, n))
+// Prints the listing of a block.
+fn print_listing(taken: u64, b: &[u8], out: &mut [u8]) -> bool {
+    let n = shown::put_listing(out, taken, b);
+    io::write_all(STDOUT_FILENO, shown::front(&out[0..], n))
 }
 
 // Writes a block into the new file that the third word names, and prints how long it is.
@@ -97,23 +95,31 @@ fn edit(word: Word, line: u64, name: &[u8], b: &[u8], out: &mut [u8]) -> edits::
 }
 
 // Prints a block as a text once it is edited.
-fn print_edited(word: Word, line: u64, name: &[u8], b: &[u8]) -> bool {
-    let mut out = [0u8; 65535];
-    let edits::Edited::Block(n) = edit(word, line, name, b, &mut out) else {
+fn print_edited(word: Word, line: u64, name: &[u8], b: &[u8], out: &mut [u8]) -> bool {
+    let mut edited = [0u8; 65535];
+    let edits::Edited::Block(n) = edit(word, line, name, b, &mut edited) else {
         return false;
     };
-    print_text(name, shown::front(&out, n))
+    print_text(name, shown::front(&edited, n), out)
 }
 
 // What is asked of a text that was read into a block; and whether it was done.
-fn answer(word: Word, line: u64, name: &[u8], left: u64, taken: u64, b: &[u8]) -> bool {
+fn answer(
+    word: Word,
+    line: u64,
+    name: &[u8],
+    left: u64,
+    taken: u64,
+    b: &[u8],
+    out: &mut [u8],
+) -> bool {
     match word {
-        Word::List => told(print_listing(taken, b)),
+        Word::List => told(print_listing(taken, b, out)),
         Word::Check => told(print_check(taken, left, b)),
         Word::Block => keep(taken, b),
-        Word::Put => print_edited(word, line, name, b),
-        Word::Cut => print_edited(word, line, name, b),
-        _ => print_text(name, b),
+        Word::Put => print_edited(word, line, name, b, out),
+        Word::Cut => print_edited(word, line, name, b, out),
+        _ => print_text(name, b, out),
     }
 }
 
@@ -126,7 +132,7 @@ fn tell_left(word: Word, name: &[u8], left: u64) {
 }
 
 // Reads a text into a block as long as a block can be, so that no buffer is short.
-fn read(word: Word, line: u64, name: &[u8], text: &[u8]) {
+fn read(word: Word, line: u64, name: &[u8], text: &[u8], out: &mut [u8]) {
     let mut block = [0u8; 65535];
     let f = jkf::figures_of(parser::read(text, &mut block));
     if f.number != 0 {
@@ -135,23 +141,25 @@ fn read(word: Word, line: u64, name: &[u8], text: &[u8]) {
     }
     let left = left(text.len() as u64, f.first);
     let b = shown::front(&block, f.second as usize);
-    if answer(word, line, name, left, f.first, b) {
+    if answer(word, line, name, left, f.first, b, out) {
         tell_left(word, name, left);
     }
 }
 
-// What is asked of a file: of one byte more than a text or a block may have, so that a longer one is refused and not cut.
+// What is asked of a file: of one byte more than a text or a block may have, so that a longer one is refused and not cut. What is printed has
+// room: in the longest text an entry of 20 bytes has at most 65, and the longest listing has 112,133.
 fn obey(word: Word, line: u64, name: &[u8]) {
     let mut input = io::large_buffer();
     let files::Got::Bytes(n) = files::fill(name, &mut input) else {
         return;
     };
     let bytes = shown::front(&input, n);
+    let mut out = [0u8; 220000];
     if let Word::Text = word {
-        print_text(name, bytes);
+        print_text(name, bytes, &mut out);
         return;
     }
-    read(word, line, name, bytes);
+    read(word, line, name, bytes, &mut out);
 }
 
 // The second word is a file's name.
