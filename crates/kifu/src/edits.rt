@@ -39,22 +39,28 @@ fn put_text(
     made(name, f)
 }
 
-// With that of a file: of one byte more than a text may have, so that a longer one is refused and not cut.
-fn put_file(name: &[u8], b: &[u8], line: u64, variation: &[u8], out: &mut [u8]) -> Edited {
-    let mut input = io::large_buffer();
-    let files::Got::Bytes(n) = files::fill(variation, &mut input) else {
+// With that of a file, read into a buffer with room for more than a text may have, so that a longer one is refused and not cut.
+fn put_file(
+    name: &[u8],
+    b: &[u8],
+    line: u64,
+    variation: &[u8],
+    room: &mut [u8],
+    out: &mut [u8],
+) -> Edited {
+    let files::Got::Bytes(n) = files::fill(variation, room) else {
         return Edited::Refused;
     };
-    put_text(name, b, line, variation, shown::front(&input, n), out)
+    put_text(name, b, line, variation, shown::front(&room[0..], n), out)
 }
 
 // With that of the file that the fourth word names.
-pub(crate) fn put(name: &[u8], b: &[u8], line: u64, out: &mut [u8]) -> Edited {
+pub(crate) fn put(name: &[u8], b: &[u8], line: u64, room: &mut [u8], out: &mut [u8]) -> Edited {
     let mut variation = io::buffer();
     let n = os::arg(4, &mut variation);
     if os::errno() != 0 {
         os::fail(b"kifu: refused: VARIATION");
         return Edited::Refused;
     }
-    put_file(name, b, line, &variation[..n], out)
+    put_file(name, b, line, &variation[..n], room, out)
 }

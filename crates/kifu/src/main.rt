@@ -86,18 +86,25 @@ fn keep(taken: u64, b: &[u8]) -> bool {
     told(print_read(taken, b.len() as u64))
 }
 
-// Makes the edit that is asked for.
-fn edit(word: Word, line: u64, name: &[u8], b: &[u8], out: &mut [u8]) -> edits::Edited {
+// Makes the edit that is asked for; a variation's text is read into the room.
+fn edit(
+    word: Word,
+    line: u64,
+    name: &[u8],
+    b: &[u8],
+    room: &mut [u8],
+    out: &mut [u8],
+) -> edits::Edited {
     match word {
-        Word::Put => edits::put(name, b, line, out),
+        Word::Put => edits::put(name, b, line, room, out),
         _ => edits::cut(name, b, line, out),
     }
 }
 
-// Prints a block as a text once it is edited.
+// Prints a block as a text once it is edited. The edit is done before anything is printed, so both use one buffer.
 fn print_edited(word: Word, line: u64, name: &[u8], b: &[u8], out: &mut [u8]) -> bool {
     let mut edited = [0u8; 65535];
-    let edits::Edited::Block(n) = edit(word, line, name, b, &mut edited) else {
+    let edits::Edited::Block(n) = edit(word, line, name, b, out, &mut edited) else {
         return false;
     };
     print_text(name, shown::front(&edited, n), out)
