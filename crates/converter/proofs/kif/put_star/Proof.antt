@@ -15,7 +15,7 @@ peek-requires c κs = search needs
 returns : tie.Need-returns
 unfolding starText
 returns c =
-    rw (eq-eqb _ _ (sym (c .before .peek .ensures) ∙ c .if1 .taken)) (nothing _)
+    rw (eq-eqb _ 38 (sym (c .before .peek .ensures) ∙ c .if1 .taken)) (nothing _)
 
 slice-aggregate-put-bytes : tie.Need-slice-aggregate-put-bytes
 slice-aggregate-put-bytes c = search needs

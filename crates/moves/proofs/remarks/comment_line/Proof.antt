@@ -29,7 +29,7 @@ remark-from-requires c κs = search needs
 
 returns-2 : tie.Need-returns-2
 unfolding commentLineAt
-returns-2 c = rw (← c .before .before .before .before .tag .ensures, c .before .before .past .given .1, ← c .remark-from .ensures)
+returns-2 c = rw (← c .before .before .before .before .tag .ensures, c .before .before .past .given .1) (c .remark-from .ensures)
 
 pub comment-line-spec : {M : Type 1} → statement M
 comment-line-spec =

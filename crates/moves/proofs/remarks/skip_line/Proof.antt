@@ -30,7 +30,7 @@ line-end-requires c κs = search needs
 
 returns-3 : tie.Need-returns-3
 unfolding skipLineAt
-returns-3 c = rw (← c .before .before .before .before .before .before .begins-move .ensures, c .before .before .before .before .before .if1 .left, ← c .before .before .before .before .character .ensures, c .before .before .past .given .1, ← c .line-end .ensures)
+returns-3 c = rw (← c .before .before .before .before .before .before .begins-move .ensures, c .before .before .before .before .before .if1 .left, ← c .before .before .before .before .character .ensures, c .before .before .past .given .1) (c .line-end .ensures)
 
 pub skip-line-spec : {M : Type 1} → statement M
 skip-line-spec =

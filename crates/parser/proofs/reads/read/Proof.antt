@@ -9,7 +9,7 @@ use Rattle.parser.proofs.reads.read.Tie as tie
 
 returns : tie.Need-returns
 unfolding readOf
-returns c = rw (lt-ltb _ _ (c .if1 .taken)) (refl, refl)
+returns c = rw (lt-ltb 65535 _ (c .if1 .taken)) (refl, refl)
 
 well-formed-requires : tie.Need-well-formed-requires
 well-formed-requires c κs = search needs
