@@ -1,5 +1,7 @@
 //! The original and the port side by side in one process, timed on texts that a fixed seed makes.
 
+#[cfg(all(feature = "kif_put_in", feature = "kif_cut"))]
+mod editing;
 mod reading;
 mod slow;
 mod usual;
@@ -7,7 +9,7 @@ mod usual;
 mod writing;
 
 use crate::call::Call;
-use crate::judge::Answer;
+use crate::judge::{self, Answer, Outcome};
 use crate::port;
 use std::hint::black_box;
 use std::time::{Duration, Instant};
@@ -24,6 +26,16 @@ pub fn bench() {
     reading::bench();
     #[cfg(feature = "kif_write")]
     writing::bench();
+    #[cfg(all(feature = "kif_put_in", feature = "kif_cut"))]
+    editing::bench();
+}
+
+/// What reading makes of a text.
+fn block(text: &str) -> Option<Vec<u8>> {
+    match judge::read(text.as_bytes()) {
+        Outcome::Made { result, .. } => Some(result),
+        _ => None,
+    }
 }
 
 /// A call, once port and judge were seen to give the same: else there is nothing to time.

@@ -1,5 +1,6 @@
 //! Texts of up to 65,535 bytes that ask as much of a reader as a text can.
 
+use super::block;
 use crate::record::LIMIT;
 
 /// Each text with its name.
@@ -25,6 +26,12 @@ pub fn texts() -> Vec<(&'static str, String)> {
         ("a line without break", filled("手数\n1同歩打", "x", "")),
         ("unknown presets", filled("", "手合割：左六枚落ち\n", "")),
     ]
+}
+
+/// What reading makes of those that give a long block.
+pub fn blocks() -> Vec<(&'static str, Vec<u8>)> {
+    let long = |(name, text): (_, String)| Some((name, block(&text).filter(|block| block.len() > LIMIT / 2)?));
+    texts().into_iter().filter_map(long).collect()
 }
 
 /// A text of as many bytes as a text may have, or a few fewer: the middle as often as there is room.

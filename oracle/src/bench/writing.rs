@@ -1,11 +1,10 @@
 //! Writing: the original's `to_kif_owned` and the port's `kif_write`, on what reading made of the same texts.
 
-use super::{best, confirmed, made_slow, port_time, row, slow, timed, usual, ROUNDS};
+use super::{best, block, confirmed, made_slow, port_time, row, slow, timed, usual, ROUNDS};
 use crate::call::Call;
-use crate::judge::{self, Outcome, LONGEST};
+use crate::judge::{self, LONGEST};
 use crate::original::converter::kif::ToKif;
 use crate::original::parser::kif::parse;
-use crate::record::LIMIT;
 
 pub fn bench() {
     let mut out = vec![0; LONGEST];
@@ -19,15 +18,6 @@ pub fn bench() {
         row(name, written, best(ROUNDS, || [timed(|| read.to_kif_owned()), port_time(&call, &mut out)]));
     }
     println!("\nwriting the long blocks of texts made to be slow, {LONGEST} bytes lent; the port's answer and time");
-    let long = |(name, text): (_, String)| Some((name, block(&text).filter(|block| block.len() > LIMIT / 2)?));
-    let blocks = slow::texts().into_iter().filter_map(long);
+    let blocks = slow::blocks().into_iter();
     made_slow(blocks.map(|(name, block)| (name, block.len(), Call::Write { block })).collect(), &mut out);
-}
-
-/// What reading makes of a text.
-fn block(text: &str) -> Option<Vec<u8>> {
-    match judge::read(text.as_bytes()) {
-        Outcome::Made { result, .. } => Some(result),
-        _ => None,
-    }
 }
