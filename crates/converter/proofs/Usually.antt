@@ -15,8 +15,8 @@ use Rattle.lent.specs.Numbers.{decimal, padded}
 use Rattle.lent.proofs.Digits.{decimal-one, decimal-more, decimal-length-one, padded-some}
 use Rattle.text.specs.Text.{wideSpace}
 use Rattle.spell.specs.Tables.{moveKinds, numerals, files}
-use Rattle.spell.specs.Spell.{spelled, keyOf, bytesOf}
-use Rattle.spell.proofs.Keys.{bytes-key}
+use Rattle.spell.specs.Spell.{spelled, keyOf, bytesOf, key}
+use Rattle.spell.proofs.Keys.{bytes-key, numeral-bytes, kind-bytes}
 use Rattle.spell.proofs.Written.{file-bytes, promoted-bytes}
 use Rattle.jkf.specs.Entries.{marked, clockOf, timeIn, targetIn, originIn, moveIn, entryIn}
 use Rattle.jkf.specs.declared.Clock.the-variants.{Hms, Ms}
@@ -338,9 +338,8 @@ module _ (row : List ℕ) (u : UsualRow row) where
   rank-same m e = ap bytesOf e ∙ rw m
 
   -- a rank
-  pub rank-square : {k r : ℕ} → (getD row 8 0 ≡ 23 → ⊥) → (1 ≤ getD row 5 0 → getD row 5 0 ≤ 9 → spelled numerals (getD row 5 0) ≡ bytesOf r) → k ≡ r
-      → bytesOf k ≡ rankText row
-  rank-square n f e = let h = u .target n .rank in ap bytesOf e ∙ sym (f (h .0) (h .1)) ∙ rw (ne-eqb (getD row 8 0) 23 n)
+  pub rank-square : {k : ℕ} → (getD row 8 0 ≡ 23 → ⊥) → k ≡ key (spelled numerals (getD row 5 0)) → bytesOf k ≡ rankText row
+  rank-square n e = let h = u .target n .rank in numeral-bytes e (h .0) (h .1) ∙ rw (ne-eqb (getD row 8 0) 23 n)
 
   -- the two are the target
   target-text : fileText row ++ rankText row ≡ targetText (targetIn row)
@@ -379,25 +378,23 @@ module _ (row : List ℕ) (u : UsualRow row) where
   not-promoted n = rw (ne-eqb (getD row 3 0) 2 n) (append-nil (spelled moveKinds (getD row 2 0)))
 
   -- a name of one character
-  pub short-text : (k : ℕ) → isLong row ≡ false → (1 ≤ getD row 2 0 → getD row 2 0 ≤ 9 → spelled moveKinds (getD row 2 0) ≡ bytesOf k)
+  pub short-text : (k : ℕ) → isLong row ≡ false → k ≡ key (spelled moveKinds (getD row 2 0))
       → bytesOf k ++ (40 ∷ (48 + getD row 6 0) ∷ (48 + getD row 7 0) ∷ 41 ∷ 32 ∷ 32 ∷ 32 ∷ []) ≡ nameText row
   short-text k e f =
       let (h, n) = short-is e in
-      name-text (sym (not-promoted n ∙ f (u .name .kind) h)) (sym (width-short e))
+      name-text (kind-bytes f (u .name .kind) h ∙ sym (not-promoted n)) (sym (width-short e))
 
-  -- 成 of a kind of two characters
-  pub first-promoted : {k : ℕ} → 9 < getD row 2 0 → k ≡ 15108240 → bytesOf k ≡ firstText row
-  first-promoted h e = ap bytesOf e ∙ rw (lt-ltb 9 (getD row 2 0) h)
+  -- the first character of a kind: 成 where it has two
+  pub first-kind : {k : ℕ} → k ≡ key (spelled moveKinds (getD row 2 0)) → bytesOf k ≡ firstText row
+  first-kind {k} e = go (decLt 9 (getD row 2 0))
+    where
+      go : Dec (9 < getD row 2 0) → bytesOf k ≡ firstText row
+      go (yes h) = let (m, n) = u .name .long h in ap bytesOf (e ∙ ap key (promoted-bytes (getD row 2 0) h m)) ∙ rw (lt-ltb 9 (getD row 2 0) h)
+      go (no h) = let l : getD row 2 0 ≤ 9 = omega arith in kind-bytes e (u .name .kind) l ∙ rw (le-ltb 9 (getD row 2 0) l)
 
-  -- the kind
-  pub first-kind : {k r : ℕ} → getD row 2 0 ≤ 9 → (1 ≤ getD row 2 0 → getD row 2 0 ≤ 9 → spelled moveKinds (getD row 2 0) ≡ bytesOf r) → k ≡ r
-      → bytesOf k ≡ firstText row
-  first-kind h f e = ap bytesOf e ∙ sym (f (u .name .kind) h) ∙ rw (le-ltb 9 (getD row 2 0) h)
-
-  -- and the kind that it promotes
-  pub second-kind : {k r : ℕ} → 9 < getD row 2 0 → (1 ≤ getD row 2 0 - 8 → getD row 2 0 - 8 ≤ 9 → spelled moveKinds (getD row 2 0 - 8) ≡ bytesOf r) → k ≡ r
-      → bytesOf k ≡ secondText row
-  second-kind h f e = let (m, n) = u .name .long h in ap bytesOf e ∙ sym (f (omega arith) (omega arith)) ∙ rw (lt-ltb 9 (getD row 2 0) h)
+  -- and the kind that this promotes
+  pub second-kind : {k : ℕ} → 9 < getD row 2 0 → k ≡ key (spelled moveKinds (getD row 2 0 - 8)) → bytesOf k ≡ secondText row
+  second-kind h e = let (m, n) = u .name .long h in kind-bytes e (omega arith) (omega arith) ∙ rw (lt-ltb 9 (getD row 2 0) h)
 
   -- 成 after the kind
   pub second-promoted : {k : ℕ} → getD row 2 0 ≤ 9 → k ≡ 15108240 → bytesOf k ≡ secondText row

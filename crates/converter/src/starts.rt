@@ -1,7 +1,6 @@
 // The header and the position as they are written.   (the Rust's src/converter/kakinoki.rs)
 use crate::keys::leading_number;
 use jkf::Position;
-ghost use mathlib.Core.Path.{_≡_};
 ghost use mathlib.Core.List.{[], _∷_, _++_};
 ghost use Prim.Native.Nat.{_+_, _-_, _≤_, _<_};
 ghost use lib.ListN.{length};

@@ -165,11 +165,7 @@ fn put_long_name(out: &mut [u8], row: &[u8]) -> usize
     requires { ⌜ UsualRow (now row) × (isLong (now row) ≡ true) × (length (nameText (now row)) ≤ length (now out)) ⌝ }
     ensures { λ r. ⌜ Wrote (nameText (now (row .entry))) (now (out .entry)) (now (out .exit)) r ⌝ }
 {
-    let k = if 9 < row[2] {
-        0xe68890
-    } else {
-        spell::kind_key(row[2])
-    };
+    let k = spell::kind_key(row[2]);
     let l = if 9 < row[2] {
         spell::kind_key(row[2] - 8)
     } else {

@@ -2,18 +2,21 @@
 -- Assumes nothing.
 use Prim.Native.Nat.{ℕ, zero, suc, _+_, _-_, _/_, _%_, _≤_, _<_}
 use native.Mathlib.Omega.{arith}
+use native.Mathlib.Decide.{decLt}
 use native.Mathlib.Nat.{add-zero}
 use mathlib.Core.Path.{_≡_, refl, sym, ap, _∙_}
 use mathlib.Core.List.{List, [], _∷_, _++_}
 use mathlib.Core.Bool.{Bool, true, false}
 use lib.ListN.{length, getD, drop}
-use lib.Dec.{eqb, ltb}
+use lib.Dec.{eqb, leb, ltb}
 use lib.Seq.{getD-drop}
-use borrow.Author.Tests.{eq-eqb, ne-eqb, eqb-true, eqb-false, ltb-true}
+use borrow.Author.Tests.{eq-eqb, ne-eqb, eqb-true, eqb-false, ltb-true, leb-true}
 use Rattle.lists.specs.Pick.{pick}
+use Rattle.lists.specs.Test.{Test, equals, holds, both, each, allBelow, flag}
 use Rattle.lists.proofs.Laws.{drop-step, pick-both}
+use Rattle.lists.proofs.Tests.{says}
 use Rattle.text.specs.Text.{prefixFrom, standsAt}
-use Rattle.spell.specs.Tables.{Spelling}
+use Rattle.spell.specs.Tables.{Spelling, numerals, moveKinds}
 use Rattle.spell.specs.Spell.{spelled, allBytes, keyOf, bytesOf, key, keys, keyAt, digitsFrom}
 
 -- ---- a character of three bytes
@@ -112,6 +115,23 @@ key-bytes (x ∷ y ∷ z ∷ []) h b =
     bytes-key x y z p q r
 key-bytes (x ∷ y ∷ z ∷ w ∷ t) h b = absurd (omega arith)
 
+-- the numbers 1 to 9 of a table have three bytes each
+abbrev threes : List Spelling → Test
+threes es = each 9 (λ i. both (equals (length (spelled es (suc i))) 3) (holds (allBytes (spelled es (suc i)))))
+
+-- so each is the bytes of its key
+key-spelled : (es : List Spelling) → flag (threes es) ≡ true → (n : ℕ) → 1 ≤ n → n ≤ 9 → bytesOf (key (spelled es n)) ≡ spelled es n
+key-spelled es h zero l u = absurd (omega arith)
+key-spelled es h (suc i) l u = let (p, q) = says (threes es) h i (omega arith) in key-bytes (spelled es (suc i)) p q
+
+pub numeral-bytes : {n r : ℕ} → r ≡ key (spelled numerals n) → 1 ≤ n → n ≤ 9 → bytesOf r ≡ spelled numerals n
+unfolding spelled allBelow
+numeral-bytes {n = n} e l u = ap bytesOf e ∙ key-spelled numerals refl n l u
+
+pub kind-bytes : {n r : ℕ} → r ≡ key (spelled moveKinds n) → 1 ≤ n → n ≤ 9 → bytesOf r ≡ spelled moveKinds n
+unfolding spelled allBelow
+kind-bytes {n = n} e l u = ap bytesOf e ∙ key-spelled moveKinds refl n l u
+
 drop-next : (s : List ℕ) (at e : ℕ) → at < length s → e ≡ at + 1 → drop at s ≡ getD s at 0 ∷ drop e s
 drop-next s at e h z = rw z (drop-step s at h)
 
@@ -133,9 +153,27 @@ abbrev pub Unlike : ℕ → ℕ → Type 0
 Unlike zero n = Unit {0}
 Unlike (suc k) n = Unlike k n × (n ≡ suc k → ⊥)
 
-pub unlike-above : (k n : ℕ) → Unlike k n → 1 ≤ n → k < n
-unlike-above zero n u h = h
-unlike-above (suc k) n u h = omega (arith, unlike-above k n (u .0) h, u .1)
+unlike-other : (k n m : ℕ) → Unlike k n → 1 ≤ m → m ≤ k → m ≡ n → ⊥
+unlike-other zero n m u l h e = omega arith
+unlike-other (suc k) n m u l h e = go (decLt k m) (λ g. unlike-other k n m (u .0) l g e)
+  where
+    go : Dec (k < m) → (m ≤ k → ⊥) → ⊥
+    go (yes g) ih = u .1 (omega arith)
+    go (no g) ih = ih (omega arith)
+
+-- every number of a table is one of 1 to k
+abbrev pub upTo : ℕ → List Spelling → Bool
+upTo k [] = true
+upTo k (e ∷ es) = pick (ltb 0 (e .number)) (pick (leb (e .number) k) (upTo k es) false) false
+
+-- so no other has a spelling
+pub unspelled : (k : ℕ) (es : List Spelling) → upTo k es ≡ true → (n : ℕ) → Unlike k n → spelled es n ≡ []
+unfolding spelled
+unspelled k [] h n u = refl
+unspelled k (e ∷ es) h n u =
+    let (p, h₁) = pick-both (ltb 0 (e .number)) _ h in
+    let (q, r) = pick-both (leb (e .number) k) (upTo k es) h₁ in
+    rw (ne-eqb (e .number) n (unlike-other k n (e .number) u (ltb-true 0 (e .number) p) (leb-true (e .number) k q))) (unspelled k es r n u)
 
 pub keys-length : (es : List Spelling) → length (keys es) ≡ length es
 keys-length [] = refl

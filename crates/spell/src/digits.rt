@@ -9,7 +9,7 @@ ghost use lib.ListN.{length};
 ghost use Rattle.lent.specs.Bytes.{Wrote, fitting};
 ghost use Rattle.spell.specs.Tables.{Spelling, numerals, files};
 ghost use Rattle.spell.specs.Slots.{look, numberIn, numeralSlots};
-ghost use Rattle.spell.specs.Spell.{Digits, IsDigits, keyOf, keyAt, bytesOf, firstOf, spelled};
+ghost use Rattle.spell.specs.Spell.{Digits, IsDigits, key, keyOf, keyAt, firstOf, spelled};
 
 // 一 to 九
 const NUMERALS: [u32; 9] = [
@@ -132,9 +132,9 @@ pub fn file(c: Cursor, s: &[u8]) -> Spelled
     Spelled::As((x - 0xefbc90) as u8, Cursor { at: at + 3 })
 }
 
-// The bytes of a numeral as one number; 0 where there is none.
+// The three bytes of a numeral as one number; 0 where there is none.
 pub fn numeral_key(n: u8) -> u32
-    ensures { λ r. ⌜ (1 ≤ n → n ≤ 9 → spelled numerals n ≡ bytesOf r) ⌝ }
+    ensures { λ r. ⌜ r ≡ key (spelled numerals n) ⌝ }
 {
     match n {
         1 => 0xe4b880,

@@ -13,11 +13,10 @@ pub use kansuji::put_count;
 use text::Cursor;
 ghost use mathlib.Core.Path.{_≡_};
 ghost use mathlib.Core.List.{List};
-ghost use Prim.Native.Nat.{_≤_};
 ghost use Rattle.lent.specs.Bytes.{Wrote, fitting};
 ghost use Rattle.spell.specs.Tables.{Spelling, moveKinds, kinds, specials, writtenSpecials, presets, sides};
 ghost use Rattle.spell.specs.Slots.{look, numberIn, kindSlots, promotedIn, promotedKinds};
-ghost use Rattle.spell.specs.Spell.{Rows, IsTable, keyOf, bytesOf, firstOf, spelled};
+ghost use Rattle.spell.specs.Spell.{Rows, IsTable, key, keyOf, firstOf, spelled};
 
 // What a table has at a place: its number and the place past it.
 pub enum Spelled {
@@ -177,9 +176,9 @@ fn put_spelled(out: &mut [u8], n: u8, table: &[u8], w: usize) -> usize
     0
 }
 
-// The bytes of a kind of one character, as a move is written, as one number; 0 where there is none.
+// The first three bytes of a kind, as a move is written, as one number; 0 where there is none.
 pub fn kind_key(n: u8) -> u32
-    ensures { λ r. ⌜ (1 ≤ n → n ≤ 9 → spelled moveKinds n ≡ bytesOf r) ⌝ }
+    ensures { λ r. ⌜ r ≡ key (spelled moveKinds n) ⌝ }
 {
     match n {
         1 => 0xe6ada9,
@@ -191,6 +190,11 @@ pub fn kind_key(n: u8) -> u32
         7 => 0xe9a39b,
         8 => 0xe78e89,
         9 => 0xe381a8,
+        10 => 0xe68890,
+        11 => 0xe68890,
+        12 => 0xe68890,
+        13 => 0xe9a6ac,
+        14 => 0xe9be8d,
         _ => 0,
     }
 }

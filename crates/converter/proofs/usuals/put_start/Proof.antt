@@ -2,6 +2,7 @@
 -- Assumes nothing.
 use native.Mathlib.Omega.{arith}
 use mathlib.Core.Logic.{⊎-elim}
+use mathlib.Core.Path.{_∙_}
 use denote.Ref.{now}
 use Rattle.lent.proofs.Room.{bytes-of}
 use Rattle.converter.proofs.Usually.{file-same, file-square, rank-same, rank-square, start-text}
@@ -75,7 +76,7 @@ returns c =
     let row = now (s .args .row) in
     let u = s .pre .0 in
     let f = ⊎-elim (λ w. file-same row u (w .0 .taken) (w .1)) (λ w. file-square row u (w .0 .left) (w .2)) (c .before .before .before .before .before .before .before .before .before .before .before .if1 .came) in
-    let r = ⊎-elim (λ w. rank-same row u (w .0 .taken) (w .1)) (λ w. rank-square row u (w .0 .left) (w .2 .ensures) (w .3)) (c .before .before .before .before .before .before .before .before .before .if2 .came) in
+    let r = ⊎-elim (λ w. rank-same row u (w .0 .taken) (w .1)) (λ w. rank-square row u (w .0 .left) (w .3 ∙ w .2 .ensures)) (c .before .before .before .before .before .before .before .before .before .if2 .came) in
     bytes-of (start-text row u (c .before .before .before .before .before .before .before .before .before .before .before .if1 .file) (c .before .before .before .before .before .before .before .before .before .if2 .rank) (s .pre .1) (c .before .before .before .before .before .before .before .spaced .ensures) (c .before .before .before .before .before .before .spaced2 .ensures) f r) (s .pre .2) (c .before .before .put-bytes .ensures)
 
 pub put-start-spec : {M : Type 1} → statement M
