@@ -7,7 +7,7 @@
 use Prim.Native.Nat.{ℕ, _+_, _-_, _≤_}
 use native.Mathlib.Omega.{arith}
 use mathlib.Core.Path.{_≡_, sym, ap, _∙_}
-use mathlib.Core.List.{List, []}
+use mathlib.Core.List.{List}
 use lib.ListN.{length, take, drop, length-drop, drop-of-length-le}
 use lib.Seq.{take-all, take-nil, drop-drop}
 use Rattle.block.specs.Decode.{textPlace, textAt, keyOffset, keyLength, keyOf, valueOffset, valueLength, valueOf}

@@ -29,7 +29,7 @@ use Rattle.jkf.specs.declared.Target.the-variants.{Same, Square}
 use Rattle.jkf.specs.declared.Origin.{Origin}
 use Rattle.jkf.specs.declared.Origin.the-variants.{Unknown, From}
 use Rattle.jkf.proofs.EntriesBack.{entry-length}
-use Rattle.jkf.proofs.Entering.{head-length, time-length}
+use Rattle.jkf.proofs.Entering.{target-length, origin-length, head-length, time-length}
 use Rattle.jkf.specs.Entries.{specialNumber, specialOf, fromMark, sameMark, hourMark, timeMark, targetBytes, originBytes, clockBytes, timeBytes, headBytes, timeOf, entryBytes, clockOf, timeIn, targetIn, originIn, moveIn, entryIn}
 use Rattle.block.specs.Decode.{run, movePlace, commentCount}
 use Rattle.block.specs.Sound.{same, kindTest, entryTest, commentsBefore}
@@ -351,15 +351,6 @@ module _ (l : List ℕ) (h : 20 ≤ length l) where
   move-order true true true false r true t o true true = refl
   move-order true true true true r true t o true true = rw (pick-id (pick t o false), pick-id (pick t o false))
 
-  -- squares have two bytes each
-  target-two : (t : Target) → length (targetBytes t) ≡ 2
-  target-two Same = refl
-  target-two (Square x y) = refl
-
-  origin-two : (o : Origin) → length (originBytes o) ≡ 2
-  origin-two Unknown = refl
-  origin-two (From x y) = refl
-
   -- its first four bytes
   four-same : same (take 4 l) (1 ∷ getD l 1 0 ∷ getD l 2 0 ∷ getD l 3 0 ∷ []) ≡ eqb (getD l 0 0) 1
   unfolding same run
@@ -376,8 +367,8 @@ module _ (l : List ℕ) (h : 20 ≤ length l) where
       false
   move-same m m′ t o z e =
       let a : List ℕ = 1 ∷ getD l 1 0 ∷ getD l 2 0 ∷ getD l 3 0 ∷ [] in
-      let six : length (a ++ targetBytes t) ≡ 6 = omega (arith, length-append a (targetBytes t), target-two t) in
-      let eight : length (a ++ targetBytes t ++ originBytes o) ≡ 8 = omega (arith, length-append (a ++ targetBytes t) (originBytes o), six, origin-two o) in
+      let six : length (a ++ targetBytes t) ≡ 6 = omega (arith, length-append a (targetBytes t), target-length t) in
+      let eight : length (a ++ targetBytes t ++ originBytes o) ≡ 8 = omega (arith, length-append (a ++ targetBytes t) (originBytes o), six, origin-length o) in
       let nine : length (a ++ targetBytes t ++ originBytes o ++ (m ∷ [])) ≡ 9 = omega (arith, length-append (a ++ targetBytes t ++ originBytes o) (m ∷ []), eight) in
       cut 9 6 (a ++ targetBytes t ++ originBytes o ++ (m ∷ [])) z (omega arith) nine
       ∙ on (same (take 6 (drop 9 l)) z)

@@ -4,7 +4,7 @@ use crate::texts;
 use jkf::Hang;
 use jkf::Position;
 ghost use mathlib.Core.Path.{_≡_};
-ghost use Prim.Native.Nat.{_+_, _<_};
+ghost use Prim.Native.Nat.{_<_};
 ghost use lib.ListN.{length, drop, getD};
 ghost use Rattle.lists.specs.Test.{equals, holds, each, flag};
 ghost use Rattle.jkf.specs.Attaching.{Linked};

@@ -15,11 +15,11 @@ use lib.ListN.{length, getD}
 use borrow.Author.Tests.{eq-eqb}
 use Rattle.lists.specs.Pick.{pick}
 use Rattle.jkf.specs.Attaching.{near, all}
-use Rattle.jkf.proofs.Nears.{near-before}
+use Rattle.jkf.proofs.Nears.{near-before, Hangs}
 use Rattle.block.specs.Model.{Line}
 use Rattle.block.specs.Attach.{Play, starts, counts, parentIn, attach, allHung}
 use Rattle.block.specs.Formed.{lineOf}
-use Rattle.parser.proofs.Hung.{Hangs, attach-length, attach-line, parent-first, parent-later}
+use Rattle.parser.proofs.Hung.{attach-length, attach-line, parent-first, parent-later}
 use Rattle.edit.specs.Edit.{placeOf, putIn, renumbered, none, line, changedFrom}
 use Rattle.edit.specs.Splicing.{Lines}
 use Rattle.edit.proofs.Nearing.{put-kept, renumbered-low, renumbered-high, hangs-there, hang-moved, hung-all}

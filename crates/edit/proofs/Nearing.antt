@@ -16,8 +16,7 @@ use Rattle.lists.specs.Pick.{pick}
 use Rattle.lists.proofs.Laws.{by-pick}
 use Rattle.jkf.specs.Attaching.{near, onHang, all, first, hungFrom}
 use Rattle.jkf.specs.declared.Hang.{Hang}
-use Rattle.jkf.proofs.Nears.{near-before, near-low, near-last, near-same}
-use Rattle.parser.proofs.Hung.{Hangs, hangs-on}
+use Rattle.jkf.proofs.Nears.{near-before, near-low, near-last, near-same, Hangs, hangs-on}
 use Rattle.edit.specs.Edit.{renumbered, lowered, Kept}
 
 pub near-is : (st : ℕ → ℕ) (s k p : ℕ) → p < k → st p ≤ s → ((j : ℕ) → p < j → j < k → s < st j) → near st s k ≡ p

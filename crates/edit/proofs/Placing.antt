@@ -19,11 +19,11 @@ use Rattle.lists.specs.Pick.{pick}
 use Rattle.lists.proofs.Laws.{by-pick, pick-both, pick-none}
 use Rattle.jkf.specs.Attaching.{near, hangs}
 use Rattle.jkf.specs.declared.Hang.the-variants.{On}
-use Rattle.jkf.proofs.Nears.{hangs-made}
+use Rattle.jkf.proofs.Nears.{hangs-made, Hangs}
 use Rattle.block.specs.Model.{Line}
 use Rattle.block.specs.Attach.{Play, play, playOf, starts, counts, parentIn, attach, allHung}
 use Rattle.block.specs.Formed.{lineOf}
-use Rattle.parser.proofs.Hung.{Hangs, all-hang, attach-length, attach-line, parent-later}
+use Rattle.parser.proofs.Hung.{all-hang, attach-length, attach-line, parent-later}
 use Rattle.edit.specs.Edit.{isPlyOf, carries, above, placeOf, putIn, renumbered}
 use Rattle.edit.specs.Splicing.{Lines}
 use Rattle.edit.proofs.Leading.{Runs, above-leads, behind}

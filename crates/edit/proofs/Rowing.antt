@@ -21,9 +21,9 @@ use Rattle.lists.specs.Pick.{pick}
 use Rattle.lent.specs.Bytes.{le16, bytes16, fitting}
 use Rattle.lent.specs.Regions.{put, Stored}
 use Rattle.lent.proofs.Regions.{put-eq, stored-all}
-use Rattle.jkf.specs.Attaching.{near, hangs, onHang, startAt, countAt, parentAt, Linked}
+use Rattle.jkf.specs.Attaching.{near, hangs, onHang, startAt, countAt, parentAt, hangsBy, Linked}
 use Rattle.jkf.specs.declared.Hang.{Hang}
-use Rattle.jkf.proofs.Nears.{near-none, near-same, near-before}
+use Rattle.jkf.proofs.Nears.{near-none, near-same, near-before, hangs-followed}
 use Rattle.block.specs.Model.{Line}
 use Rattle.block.specs.Attach.{Play, play, playOf, starts, counts, parentIn, attach}
 use Rattle.block.specs.Formed.{lineOf}
@@ -102,9 +102,9 @@ module _ {ps : List Play} {n : ℕ} (fit : RowsFit ps n) {i e : ℕ} {rows : Lis
           ∙ sym (near-same (startAt rows) (starts ps) (startAt rows j) j (λ m l. start-read m (omega arith)))
 
   -- and the next line finds in the rows the parent that it has
-  parent-is : onHang (hangs (startAt rows) (countAt rows) (starts ps i) i) (λ p e. p) 0 ≡ parentIn ps i
+  parent-is : onHang (hangsBy rows (starts ps i) i) (λ p e. p) 0 ≡ parentIn ps i
   unfolding parentIn
-  parent-is = go (decLt 0 i)
+  parent-is = ap (λ (r : Hang). onHang r (λ p e. p) 0) (hangs-followed row-linked (starts ps i)) ∙ go (decLt 0 i)
     where
       go : Dec (0 < i) → onHang (hangs (startAt rows) (countAt rows) (starts ps i) i) (λ p e. p) 0 ≡ onHang (hangs (starts ps) (counts ps) (starts ps i) i) (λ p e. p) 0
       go (yes z) =
@@ -162,9 +162,9 @@ module _ {ps : List Play} {n : ℕ} (fit : RowsFit ps n) {i e : ℕ} {rows : Lis
         }
 
     row-put : (start count : ℕ) (rows′ : List ℕ) → starts ps i ≡ start → counts ps i ≡ count
-        → (Linked rows i → rows′ ≡ put rows (8 * i) (rowAfter rows i start e count)) → Rowed ps (i + 1) (e + count) rows′
+        → rows′ ≡ put rows (8 * i) (rowAfter rows i start e count) → Rowed ps (i + 1) (e + count) rows′
     row-put start count rows′ a b g =
-        let z = g row-linked ∙ ap₂ (λ (s c : ℕ). put rows (8 * i) (rowAfter rows i s e c)) (sym a) (sym b) in
+        let z = g ∙ ap₂ (λ (s c : ℕ). put rows (8 * i) (rowAfter rows i s e c)) (sym a) (sym b) in
         subst (Rowed ps (i + 1) (e + count)) (sym z)
         (subst (λ (c : ℕ). Rowed ps (i + 1) (e + c) (put rows (8 * i) (rowAfter rows i (starts ps i) e (counts ps i)))) b rowed-more)
 
@@ -182,12 +182,12 @@ module _ {ps : List Play} {n : ℕ} (fit : RowsFit ps n) {i e : ℕ} {rows : Lis
 
 -- with the parent that it has found
 pub row-stored : (rows rows′ : List ℕ) (i start first count parent r : ℕ) → 8 * (i + 1) ≤ length rows
-    → (Linked rows i → parent ≡ onHang (hangs (startAt rows) (countAt rows) start i) (λ p e. p) 0)
+    → parent ≡ onHang (hangsBy rows start i) (λ p e. p) 0
     → Stored (fitting (bytes16 start ++ bytes16 first ++ bytes16 count ++ bytes16 parent) (drop (8 * i) rows)) rows rows′ (8 * i) r
-    → Linked rows i → rows′ ≡ put rows (8 * i) (rowAfter rows i start first count)
-row-stored rows rows′ i start first count parent r h g s l =
+    → rows′ ≡ put rows (8 * i) (rowAfter rows i start first count)
+row-stored rows rows′ i start first count parent r h g s =
     stored-all (omega arith) s .bytes
-    ∙ ap (λ (p : ℕ). put rows (8 * i) (bytes16 start ++ bytes16 first ++ bytes16 count ++ bytes16 p)) (g l)
+    ∙ ap (λ (p : ℕ). put rows (8 * i) (bytes16 start ++ bytes16 first ++ bytes16 count ++ bytes16 p)) g
 
 -- of a line that has entries, and of one that has none
 module _ (i start first count : ℕ) (rows rows′ : List ℕ) where
@@ -198,7 +198,7 @@ module _ (i start first count : ℕ) (rows rows′ : List ℕ) where
       let y : first ≡ first + count = omega arith in
       (ap (λ (t : Bool). pick t i (i + 1)) (sym (eq-eqb count 0 z)), λ ps f r a. subst (Rowed ps i (first + count)) (sym same) (subst (λ (e : ℕ). Rowed ps i e rows) y r))
 
-  pub one-new : (count ≡ 0 → ⊥) → (Linked rows i → rows′ ≡ put rows (8 * i) (rowAfter rows i start first count))
+  pub one-new : (count ≡ 0 → ⊥) → rows′ ≡ put rows (8 * i) (rowAfter rows i start first count)
       → (i + 1 ≡ pick (eqb count 0) i (i + 1))
       × ((ps : List Play) → RowsFit ps (length rows) → Rowed ps i first rows → Adds ps i start count → Rowed ps (i + 1) (first + count) rows′)
   one-new z g =
@@ -223,7 +223,7 @@ module _ (i : ℕ) (b : List ℕ) (k end first : ℕ) (rows₀ : List ℕ) where
 
   module _ {m e : ℕ} {rows : List ℕ} (t : Keeping i b k end first rows₀ m e rows) where
     pub keeping-more : (start count : ℕ) (rows′ : List ℕ) → m < end → start ≡ startOf b m → count ≡ entryCount b m → count < 65536 → length rows′ ≡ length rows
-        → (Linked rows (i + (m - k)) → rows′ ≡ put rows (8 * (i + (m - k))) (rowAfter rows (i + (m - k)) start e count))
+        → rows′ ≡ put rows (8 * (i + (m - k))) (rowAfter rows (i + (m - k)) start e count)
         → Keeping i b k end first rows₀ (m + 1) (e + count) rows′
     keeping-more start count rows′ l a c s w g =
         record {

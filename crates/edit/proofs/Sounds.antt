@@ -15,7 +15,7 @@ use mathlib.Core.List.{List, [], _∷_, _++_}
 use mathlib.Core.Bool.{true, false}
 use lib.ListN.{length, take, drop}
 use Rattle.jkf.specs.Attaching.{near}
-use Rattle.jkf.proofs.Nears.{near-before, near-same}
+use Rattle.jkf.proofs.Nears.{near-before, near-same, Hangs}
 use Rattle.block.specs.Model.{Noted, Line}
 use Rattle.block.specs.Attach.{Play, play, playOf, starts, counts, parentIn, attachFrom, attach, allHung}
 use Rattle.block.specs.Encode.{concat, entriesOf}
@@ -23,11 +23,11 @@ use Rattle.block.specs.Decode.{run, linesIn, movesIn, startOf, firstEntry, entr
 use Rattle.block.specs.Sound.{Sound, sum, entriesBefore}
 use Rattle.block.specs.Formed.{lineOf}
 use Rattle.block.proofs.Sums.{sum-more, sum-rises, sum-within, sum-some}
-use Rattle.block.proofs.Hanging.{Hung, hang-first, hang-says}
+use Rattle.block.proofs.Hanging.{hang-first, hang-says}
 use Rattle.block.proofs.Tabling.{run-add, run-all, concat-append, take-run, drop-run}
 use Rattle.parser.specs.Plays.{plyAt}
 use Rattle.parser.specs.Filling.{playEntries}
-use Rattle.parser.proofs.Hung.{Hangs, start-low, attach-length, attach-entries, attach-line, parent-first, parent-later}
+use Rattle.parser.proofs.Hung.{start-low, attach-length, attach-entries, attach-line, parent-first, parent-later}
 use Rattle.edit.specs.Edit.{playsIn, isVariation, variationOf, isPlyOf, carries, putIn, removedFrom, without}
 use Rattle.edit.specs.Splicing.{linesOf, spliced, linesAfter, Lines, playIn, RowsFit, entriesAfter}
 use Rattle.edit.proofs.Played.{plays-are, play-is, starts-is, counts-is, plays-long}
@@ -155,11 +155,8 @@ module _ (b : List ℕ) (s : Sound b) where
   main-line : (startOf b 0 ≡ 0) × (parentOf b 0 ≡ 0)
   main-line = hang-first (startOf b) (entryCount b) (parentOf b) (s .lines 0 (s .totals .0) .1 .1)
 
-  row-hung : (k : ℕ) → 0 < k → k < linesIn b → Hung (startOf b) (entryCount b) (parentOf b) k
+  row-hung : (k : ℕ) → 0 < k → k < linesIn b → (parentOf b k ≡ near (startOf b) (startOf b k) k) × Hangs (startOf b) (entryCount b) k
   row-hung k z h = hang-says (startOf b) (entryCount b) (parentOf b) k z (s .lines k h .1 .1)
-
-  row-hangs : (k : ℕ) → 0 < k → k < linesIn b → Hangs (startOf b) (entryCount b) k
-  row-hangs k z h = let r = row-hung k z h in record { from = r .from; within = r .within }
 
   near-rows : (k : ℕ) → k < linesIn b → near (starts ps) (startOf b k) k ≡ near (startOf b) (startOf b k) k
   near-rows k h = near-same (starts ps) (startOf b) (startOf b k) k (λ j l. starts-is b j (omega arith))
@@ -168,7 +165,7 @@ module _ (b : List ℕ) (s : Sound b) where
   line-hangs k z h =
       let p = near (startOf b) (startOf b k) k in
       let l : p < linesIn b = omega (arith, near-before (startOf b) (startOf b k) k z) in
-      hang-moved (startOf b) (entryCount b) (starts ps) (counts ps) k k p (starts-is b k h) (near-rows k h) (starts-is b p l) (counts-is b p l) (row-hangs k z h)
+      hang-moved (startOf b) (entryCount b) (starts ps) (counts ps) k k p (starts-is b k h) (near-rows k h) (starts-is b p l) (counts-is b p l) (row-hung k z h .1)
 
   pub lines-hang : Lines ps
   unfolding allHung
@@ -185,7 +182,7 @@ module _ (b : List ℕ) (s : Sound b) where
     where
       go : Dec (0 < k) → parentOf b k ≡ parentIn ps k
       go (yes z) =
-          row-hung k z h .on ∙ sym (near-rows k h) ∙ ap (λ (i : ℕ). near (starts ps) i k) (sym (starts-is b k h)) ∙ sym (parent-later ps k (line-hangs k z h))
+          row-hung k z h .0 ∙ sym (near-rows k h) ∙ ap (λ (i : ℕ). near (starts ps) i k) (sym (starts-is b k h)) ∙ sym (parent-later ps k (line-hangs k z h))
       go (no z) =
           let e : 0 ≡ k = omega arith in
           subst (λ (i : ℕ). parentOf b i ≡ parentIn ps i) e (main-line .1 ∙ sym (parent-first ps))
@@ -206,7 +203,7 @@ module _ (b : List ℕ) (s : Sound b) where
   starts-small k h =
       omega (
         arith,
-        start-low (startOf b) (entryCount b) (main-line .0) (linesIn b - 1) (λ j z l. row-hangs j z (omega arith)) k (omega arith),
+        start-low (startOf b) (entryCount b) (main-line .0) (linesIn b - 1) (λ j z l. row-hung j z (omega arith) .1) k (omega arith),
         sum-within (λ k. entryCount b k) k (linesIn b) h,
         starts-is b k h,
         counts-is b k h,

@@ -9,7 +9,7 @@ use Rattle.lists.specs.Pick.{pick}
 use Rattle.lent.specs.Bytes.{bytes16}
 use Rattle.lent.specs.Regions.{Room}
 use Rattle.text.specs.Text.{cursor}
-use Rattle.jkf.specs.Attaching.{hangs, onHang, all, startAt, countAt}
+use Rattle.jkf.specs.Attaching.{onHang, all, hangsBy}
 use Rattle.block.specs.Model.{Noted, Record}
 use Rattle.block.specs.Attach.{Play, play, playOf, starts, counts, attach, allHung}
 use Rattle.block.specs.Encode.{table, lineRow, lineStep, commentsOf, commentText}
@@ -48,10 +48,10 @@ playIn b k = play (startOf b k) (run (notedIn b) (firstEntry b k) (entryCount b 
 
 -- ---- their rows
 
--- The row of a line that starts at s, made after i rows: its parent is the one that the attaching rule finds in these.
+-- The row of a line that starts at s, made after i rows: its parent is the one that is found along the parents in these.
 abbrev pub rowAfter : List ℕ → ℕ → ℕ → ℕ → ℕ → List ℕ
 rowAfter rows i s first count =
-    bytes16 s ++ bytes16 first ++ bytes16 count ++ bytes16 (onHang (hangs (startAt rows) (countAt rows) s i) (λ p e. p) 0)
+    bytes16 s ++ bytes16 first ++ bytes16 count ++ bytes16 (onHang (hangsBy rows s i) (λ p e. p) 0)
 
 -- n bytes have room for the rows of these lines, and 16 bits for the numbers in them.
 pub record RowsFit (ps : List Play) (n : ℕ) : Type 0 where

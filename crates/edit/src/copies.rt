@@ -10,7 +10,7 @@ ghost use lib.ListN.{length};
 ghost use lib.Dec.{eqb};
 ghost use Rattle.lists.specs.Pick.{pick};
 ghost use Rattle.block.specs.Encode.{commentsOf, commentText};
-ghost use Rattle.block.specs.Decode.{run, movesIn, headersIn, commentOf, headerIn, notedIn, decode};
+ghost use Rattle.block.specs.Decode.{run, movesIn, headersIn, commentOf, headerIn, notedIn};
 ghost use Rattle.block.specs.Sound.{Sound};
 ghost use Rattle.parser.specs.Filling.{CommentsFit, EntriesFit, HeadersFit, Commented, Entered, Headed};
 

@@ -7,7 +7,7 @@ ghost use lib.ListN.{length};
 ghost use lib.Dec.{eqb, ltb};
 ghost use Rattle.lists.specs.Pick.{pick};
 ghost use Rattle.lent.specs.Regions.{put};
-ghost use Rattle.jkf.specs.Attaching.{hangs, onHang, startAt, countAt, Linked};
+ghost use Rattle.jkf.specs.Attaching.{onHang, hangsBy};
 ghost use Rattle.block.specs.Attach.{Play};
 ghost use Rattle.block.specs.Decode.{linesIn, decode};
 ghost use Rattle.edit.specs.Edit.{playsIn, renumbered, none, line, changedFrom};
@@ -15,7 +15,7 @@ ghost use Rattle.edit.specs.Splicing.{spliced, rowAfter, RowsFit, Rowed,
 
 // The line that one with this start hangs on, after i rows; 0 where there is none.
 fn parent_in(rows: &[u8], i: usize, start: u64) -> u64
-    ensures { λ r. ⌜ (Linked (now (rows .entry)) i → r ≡ onHang (hangs (startAt (now (rows .entry))) (countAt (now (rows .entry))) start i) (λ p e. p) 0) ⌝ }
+    ensures { λ r. ⌜ r ≡ onHang (hangsBy (now (rows .entry)) start i) (λ p e. p) 0 ⌝ }
 {
     let Hang::On(parent, _) = jkf::attach(rows, i, start) else {
         return 0;
@@ -26,7 +26,7 @@ fn parent_in(rows: &[u8], i: usize, start: u64) -> u64
 // Row i.
 fn put_row(rows: &mut [u8], i: usize, start: u64, first: usize, count: usize)
     requires { ⌜ 8 * (i + 1) ≤ length (now rows) ⌝ }
-    ensures { λ _. ⌜ (Linked (now (rows .entry)) i → now (rows .exit) ≡ put (now (rows .entry)) (8 * i) (rowAfter (now (rows .entry)) i start first count)) ⌝ }
+    ensures { λ _. ⌜ now (rows .exit) ≡ put (now (rows .entry)) (8 * i) (rowAfter (now (rows .entry)) i start first count) ⌝ }
 {
     let parent = parent_in(rows, i, start);
     lent::put_at(

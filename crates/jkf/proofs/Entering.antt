@@ -45,11 +45,11 @@ special-past n h =
 
 -- ---- how long the parts are
 
-target-length : (t : Target) → length (targetBytes t) ≡ 2
+pub target-length : (t : Target) → length (targetBytes t) ≡ 2
 target-length Same = refl
 target-length (Square x y) = refl
 
-origin-length : (o : Origin) → length (originBytes o) ≡ 2
+pub origin-length : (o : Origin) → length (originBytes o) ≡ 2
 origin-length Unknown = refl
 origin-length (From x y) = refl
 

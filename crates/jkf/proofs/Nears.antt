@@ -2,22 +2,25 @@
 --     near-before, near-low, near-last   the line found is one before, starts at or below, and is the last that does
 --     near-same                          the starts of the lines before are all that counts
 --     near-jump                          from a line that starts above, the search goes on at its parent
---     linked-step, linked-stuck          so a search may follow the parents that stand in a table
---     hangs-made                         the rule at what the code has read
+--     follow-here, -up, -stuck           a search that follows the parents, step by step
+--     hangs-followed                     in a table whose parents are right it finds the same line
+--     hangs-made, hangs-by-made          the rule at what the code has read
+--     Hangs, hangs-says, hangs-on        that a line hangs
 -- Assumes nothing.
-use Prim.Native.Nat.{ℕ, zero, suc, _+_, _≤_, _<_}
+use Prim.Native.Nat.{ℕ, zero, suc, _+_, _-_, _≤_, _<_}
 use native.Mathlib.Omega.{arith}
 use native.Mathlib.Decide.{decLt}
 use mathlib.Core.Path.{_≡_, refl, sym, ap, _∙_}
 use mathlib.Core.Bool.{Bool, true, false}
 use mathlib.Core.List.{List}
 use lib.ListN.{length, List·getD-eq-default}
-use lib.Dec.{leb}
-use borrow.Author.Tests.{le-leb, lt-leb, leb-true, leb-false}
+use lib.Dec.{leb, ltb}
+use borrow.Author.Tests.{le-leb, lt-leb, leb-true, leb-false, lt-ltb, le-ltb, ltb-true}
 use Rattle.lists.specs.Pick.{pick}
 use Rattle.lists.proofs.Laws.{by-pick}
 use Rattle.lent.specs.Bytes.{le16}
-use Rattle.jkf.specs.Attaching.{near, hangOn, hangs, startAt, parentAt, Linked}
+use Rattle.jkf.specs.Attaching.{near, hangOn, hangs, onHang, startAt, countAt, parentAt, follow, followed, hangsBy, Linked}
+use Rattle.jkf.specs.declared.Hang.the-variants.{On, Nowhere}
 
 -- past the end of a table every number is 0
 pub past-end : (b : List ℕ) (at : ℕ) → length b ≤ at → 0 ≡ le16 b at
@@ -97,20 +100,72 @@ near-same st st′ s (suc k) f =
 
 -- ---- the search that follows the parents
 
-module _ {b : List ℕ} {k : ℕ} (l : Linked b k) (s j : ℕ) (h : j < k) (m : s < startAt b j) where
-  -- line j starts above: on at its parent
-  pub linked-step : (p : ℕ) → p ≡ parentAt b j → p < j → near (startAt b) s (suc j) ≡ near (startAt b) s (suc p)
-  linked-step p e g = near-jump (startAt b) s j m ∙ ap (λ (n : ℕ). near (startAt b) s (suc n)) (sym (e ∙ l .parents j (omega arith) h))
+module _ (b : List ℕ) (s : ℕ) where
+  -- one step of it: here, on at the parent, or nowhere
+  pub follow-here : (j : ℕ) → startAt b j ≤ s → follow b s (suc j) j ≡ j
+  unfolding follow
+  follow-here j l = simp (le-leb _ _ l)
 
-  -- only line 0 has a parent that is not before it
-  pub linked-stuck : j ≤ parentAt b j → near (startAt b) s (suc j) ≡ 0
-  linked-stuck g = near-miss (startAt b) s j m ∙ go (decLt 0 j)
+  pub follow-stuck : (j : ℕ) → s < startAt b j → j ≤ parentAt b j → follow b s (suc j) j ≡ 0
+  unfolding follow
+  follow-stuck j l g = simp (lt-leb _ _ l, le-ltb _ _ g)
+
+  -- each step goes down, so j steps are enough from line j on
+  follow-enough : (m n j : ℕ) → j < m → j < n → follow b s m j ≡ follow b s n j
+  unfolding follow
+  follow-enough zero n j p q = absurd (omega arith)
+  follow-enough (suc m) zero j p q = absurd (omega arith)
+  follow-enough (suc m) (suc n) j p q = go (ltb (parentAt b j) j) refl (follow-enough m n (parentAt b j))
     where
-      go : Dec (0 < j) → near (startAt b) s j ≡ 0
-      go (yes z) = absurd (omega (arith, l .parents j z h, near-before (startAt b) (startAt b j) j z))
+      go : (t : Bool) → ltb (parentAt b j) j ≡ t → (parentAt b j < m → parentAt b j < n → follow b s m (parentAt b j) ≡ follow b s n (parentAt b j))
+          → pick (leb (startAt b j) s) j (pick t (follow b s m (parentAt b j)) 0) ≡ pick (leb (startAt b j) s) j (pick t (follow b s n (parentAt b j)) 0)
+      go true e ih = let l = ltb-true (parentAt b j) j e in ap (pick (leb (startAt b j) s) j) (ih (omega arith) (omega arith))
+      go false e ih = refl
+
+  pub follow-up : (j p : ℕ) → s < startAt b j → p ≡ parentAt b j → p < j → follow b s (suc j) j ≡ follow b s (suc p) p
+  follow-up j p l e g =
+      up ∙ ap (follow b s j) (sym e) ∙ follow-enough j (suc p) p g (omega arith)
+    where
+      up : follow b s (suc j) j ≡ follow b s j (parentAt b j)
+      up = unfold follow in simp (lt-leb _ _ l, lt-ltb (parentAt b j) j (omega arith))
+
+-- in a table whose parents are right both searches find the same
+module _ {b : List ℕ} {k : ℕ} (l : Linked b k) (s : ℕ) where
+  follow-near : (n j : ℕ) → j < n → j < k → follow b s (suc j) j ≡ near (startAt b) s (suc j)
+  follow-near zero j h g = absurd (omega arith)
+  follow-near (suc n) j h g = go (decLt s (startAt b j)) (decLt (parentAt b j) j) (follow-near n (parentAt b j))
+    where
+      go : Dec (s < startAt b j) → Dec (parentAt b j < j) → (parentAt b j < n → parentAt b j < k → follow b s (suc (parentAt b j)) (parentAt b j) ≡ near (startAt b) s (suc (parentAt b j)))
+          → follow b s (suc j) j ≡ near (startAt b) s (suc j)
+      go (no m) d ih = let e : startAt b j ≤ s = omega arith in follow-here b s j e ∙ sym (near-hit (startAt b) s j e)
+      go (yes m) (yes d) ih =
+          follow-up b s j (parentAt b j) m refl d ∙ ih (omega arith) (omega arith)
+          ∙ ap (λ (p : ℕ). near (startAt b) s (suc p)) (l .parents j (omega arith) g)
+          ∙ sym (near-jump (startAt b) s j m)
+      go (yes m) (no d) ih = follow-stuck b s j m (omega arith) ∙ sym (near-miss (startAt b) s j m ∙ first (decLt 0 j))
+        where
+          -- only line 0 has a parent that is not before it
+          first : Dec (0 < j) → near (startAt b) s j ≡ 0
+          first (yes z) = absurd (omega (arith, l .parents j z g, near-before (startAt b) (startAt b j) j z))
+          first (no z) = let e : j ≡ 0 = omega arith in ap (near (startAt b) s) e ∙ near-none (startAt b) s
+
+  followed-near : followed b s k ≡ near (startAt b) s k
+  followed-near = go (decLt 0 k)
+    where
+      go : Dec (0 < k) → followed b s k ≡ near (startAt b) s k
+      go (yes z) =
+          let e : suc (k - 1) ≡ k = omega arith in
+          ap (λ (n : ℕ). follow b s n (k - 1)) (sym e) ∙ follow-near k (k - 1) (omega arith) (omega arith) ∙ ap (near (startAt b) s) e
       go (no z) =
-          let e : j ≡ 0 = omega arith in
-          ap (near (startAt b) s) e ∙ near-none (startAt b) s
+          let e : k ≡ 0 = omega arith in
+          ap (λ (n : ℕ). follow b s n (k - 1)) e ∙ none (k - 1) ∙ sym (near-none (startAt b) s) ∙ ap (near (startAt b) s) (sym e)
+        where
+          none : (j : ℕ) → follow b s 0 j ≡ 0
+          none j = unfold follow in refl
+
+  pub hangs-followed : hangsBy b s k ≡ hangs (startAt b) (countAt b) s k
+  unfolding hangs hangsBy
+  hangs-followed = ap (λ (p : ℕ). hangOn s p (startAt b p) (countAt b p)) followed-near
 
 -- ---- the rule at what the code has read
 
@@ -118,9 +173,45 @@ pub hangs-made : (st n : ℕ → ℕ) (s k p t m : ℕ) → p ≡ near st s k �
 unfolding hangs
 hangs-made st n s k p t m e₁ e₂ e₃ = cc
 
+pub hangs-by-made : (b : List ℕ) (s k : ℕ) {p t m : ℕ} → p ≡ followed b s k → t ≡ startAt b p → m ≡ countAt b p → hangsBy b s k ≡ hangOn s p t m
+unfolding hangsBy
+hangs-by-made b s k e₁ e₂ e₃ = cc
+
 -- lines that start alike and have as many entries hang alike
 pub hangs-same : (st st′ ct ct′ : ℕ → ℕ) → ((j : ℕ) → st j ≡ st′ j) → ((j : ℕ) → ct j ≡ ct′ j) → (s k : ℕ) → hangs st ct s k ≡ hangs st′ ct′ s k
 unfolding hangs
 hangs-same st st′ ct ct′ h g s k =
     ap (λ (p : ℕ). hangOn s p (st p) (ct p)) (near-same st st′ s k (λ j l. h j)) ∙ ap (λ (t : ℕ). hangOn s (near st′ s k) t (ct (near st′ s k))) (h (near st′ s k))
     ∙ ap (hangOn s (near st′ s k) (st′ (near st′ s k))) (g (near st′ s k))
+
+-- ---- that a line hangs
+
+-- line k hangs on the line that is found for it
+pub record Hangs (start count : ℕ → ℕ) (k : ℕ) : Type 0 where
+  pub from : start (near start (start k) k) ≤ start k
+  pub within : start k - start (near start (start k) k) < count (near start (start k) k)
+
+-- an answer that is not the one for nowhere: on line p, with start t and n entries
+on-line : {A : Type 0} (s p t n : ℕ) (f : ℕ → ℕ → A) (d x : A) → (d ≡ x → ⊥) → onHang (hangOn s p t n) f d ≡ x → (t ≤ s) × (s - t < n) × (f p (s - t) ≡ x)
+on-line s p t n f d x off h = go (leb t s) refl (ltb (s - t) n) refl h
+  where
+    go : (a : Bool) → leb t s ≡ a → (b : Bool) → ltb (s - t) n ≡ b → onHang (pick a (pick b (On p (s - t)) Nowhere) Nowhere) f d ≡ x
+        → (t ≤ s) × (s - t < n) × (f p (s - t) ≡ x)
+    go true e true e′ h = (leb-true t s e, ltb-true (s - t) n e′, h)
+    go true e false e′ h = absurd (off h)
+    go false e b e′ h = absurd (off h)
+
+module _ (start count : ℕ → ℕ) (k : ℕ) where
+  -- a test that fails for a line that hangs nowhere, and holds, says that the line hangs
+  pub hangs-says : {A : Type 0} (f : ℕ → ℕ → A) (d x : A) → (d ≡ x → ⊥) → onHang (hangs start count (start k) k) f d ≡ x
+      → Hangs start count k × (f (near start (start k) k) (start k - start (near start (start k) k)) ≡ x)
+  unfolding hangs
+  hangs-says f d x off h =
+      let p = near start (start k) k in
+      let (a, b, e) = on-line (start k) p (start p) (count p) f d x off h in
+      (record { from = a; within = b }, e)
+
+  -- and so the attaching rule finds its parent
+  pub hangs-on : Hangs start count k → hangs start count (start k) k ≡ On (near start (start k) k) (start k - start (near start (start k) k))
+  unfolding hangs
+  hangs-on h = rw (le-leb _ _ (h .from), lt-ltb _ _ (h .within))

@@ -1,7 +1,7 @@
 // The attaching rule over a table of lines in lent memory: rows of eight bytes, start, first entry, entry count, parent.
 use crate::Hang;
 ghost use mathlib.Core.Path.{_≡_};
-ghost use Rattle.jkf.specs.Attaching.{near, hangs, startAt, countAt, Linked};
+ghost use Rattle.jkf.specs.Attaching.{startAt, countAt, followed, hangsBy};
 
 // The start of line k; 0 past the table.
 fn start(lines: &[u8], k: usize) -> u64
@@ -23,10 +23,10 @@ fn count(lines: &[u8], k: usize) -> u64
     lent::get16(lines, 8 * k + 4) as u64
 }
 
-// The nearest of the k lines before whose start is at or below s. All lines between a line and its parent start above it, so from one
-// that starts above s the search goes on at its parent.   (the Rust's merge_forks finds it by a stack)
+// The first line whose start is at or below s along the parents, from the last of k lines on. All lines between a line and its right
+// parent start above it, so with such parents this is the nearest.   (the Rust's merge_forks finds it by a stack)
 pub fn nearest(lines: &[u8], k: usize, s: u64) -> usize
-    ensures { λ r. ⌜ (Linked (now (lines .entry)) k → r ≡ near (startAt (now (lines .entry))) s k) ⌝ }
+    ensures { λ r. ⌜ r ≡ followed (now (lines .entry)) s k ⌝ }
 {
     if k == 0 {
         return 0;
@@ -44,7 +44,7 @@ pub fn nearest(lines: &[u8], k: usize, s: u64) -> usize
 
 // Where a line that starts at s hangs, after k lines.   (the Rust's attach)
 pub fn attach(lines: &[u8], k: usize, s: u64) -> Hang
-    ensures { λ r. ⌜ (Linked (now (lines .entry)) k → r ≡ hangs (startAt (now (lines .entry))) (countAt (now (lines .entry))) s k) ⌝ }
+    ensures { λ r. ⌜ r ≡ hangsBy (now (lines .entry)) s k ⌝ }
 {
     let p = nearest(lines, k, s);
     let t = start(lines, p);

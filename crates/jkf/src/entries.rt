@@ -7,11 +7,11 @@ use crate::Special;
 use crate::Target;
 use crate::Time;
 ghost use mathlib.Core.Path.{_≡_};
-ghost use mathlib.Core.List.{List, [], _∷_};
+ghost use mathlib.Core.List.{[], _∷_};
 ghost use Prim.Native.Nat.{_≤_};
 ghost use lib.ListN.{length};
 ghost use Rattle.lent.specs.Bytes.{Wrote, fitting};
-ghost use Rattle.jkf.specs.Entries.{specialNumber, specialOf, fromMark, sameMark, hourMark, timeMark, targetBytes, originBytes, clockBytes, timeBytes, headBytes, timeOf, entryBytes, marked, clockOf, timeIn, targetIn, originIn, moveIn, entryIn};
+ghost use Rattle.jkf.specs.Entries.{specialNumber, specialOf, fromMark, sameMark, hourMark, timeMark, targetBytes, originBytes, clockBytes, timeBytes, headBytes, timeOf, entryBytes, clockOf, timeIn, targetIn, originIn, moveIn, entryIn};
 
 // A mark and the two bytes of a square.
 struct Field {

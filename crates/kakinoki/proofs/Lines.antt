@@ -16,7 +16,7 @@ use Rattle.text.specs.Text.{cursor, onPlace, standsAt, tagAt, breakAt, tailAt, 
 use Rattle.text.specs.declared.Cursor.{Cursor}
 use Rattle.text.specs.declared.Place.{Place}
 use Rattle.text.specs.declared.Place.the-variants.{Past, Absent}
-use Rattle.text.proofs.Laws.{After, no-past, break-after, tail-from, tag-after, place-back}
+use Rattle.text.proofs.Laws.{After, no-past, break-after, tail-from, line-end-after, tag-after, place-back}
 use Rattle.text.proofs.Answers.{by-past}
 use Rattle.spell.specs.Tables.{presets, sides}
 use Rattle.spell.specs.declared.Spelled.{Spelled}
@@ -30,14 +30,6 @@ use Rattle.kakinoki.specs.declared.KeyValue.{KeyValue}
 use Rattle.kakinoki.specs.declared.KeyValue.the-variants.{Pair, NoPair}
 use Rattle.kakinoki.proofs.Pieces.{piece-goes}
 use Rattle.kakinoki.proofs.Reach.{repeat-keeps, padding-on, spelled-map, first-after, onward}
-
-line-end-after : (s : List ℕ) (at : ℕ) (c : Cursor) → lineEndAt s at ≡ Past c → After at (length s) c
-unfolding lineEndAt
-line-end-after s at c e =
-    let (d, p, q) = place-back _ (λ d. breakAt s (d .at)) c e in
-    let t = tail-from s at d p in
-    let b = break-after s (d .at) c q in
-    record { past = omega (arith, t, b .past); within = b .within }
 
 -- ---- # lines
 

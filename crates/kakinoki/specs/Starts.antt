@@ -2,7 +2,6 @@
 -- Assumes nothing: these are definitions.
 use Prim.Native.Nat.{ℕ, _+_}
 use mathlib.Core.List.{List, [], _∷_, _++_}
-use mathlib.Core.Bool.{Bool}
 use lib.ListN.{length, replicate}
 use lib.Dec.{ltb}
 use Rattle.lists.specs.Pick.{pick}
@@ -16,7 +15,6 @@ use Rattle.kakinoki.specs.declared.Named.{Named}
 use Rattle.kakinoki.specs.declared.Named.the-variants.{Is, Unsaid}
 use Rattle.kakinoki.specs.declared.Told.{Told}
 use Rattle.kakinoki.specs.declared.Board.{Board}
-use Rattle.kakinoki.specs.declared.Fault.{Fault}
 use Rattle.kakinoki.specs.declared.Start.{Start}
 
 -- What is named, or else a number.

@@ -14,12 +14,11 @@ use text::Cursor;
 use text::Place;
 ghost use mathlib.Core.Path.{_≡_};
 ghost use Prim.Native.Nat.{_+_, _<_};
-ghost use mathlib.Core.List.{[]};
 ghost use lib.ListN.{length, drop};
 ghost use lib.Seq.{sets};
 ghost use Rattle.text.specs.Text.{endsKey, keyAt};
 ghost use Rattle.block.specs.Model.{Header};
-ghost use Rattle.kakinoki.specs.Informations.{hashLineAt, hashLinesAt, endsLine, presetLineAt, turnLineAt, valueAt, keyValueAt, emptyHand, information, keyedAt, handsOrKeyedAt, informationAt, isLine, saidOf, faultOf, untold, tell, headerPlace, headerPlacesAt, low16, blockAt};
+ghost use Rattle.kakinoki.specs.Informations.{hashLineAt, hashLinesAt, endsLine, presetLineAt, turnLineAt, valueAt, keyValueAt, emptyHand, information, keyedAt, handsOrKeyedAt, informationAt, isLine, saidOf, faultOf, tell, headerPlace, headerPlacesAt, low16, blockAt};
 
 // # and the rest of its line.   (the Rust's comment_line)
 fn hash_line(c: Cursor, s: &[u8]) -> Place

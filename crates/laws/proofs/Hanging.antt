@@ -24,13 +24,13 @@ module _ (start count parent : ℕ → ℕ) where
     pub start-low : (k : ℕ) → k < n → start k ≤ sum count k
     start-low k l =
         lines-low start count (hang-first start count parent (hang 0 (omega arith)) .0) k
-        (λ j z m. let g = hang-says start count parent j z (hang j (omega arith)) in record { from = g .from; within = g .within }) k (omega arith)
+        (λ j z m. hang-says start count parent j z (hang j (omega arith)) .1) k (omega arith)
 
     pub parent-low : (k : ℕ) → k < n → parent k ≤ k
     parent-low k l = go (decLt 0 k)
       where
         go : Dec (0 < k) → parent k ≤ k
-        go (yes z) = omega (arith, hang-says start count parent k z (hang k l) .on, near-before start (start k) k z)
+        go (yes z) = omega (arith, hang-says start count parent k z (hang k l) .0, near-before start (start k) k z)
         go (no z) =
             let e : k ≡ 0 = omega arith in
             let c : parent 0 ≡ 0 = hang-first start count parent (hang 0 (omega arith)) .1 in

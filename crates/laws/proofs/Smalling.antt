@@ -1,15 +1,15 @@
 -- Every number of a block's lines, entries and comments is a byte: rows are made of 16-bit numbers and of entries that fit, and comments are
 -- parts of a text of bytes.
 -- Assumes nothing.
-use Prim.Native.Nat.{ℕ, zero, suc, _-_, _<_}
-use mathlib.Core.List.{List, [], _∷_}
-use lib.ListN.{length, getD, take, drop}
+use Prim.Native.Nat.{ℕ, _-_, _<_}
+use mathlib.Core.List.{List}
+use lib.ListN.{length, getD}
 use Rattle.block.specs.Model.{Noted, Line}
 use Rattle.block.specs.Attach.{attach}
 use Rattle.block.specs.Encode.{table, concat, lineRow, lineStep, entryRow, entryStep, commentRow, commentStep, entriesOf, commentsOf, commentText}
 use Rattle.moves.proofs.Answers.{line-is}
 use Rattle.moves.proofs.Fits.{move-line-fits, entry-bytes-small, slot-bytes-small}
-use Rattle.moves.proofs.Smalls.{Bytes, empty, each, bytes-from, bytes-take, bytes-drop, bytes-join, bytes-16}
+use Rattle.moves.proofs.Smalls.{Bytes, empty, bytes-from, bytes-take, bytes-drop, bytes-join, bytes-16}
 use Rattle.parser.specs.Plays.{playsAt}
 use Rattle.parser.proofs.Alls.{All, none, next, all-any}
 use Rattle.laws.proofs.Playing.{comments-all, entries-all, notes-all, remarks-all}

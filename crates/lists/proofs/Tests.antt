@@ -7,9 +7,7 @@ use native.Mathlib.Omega.{arith}
 use native.Mathlib.Decide.{decLt}
 use mathlib.Core.Path.{_≡_, refl, sym, ap, _∙_}
 use mathlib.Core.Bool.{Bool, true, false, false≢true}
-use lib.Dec.{eqb, leb}
 use borrow.Author.Tests.{eq-eqb, le-leb, eqb-true, leb-true}
-use Rattle.lists.specs.Pick.{pick}
 use Rattle.lists.specs.Test.{Test, equals, atMost, holds, both, each, allBelow, flag, claim}
 use Rattle.lists.proofs.Laws.{pick-both}
 

@@ -4,25 +4,23 @@
 --     now-clock, total-clock    what was taken, and the total
 --     usual-time                the whole
 -- Assumes nothing.
-use Prim.Native.Nat.{ℕ, _+_, _*_, _-_, _≤_, _<_}
+use Prim.Native.Nat.{ℕ, _+_, _-_, _≤_, _<_}
 use native.Mathlib.Omega.{arith}
 use mathlib.Core.Path.{_≡_, refl, sym, ap, _∙_}
 use mathlib.Core.List.{List, [], _∷_}
 use mathlib.Core.Bool.{true, false}
 use lib.ListN.{length, getD}
-use borrow.Author.Tests.{eq-eqb, ne-eqb}
-use Rattle.text.specs.Text.{cursor, onPlace, onNumber, isBlank, isDigit, blanksAt, spanAt, standsAt, tagAt, digitsAt}
+use borrow.Author.Tests.{ne-eqb}
+use Rattle.text.specs.Text.{cursor, isBlank, isDigit, blanksAt, standsAt, tagAt, digitsAt}
 use Rattle.text.specs.declared.Place.the-variants.{Past, Absent}
-use Rattle.text.specs.declared.Number.the-variants.{Value, NoDigit}
+use Rattle.text.specs.declared.Number.the-variants.{Value}
 use Rattle.text.proofs.Laws.{span-stop, span-go, stands-on, stands-done, stands-off, digit-bounds}
 use Rattle.text.proofs.Readings.{one-digit, two-digits, digit-in}
-use Rattle.jkf.specs.declared.Clock.{Clock}
 use Rattle.jkf.specs.declared.Clock.the-variants.{Hms, Ms}
-use Rattle.jkf.specs.declared.Time.the-variants.{Untimed, Timed}
-use Rattle.moves.specs.Moves.{onClocked, timing, colon, figureAt, hmsAt, msAt, clockAt, spacedAt, clocksAt, timeAt}
+use Rattle.jkf.specs.declared.Time.the-variants.{Timed}
+use Rattle.moves.specs.Moves.{timing, colon, figureAt, hmsAt, msAt, clockAt, spacedAt, clocksAt, timeAt}
 use Rattle.moves.specs.Usuals.{Two, valueOf, UsualNow, UsualTotal, Usual}
 use Rattle.moves.specs.declared.Clocked.the-variants.{Shows, NoClock}
-use Rattle.moves.specs.declared.Timing.{Timing}
 
 module _ (s : List ℕ) where
   -- a byte stands here, and e is the place past it

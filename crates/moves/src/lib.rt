@@ -18,7 +18,7 @@ use text::Cursor;
 use text::Number;
 use text::Place;
 ghost use mathlib.Core.Path.{_≡_};
-ghost use Prim.Native.Nat.{_+_, _≤_};
+ghost use Prim.Native.Nat.{_+_};
 ghost use Rattle.text.specs.Text.{blanksAt};
 ghost use Rattle.moves.specs.Endings.{moveLineEndAt, playedLine};
 ghost use Rattle.moves.specs.Moves.{colorOf, finished, moveLineAt};

@@ -3,7 +3,7 @@
 use Prim.Native.Nat.{ℕ, _+_, _-_, _≤_, _<_}
 use native.Mathlib.Omega.{arith}
 use mathlib.Core.Path.{_≡_, refl, sym, ap, _∙_}
-use mathlib.Core.List.{List, [], _∷_, _++_}
+use mathlib.Core.List.{List, _∷_, _++_}
 use lib.ListN.{length, length-append, length-drop}
 use lib.Seq.{length-take-le}
 use Rattle.lists.specs.Repeat.{Ended}
@@ -18,8 +18,6 @@ use Rattle.moves.specs.declared.MoveLine.the-variants.{Numbered, NoLine}
 use Rattle.moves.proofs.Goings.{move-goes, remark-goes}
 use Rattle.parser.specs.Plays.{noted, commentsAt, entriesAt, plyAt}
 use Rattle.parser.specs.Filling.{remarksAt, extentAt}
-use Rattle.parser.specs.declared.Remarks.{Remarks}
-use Rattle.parser.specs.declared.Extent.{Extent}
 use Rattle.parser.proofs.Items.{textOf, comments-more, comments-none, comments-from, comments-within, entries-more, entries-none, entries-within}
 use Rattle.parser.proofs.Weights.{comments-short, entries-short}
 

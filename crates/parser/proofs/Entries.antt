@@ -1,16 +1,16 @@
 -- An entry is filled in after its comments, and entries one after the other.
 -- Assumes nothing.
-use Prim.Native.Nat.{ℕ, _+_, _-_, _<_}
+use Prim.Native.Nat.{ℕ, _+_, _-_}
 use native.Mathlib.Omega.{arith}
-use mathlib.Core.Path.{_≡_, refl, sym, ap, ap₂, _∙_, subst}
-use mathlib.Core.List.{List, [], _∷_, _++_, append-nil}
+use mathlib.Core.Path.{_≡_, refl, sym, ap, ap₂, subst}
+use mathlib.Core.List.{List, [], _∷_, append-nil}
 use lib.ListN.{length, drop}
 use lib.Dec.{eqb}
 use Rattle.lists.specs.Pick.{pick}
 use Rattle.lists.specs.Repeat.{Ended}
 use Rattle.lent.specs.Bytes.{fitting}
-use Rattle.lent.specs.Regions.{Room, Filled, Stored}
-use Rattle.lent.proofs.Regions.{filled-length, filled-under, filled-first, stored-all, then-fill, then-room, as-texts}
+use Rattle.lent.specs.Regions.{Room, Stored}
+use Rattle.lent.proofs.Regions.{filled-under, filled-first, stored-all, then-fill, then-room, as-texts}
 use Rattle.text.specs.declared.Cursor.{Cursor}
 use Rattle.jkf.specs.Entries.{entryBytes}
 use Rattle.jkf.specs.declared.Entry.{Entry}

@@ -1,13 +1,13 @@
 -- The parts of a block are filled in one after the other: head and position, header entries, lines. Together they are the block.
 -- Assumes nothing.
-use Prim.Native.Nat.{ℕ, _+_, _-_, _*_, _≤_}
+use Prim.Native.Nat.{ℕ, _+_, _-_, _≤_}
 use native.Mathlib.Omega.{arith}
-use mathlib.Core.Path.{_≡_, refl, sym, ap, _∙_, subst}
+use mathlib.Core.Path.{_≡_, sym, ap, _∙_}
 use mathlib.Core.List.{List, _++_, append-nil}
 use lib.ListN.{length, drop, replicate, length-replicate, drop-of-length-le}
 use borrow.Rule.Slice.PartMut.{midOf, putMid}
 use Rattle.lent.specs.Bytes.{Wrote, fitting}
-use Rattle.lent.specs.Regions.{put, Stored}
+use Rattle.lent.specs.Regions.{put}
 use Rattle.lent.proofs.Writes.{fitting-all}
 use Rattle.lent.proofs.Regions.{length-put, put-more, stored-part, stored-all}
 use Rattle.jkf.specs.Positions.{positionBytes}

@@ -15,7 +15,7 @@ use mathlib.Core.Bool.{Bool, true, false}
 use lib.ListN.{length, take}
 use lib.Seq.{take-length}
 use lib.Dec.{eqb, leb, ltb}
-use borrow.Author.Tests.{eq-eqb, ne-eqb, leb-true, ltb-true, le-leb, lt-ltb}
+use borrow.Author.Tests.{eq-eqb, ne-eqb}
 use Rattle.lists.specs.Pick.{pick}
 use Rattle.lists.specs.Test.{equals, both, each, flag, claim}
 use Rattle.lists.proofs.Laws.{by-pick}
@@ -23,7 +23,7 @@ use Rattle.lists.proofs.Tests.{answers}
 use Rattle.jkf.specs.Attaching.{near, hangOn, hangs, onHang, Hung, all, first, hungFrom}
 use Rattle.jkf.specs.declared.Hang.{Hang}
 use Rattle.jkf.specs.declared.Hang.the-variants.{On, Nowhere}
-use Rattle.jkf.proofs.Nears.{near-none, near-before, hangs-same}
+use Rattle.jkf.proofs.Nears.{near-none, near-before, hangs-same, Hangs, hangs-says, hangs-on}
 use Rattle.block.specs.Model.{Noted, Line}
 use Rattle.block.specs.Attach.{Play, play, playOf, starts, counts, parentIn, attachFrom, attach, allHung}
 use Rattle.block.specs.Encode.{concat, entriesOf}
@@ -34,37 +34,21 @@ use Rattle.block.proofs.Tabling.{concat-sum}
 
 -- ---- what it is that lines hang
 
--- line k hangs on the line that is found for it
-pub record Hangs (start count : ℕ → ℕ) (k : ℕ) : Type 0 where
-  pub from : start (near start (start k) k) ≤ start k
-  pub within : start k - start (near start (start k) k) < count (near start (start k) k)
-
-not-first : {A : Type 0} {k s : ℕ} → first k s ≡ all → A
-not-first e = let z : _≡_ {A = ℕ} 0 1 = ap number e in absurd (omega arith)
+not-first : {k s : ℕ} → first k s ≡ all → ⊥
+not-first e = let z : _≡_ {A = ℕ} 0 1 = ap number e in omega arith
   where
     number : Hung → ℕ
     number all = 1
     number (first k s) = 0
 
--- on line p, with start t and n entries
-on-line : (s p t n k : ℕ) (rest : Hung) → onHang (hangOn s p t n) (λ p e. rest) (first k s) ≡ all → (t ≤ s) × (s - t < n) × (rest ≡ all)
-on-line s p t n k rest h = go (leb t s) refl (ltb (s - t) n) refl h
-  where
-    go : (x : Bool) → leb t s ≡ x → (y : Bool) → ltb (s - t) n ≡ y → onHang (pick x (pick y (On p (s - t)) Nowhere) Nowhere) (λ p e. rest) (first k s) ≡ all
-        → (t ≤ s) × (s - t < n) × (rest ≡ all)
-    go true e true e′ h = (leb-true t s e, ltb-true (s - t) n e′, h)
-    go true e false e′ h = not-first h
-    go false e y e′ h = not-first h
-
 module _ (start count : ℕ → ℕ) where
   -- each of n lines from k on
   pub hung-at : (n k : ℕ) → hungFrom start count k n ≡ all → (j : ℕ) → k ≤ j → j < k + n → Hangs start count j
-  unfolding hungFrom hangs
+  unfolding hungFrom
   hung-at zero k h j a b = absurd (omega arith)
   hung-at (suc n) k h j a b =
-      let p = near start (start k) k in
-      let (from, within, rest) = on-line (start k) p (start p) (count p) k (hungFrom start count (k + 1) n) h in
-      go (decLt k j) (record { from = from; within = within }) (hung-at n (k + 1) rest j)
+      let (here, rest) = hangs-says start count k (λ p e. hungFrom start count (k + 1) n) (first k (start k)) all not-first h in
+      go (decLt k j) here (hung-at n (k + 1) rest j)
     where
       go : Dec (k < j) → Hangs start count k → (k + 1 ≤ j → j < k + 1 + n → Hangs start count j) → Hangs start count j
       go (yes l) here ih = ih (omega arith) (omega arith)
@@ -73,12 +57,6 @@ module _ (start count : ℕ → ℕ) where
   -- each but line 0 of those up to line n
   pub all-hang : (n : ℕ) → hungFrom start count 1 n ≡ all → (k : ℕ) → 0 < k → k ≤ n → Hangs start count k
   all-hang n h k z l = hung-at n 1 h k z (omega arith)
-
-  -- so the attaching rule finds a parent
-  pub hangs-on : (k : ℕ) → Hangs start count k
-      → hangs start count (start k) k ≡ On (near start (start k) k) (start k - start (near start (start k) k))
-  unfolding hangs
-  hangs-on k h = rw (le-leb _ _ (h .from), lt-ltb _ _ (h .within))
 
   -- a line starts below the number of entries before it
   module _ (origin : start 0 ≡ 0) (n : ℕ) (hang : (k : ℕ) → 0 < k → k ≤ n → Hangs start count k) where

@@ -2,17 +2,16 @@
 -- Assumes nothing.
 use Prim.Native.Nat.{ℕ, _-_, _≤_, _<_, max}
 use native.Mathlib.Omega.{arith}
-use mathlib.Core.Path.{_≡_, refl, ap, sym, _∙_}
+use mathlib.Core.Path.{_≡_, refl, ap}
 use mathlib.Core.List.{List, [], _∷_}
 use lib.ListN.{length, take, drop}
-use Rattle.lists.specs.Repeat.{Step, more, stop, Ended, ended, onStep, manyFrom}
+use Rattle.lists.specs.Repeat.{Step, more, stop, Ended, ended, onStep}
 use Rattle.lists.proofs.Repeats.{ItemGoes, many-more, many-stop, many-from, many-within}
 use Rattle.text.specs.Text.{onPlace}
 use Rattle.text.specs.declared.Cursor.{Cursor}
 use Rattle.text.specs.declared.Place.{Place}
 use Rattle.text.specs.declared.Place.the-variants.{Past, Absent}
 use Rattle.jkf.specs.declared.Entry.{Entry}
-use Rattle.block.specs.Model.{Noted}
 use Rattle.moves.specs.Moves.{onRemark, onMoveLine, moveLineAt, commentLineAt, skipLineAt}
 use Rattle.moves.specs.declared.Remark.{Remark}
 use Rattle.moves.specs.declared.Remark.the-variants.{Stands, NoRemark}

@@ -13,12 +13,12 @@ use lib.Seq.{getD-take, getD-drop, take-suc, length-take-le, drop-drop, take-all
 use Rattle.lists.specs.Repeat.{Ended}
 use Rattle.lent.specs.Bytes.{le16, bytes16, fitting}
 use Rattle.lent.specs.Regions.{join, first as next, put, puts, Room, Filled, Stored}
-use Rattle.lent.proofs.Regions.{room-front, filled-length, filled-under, then-fill, then-room, as-texts, filled-at, join-nil, put-none, put-eq, length-put, room-at}
+use Rattle.lent.proofs.Regions.{room-front, filled-length, then-fill, then-room, as-texts, filled-at, join-nil, put-none, put-eq, length-put, room-at}
 use Rattle.text.specs.declared.Cursor.{Cursor}
-use Rattle.jkf.specs.Attaching.{near, hangOn, hangs, onHang, Hung, all, first, hungFrom, startAt, countAt, parentAt, Linked}
+use Rattle.jkf.specs.Attaching.{near, hangOn, hangs, onHang, Hung, all, first, hungFrom, startAt, countAt, parentAt, hangsBy, Linked}
 use Rattle.jkf.specs.declared.Hang.{Hang}
 use Rattle.jkf.specs.declared.Hang.the-variants.{On, Nowhere}
-use Rattle.jkf.proofs.Nears.{near-same, near-before}
+use Rattle.jkf.proofs.Nears.{near-same, near-before, hangs-followed}
 use Rattle.block.specs.Model.{Noted, Line}
 use Rattle.block.specs.Attach.{Play, play, playOf, starts, counts, parentIn, attach, allHung}
 use Rattle.block.specs.Formed.{lineOf}
@@ -26,9 +26,8 @@ use Rattle.block.specs.Encode.{table, concat, lineRow, lineStep, entriesOf, com
 use Rattle.block.proofs.Tabling.{table-length, concat-append}
 use Rattle.block.proofs.Rows.{line-wide}
 use Rattle.parser.specs.Plays.{noted, entriesAt, plyAt, skippedAt, skipsAt, variationsAt, slotAt, pastMain, mainAt, playsAt}
-use Rattle.parser.specs.Filling.{entryTexts, lineTexts, entryEnds, lineEnds, mainLine, movedTo, EntriesFit, Entered, LinesFit, LineFits, Lined, hanging}
+use Rattle.parser.specs.Filling.{entryTexts, lineTexts, entryEnds, lineEnds, mainLine, movedTo, EntriesFit, Entered, LinesFit, LineFits, Lined}
 use Rattle.parser.specs.declared.Walk.{Walk}
-use Rattle.parser.specs.declared.Hanging.{Hanging}
 use Rattle.parser.proofs.Texts.{lines-append}
 use Rattle.parser.proofs.Sizing.{commented, written}
 use Rattle.parser.proofs.Entries.{fit-moved, entered-moved}
@@ -412,7 +411,7 @@ module _ (s : List ℕ) (table : ℕ) (w : Walk) (o₀ : List ℕ) (f : LinesFit
       count-read j h = two-back (8 * j + 4) (omega arith) ∙ count-back (w .entries) (take k ls) j (omega (arith, long)) (rw (line-early j h) (early j h .1)) ∙ ap (λ (x : Line). length (x .entries)) (line-early j h)
 
       -- all lines before hang, so each has the parent that is found for it
-      pub linked : Linked (rowsIn o₁ table) k
+      linked : Linked (rowsIn o₁ table) k
       linked = record { parents = parents }
         where
           parents : (j : ℕ) → 0 < j → j < k → parentAt (rowsIn o₁ table) j ≡ near (startAt (rowsIn o₁ table)) (startAt (rowsIn o₁ table) j) j
@@ -469,12 +468,11 @@ module _ (s : List ℕ) (table : ℕ) (w : Walk) (o₀ : List ℕ) (f : LinesFit
           some-here : length es ≡ 0 → ⊥
           some-here z = ne (omega (arith, entered .entries, z))
 
-          hang-is : (h : Hang) (start : ℕ) → start ≡ plyAt s (c .at) → (Linked (rowsIn o₁ table) k → h ≡ hangs (startAt (rowsIn o₁ table)) (countAt (rowsIn o₁ table)) start k)
-              → hangs (starts ps) (counts ps) (starts ps k) k ≡ h
+          hang-is : (h : Hang) (start : ℕ) → start ≡ plyAt s (c .at) → h ≡ hangsBy (rowsIn o₁ table) start k → hangs (starts ps) (counts ps) (starts ps k) k ≡ h
           hang-is h start e y =
               let a : start ≡ plyAt s place = e ∙ ap (plyAt s) p in
               ap (λ (n : ℕ). hangs (starts ps) (counts ps) n k) (start-here some-here) ∙ sym (attach-is x o₁ c entered entries-room)
-              ∙ ap (λ (n : ℕ). hangs (startAt (rowsIn o₁ table)) (countAt (rowsIn o₁ table)) n k) (sym a) ∙ sym (y (linked x o₁ c entered entries-room))
+              ∙ ap (λ (n : ℕ). hangs (startAt (rowsIn o₁ table)) (countAt (rowsIn o₁ table)) n k) (sym a) ∙ sym (y ∙ hangs-followed (linked x o₁ c entered entries-room) start)
 
           -- the walk goes on
           pub next-less : (q₂ : Cursor) → q₂ .at ≡ skippedAt s (x .next .at) → (v .next .at < q₂ .at) × (q₂ .at ≤ length s)
@@ -490,8 +488,7 @@ module _ (s : List ℕ) (table : ℕ) (w : Walk) (o₀ : List ℕ) (f : LinesFit
               let r = room-at (length o) (lineEnds (table + 8 * k) v) (lineTexts (v .entries) (v .noted) (v .bytes) (line (plyAt s place) (parentIn ps k) es ∷ [])) 0 (g .room) (omega arith) in
               (omega (arith, r, filled-length (entered .filled)), more-left some-here)
 
-          module _ (h : Hang) (start : ℕ) (a : start ≡ plyAt s (c .at))
-              (y : Linked (rowsIn o₁ table) k → h ≡ hangs (startAt (rowsIn o₁ table)) (countAt (rowsIn o₁ table)) start k) where
+          module _ (h : Hang) (start : ℕ) (a : start ≡ plyAt s (c .at)) (y : h ≡ hangsBy (rowsIn o₁ table) start k) where
             start-is : starts ps k ≡ start
             start-is = start-here some-here ∙ ap (plyAt s) (sym p) ∙ sym a
 

@@ -14,7 +14,7 @@ use Rattle.lent.specs.Regions.{Room, Stored}
 use Rattle.lent.proofs.Regions.{room-front, then-room}
 use Rattle.text.specs.declared.Cursor.{Cursor}
 use Rattle.jkf.specs.declared.Entry.the-variants.{Slot}
-use Rattle.block.specs.Model.{Noted, Line}
+use Rattle.block.specs.Model.{Noted}
 use Rattle.block.specs.Encode.{commentsOf, commentText}
 use Rattle.parser.specs.Plays.{noted, commentsAt, entriesAt, skippedAt, slotAt, pastMain, mainAt}
 use Rattle.parser.specs.Filling.{entryTexts, entryEnds, mainLine, movedTo, EntriesFit, Entered, LineFits, Lined}
@@ -23,7 +23,7 @@ use Rattle.parser.proofs.Texts.{entries-append}
 use Rattle.parser.proofs.Sizing.{commented, written}
 use Rattle.parser.proofs.Entries.{fit-moved, entered-moved}
 use Rattle.parser.proofs.Variations.{main-is, main-none}
-use Rattle.parser.proofs.Rowed.{line, line-fit, line-filled, entered-then}
+use Rattle.parser.proofs.Rowed.{line-fit, line-filled, entered-then}
 
 -- ---- room for some entries, and for those after them
 

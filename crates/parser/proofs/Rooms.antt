@@ -2,8 +2,8 @@
 -- Assumes nothing.
 use Prim.Native.Nat.{ℕ, _+_, _*_, _≤_, _<_}
 use native.Mathlib.Omega.{arith}
-use mathlib.Core.Path.{_≡_, refl, sym, subst}
-use mathlib.Core.List.{List, []}
+use mathlib.Core.Path.{_≡_, refl}
+use mathlib.Core.List.{List}
 use mathlib.Core.Bool.{Bool, true, false}
 use lib.ListN.{length}
 use lib.Dec.{leb}
@@ -11,11 +11,11 @@ use borrow.Author.Tests.{le-leb, lt-leb, leb-true}
 use Rattle.lists.proofs.Laws.{pick-both}
 use Rattle.lent.proofs.Regions.{put-none}
 use Rattle.block.specs.Model.{Noted}
-use Rattle.block.specs.Encode.{table, concat, entryRow, entryStep, commentRow, commentStep, commentsOf, commentText}
+use Rattle.block.specs.Encode.{table, concat, entryRow, entryStep, commentRow, commentStep, commentsOf}
 use Rattle.block.proofs.Tabling.{table-length}
 use Rattle.block.proofs.Rows.{entry-wide, comment-wide}
 use Rattle.parser.specs.Plays.{entriesAt}
-use Rattle.parser.specs.Filling.{entryTexts, entryEnds, extentAt, hasNumbers, hasRoom, EntriesFit, Entered, fittingEntries, fittingEnd}
+use Rattle.parser.specs.Filling.{extentAt, hasNumbers, hasRoom, EntriesFit, Entered, fittingEntries, fittingEnd}
 use Rattle.parser.proofs.Items.{entries-max}
 use Rattle.parser.proofs.Weights.{entries-short}
 use Rattle.parser.specs.declared.Extent.{Extent}

@@ -1,18 +1,17 @@
 -- A line is filled in: its entries, and then its row. What stands in the table is read back.
 -- Assumes nothing.
-use Prim.Native.Nat.{ℕ, _+_, _-_, _*_, _≤_, _<_}
+use Prim.Native.Nat.{ℕ, _+_, _-_, _*_, _<_}
 use native.Mathlib.Omega.{arith}
 use mathlib.Core.Path.{_≡_, refl, sym, ap, ap₂, _∙_, subst}
 use mathlib.Core.List.{List, [], _∷_, _++_, append-nil}
-use lib.ListN.{length, take, drop, getD}
-use lib.Seq.{getD-take, getD-drop}
+use lib.ListN.{length, take, drop}
 use Rattle.lent.specs.Bytes.{le16, bytes16, fitting}
-use Rattle.lent.specs.Regions.{join, Room, Filled, Stored}
-use Rattle.lent.proofs.Regions.{room-front, filled-length, filled-under, filled-first, stored-all, then-fill, then-room, as-texts, filled-at}
+use Rattle.lent.specs.Regions.{Room, Filled, Stored}
+use Rattle.lent.proofs.Regions.{filled-under, filled-first, stored-all, then-fill, then-room, as-texts}
 use Rattle.block.specs.Model.{Noted, Line}
 use Rattle.block.specs.Formed.{lineOf}
 use Rattle.block.specs.Encode.{table, concat, lineRow, lineStep, entriesOf, commentsOf, commentText}
-use Rattle.block.proofs.Tabling.{after, table-length, table-row, concat-append}
+use Rattle.block.proofs.Tabling.{after, table-row}
 use Rattle.block.proofs.Rows.{line-wide}
 use Rattle.block.proofs.Lining.{le16-drop}
 use Rattle.parser.specs.Filling.{entryTexts, lineTexts, entryEnds, lineEnds, EntriesFit, Entered, LineFits, Lined}

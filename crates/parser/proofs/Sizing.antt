@@ -13,14 +13,14 @@ use Rattle.block.specs.Model.{Noted}
 use Rattle.block.specs.Attach.{Play, play}
 use Rattle.block.specs.Encode.{concat, commentsOf, commentText}
 use Rattle.block.proofs.Tabling.{concat-append}
-use Rattle.parser.specs.Plays.{noted, commentsAt, entriesAt, plyAt, skippedAt, skipsAt, variationsAt, slotAt, pastMain, mainAt, playsAt}
-use Rattle.parser.specs.Filling.{remarksAt, extentAt, playEntries, sizes, mainSizes, sizesAt}
+use Rattle.parser.specs.Plays.{noted, entriesAt, plyAt, skippedAt, skipsAt, variationsAt, slotAt, pastMain, mainAt, playsAt}
+use Rattle.parser.specs.Filling.{remarksAt, extentAt, playEntries, mainSizes, sizesAt}
 use Rattle.parser.specs.declared.Remarks.{Remarks}
 use Rattle.parser.specs.declared.Extent.{Extent}
 use Rattle.parser.specs.declared.Sizes.{Sizes}
-use Rattle.parser.proofs.Items.{comments-from, comments-within, skips-from, skips-within, skipped-from, skipped-within}
+use Rattle.parser.proofs.Items.{comments-within, skips-from, skips-within, skipped-from, skipped-within}
 use Rattle.parser.proofs.Weights.{comments-short}
-use Rattle.parser.proofs.Variations.{tally, variations-more, variations-none, variations-short, variations-few, variations-within, main-short, line-there, line-within}
+use Rattle.parser.proofs.Variations.{variations-more, variations-none, variations-short, variations-few, variations-within, main-short, line-there, line-within}
 
 -- comments of entries, and their bytes, one run after another
 pub commented : (xs ys : List Noted) → length (commentsOf (xs ++ ys)) ≡ length (commentsOf xs) + length (commentsOf ys)

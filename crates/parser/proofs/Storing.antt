@@ -1,38 +1,36 @@
 -- What is known before a block is stored: where the moves begin, which lines are header lines, and how long the block is.
 -- Assumes nothing.
-use Prim.Native.Nat.{ℕ, zero, suc, _+_, _*_, _≤_, _<_, max}
+use Prim.Native.Nat.{ℕ, zero, suc, _+_, _*_, _≤_, _<_}
 use native.Mathlib.Omega.{arith}
 use mathlib.Core.Path.{_≡_, refl, sym, ap, _∙_, subst}
-use mathlib.Core.List.{List, [], _∷_, _++_, map}
-use mathlib.Core.Bool.{Bool, true, false, false≢true}
-use lib.ListN.{length, getD, length-append, length-map}
-use Rattle.lists.specs.Pick.{pick}
+use mathlib.Core.List.{List, [], _∷_}
+use mathlib.Core.Bool.{true, false, false≢true}
+use lib.ListN.{length, getD, length-map}
 use Rattle.lists.proofs.Laws.{by-pick}
-use Rattle.text.specs.Text.{onPlace, tagAt, breakAt}
+use Rattle.text.specs.Text.{tagAt, breakAt}
 use Rattle.text.specs.declared.Cursor.{Cursor}
-use Rattle.text.specs.declared.Place.{Place}
-use Rattle.text.specs.declared.Place.the-variants.{Past, Absent}
+use Rattle.text.specs.declared.Place.the-variants.{Past}
 use Rattle.text.proofs.Laws.{break-after, place-back}
 use Rattle.text.proofs.Answers.{by-past}
 use borrow.Author.Tests.{lt-ltb, le-ltb}
 use Rattle.jkf.specs.declared.Position.{Position}
 use Rattle.jkf.specs.declared.Answer.{Answer}
 use Rattle.jkf.specs.declared.Answer.the-variants.{BlockTooLong, BufferShort}
-use Rattle.block.specs.Model.{Header, Noted, Line}
-use Rattle.block.specs.Attach.{Play, attach}
-use Rattle.block.specs.Encode.{concat, headerText, entriesOf, commentsOf, commentText, blockLength}
+use Rattle.block.specs.Model.{Header, Noted}
+use Rattle.block.specs.Attach.{attach}
+use Rattle.block.specs.Encode.{concat, headerText, commentsOf, commentText, blockLength}
 use Rattle.sorted.specs.Sorted.{byKey, enterAll, kept, All}
 use Rattle.sorted.proofs.Merges.{enter-map}
 use Rattle.sorted.proofs.Kept.{kept-all, kept-length}
-use Rattle.kakinoki.specs.Informations.{onKeyValue, keyValueAt, headerAt, informationsAt}
-use Rattle.kakinoki.specs.Boards.{filesTag, ruleTag, noCells, noBoard, board, rowsFrom, ruledAt, boardAt}
-use Rattle.kakinoki.specs.Starts.{firstBlock, diagram, secondPlace, secondBlock, headersSaid, headerPlaces, startOf}
+use Rattle.kakinoki.specs.Informations.{onKeyValue, headerAt}
+use Rattle.kakinoki.specs.Boards.{filesTag, ruleTag, noCells, noBoard, rowsFrom, ruledAt, boardAt}
+use Rattle.kakinoki.specs.Starts.{firstBlock, diagram, secondPlace, headerPlaces, startOf}
 use Rattle.kakinoki.specs.declared.Board.{Board}
 use Rattle.kakinoki.specs.declared.KeyValue.{KeyValue}
 use Rattle.kakinoki.proofs.Places.{block-within}
 use Rattle.kakinoki.proofs.Heads.{headers-said, header-begins, headers-few}
 use Rattle.parser.specs.Plays.{playsAt}
-use Rattle.parser.specs.Filling.{isHeaderLine, HeaderLines, headersAt, playEntries, sizesAt}
+use Rattle.parser.specs.Filling.{isHeaderLine, HeaderLines, headersAt, sizesAt}
 use Rattle.parser.specs.Parse.{Parsed, byHeader, headersOf, parse, needed}
 use Rattle.parser.specs.Read.{Prepared, storedOf, filledWith}
 use Rattle.parser.specs.declared.Sizes.{Sizes}

@@ -1,6 +1,6 @@
 -- Lines of play one after the other: each goes on past its place, and takes at least as many bytes as it counts.
 -- Assumes nothing.
-use Prim.Native.Nat.{ℕ, zero, suc, _+_, _≤_, _<_}
+use Prim.Native.Nat.{ℕ, _+_, _≤_, _<_}
 use native.Mathlib.Omega.{arith}
 use mathlib.Core.Path.{_≡_, refl, sym, ap, _∙_}
 use mathlib.Core.List.{List, [], _∷_, _++_}
@@ -8,18 +8,16 @@ use mathlib.Core.Bool.{Bool, true, false}
 use lib.ListN.{length, length-append}
 use lib.Dec.{eqb}
 use borrow.Author.Tests.{eqb-false, eqb-true, eq-eqb, ne-eqb}
-use Rattle.lists.specs.Pick.{pick}
-use Rattle.lists.specs.Repeat.{Step, more, stop, Ended, ended, onStep, manyFrom}
-use Rattle.lists.proofs.Laws.{by-pick}
-use Rattle.lists.proofs.Repeats.{ItemGoes, many-more, many-stop, many-from, many-within}
+use Rattle.lists.specs.Repeat.{Step, more, stop, ended, onStep, manyFrom}
+use Rattle.lists.proofs.Repeats.{ItemGoes, many-more, many-stop, many-within}
 use Rattle.block.specs.Model.{Noted}
 use Rattle.block.specs.Attach.{Play, play}
 use Rattle.block.specs.Encode.{concat, commentsOf, commentText}
 use Rattle.block.proofs.Tabling.{concat-append}
-use Rattle.parser.specs.Plays.{noted, commentsAt, entriesAt, plyAt, skippedAt, skipsAt, playItem, variationItem, variationsAt, slotAt, pastMain}
+use Rattle.parser.specs.Plays.{entriesAt, plyAt, skippedAt, skipsAt, playItem, variationItem, variationsAt, pastMain}
 use Rattle.parser.specs.Filling.{playEntries}
-use Rattle.parser.proofs.Items.{on-both, no-more, entries-max, entries-within, skips-from, skips-within, skipped-from, skipped-within}
-use Rattle.parser.proofs.Weights.{weight, many-weighs, comments-short, entries-short}
+use Rattle.parser.proofs.Items.{on-both, no-more, entries-max, entries-within, skips-from, skipped-from, skipped-within}
+use Rattle.parser.proofs.Weights.{weight, many-weighs, entries-short}
 
 -- the entries of a line of play, their comments and the bytes of these
 abbrev pub tally : List Noted → ℕ

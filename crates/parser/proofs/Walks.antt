@@ -1,27 +1,26 @@
 -- A walk that fills comments or entries one by one: what is still to do from here comes to what was to do at first.
 -- Assumes nothing.
-use Prim.Native.Nat.{ℕ, _+_, _-_, _≤_, _<_}
+use Prim.Native.Nat.{ℕ, _+_, _-_, _≤_}
 use native.Mathlib.Omega.{arith}
 use mathlib.Core.Path.{_≡_, refl, sym, ap, _∙_, subst}
 use mathlib.Core.List.{List, [], _∷_, _++_, append-nil}
 use lib.ListN.{length, take, drop, length-append, length-drop}
 use lib.Seq.{length-take-le}
 use Rattle.lent.specs.Bytes.{bytes16, fitting}
-use Rattle.lent.specs.Regions.{join, Room, Filled, Left, Stored, put}
+use Rattle.lent.specs.Regions.{Room, Left, Stored, put}
 use Rattle.lent.proofs.Regions.{left-start, left-room, left-step, left-done, length-put, stored-all}
 use Rattle.text.specs.declared.Cursor.{Cursor}
 use Rattle.block.specs.Model.{Noted}
 use Rattle.block.specs.Encode.{table, concat, commentsOf, commentText}
 use Rattle.block.proofs.Tabling.{concat-append}
 use Rattle.lists.specs.Repeat.{Ended}
-use Rattle.moves.specs.Moves.{moveLineAt, commentLineAt}
+use Rattle.moves.specs.Moves.{commentLineAt}
 use Rattle.moves.specs.declared.Remark.the-variants.{Stands, NoRemark}
-use Rattle.moves.specs.declared.MoveLine.the-variants.{Numbered, NoLine}
-use Rattle.parser.specs.Plays.{noted, commentsAt, entriesAt}
+use Rattle.parser.specs.Plays.{noted, commentsAt}
 use Rattle.parser.specs.Filling.{commentTexts, entryTexts, commentEnds, entryEnds, CommentsFit, EntriesFit, Commented, Entered}
 use Rattle.parser.specs.declared.Walk.{Walk}
 use Rattle.parser.proofs.Texts.{comments-append, entries-append}
-use Rattle.parser.proofs.Items.{textOf, comments-more, comments-none, entries-more, entries-none}
+use Rattle.parser.proofs.Items.{textOf, comments-more, comments-none}
 
 -- ---- comments
 

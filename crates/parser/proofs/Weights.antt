@@ -2,13 +2,11 @@
 -- Assumes nothing.
 use Prim.Native.Nat.{ℕ, zero, suc, _+_, _-_, _≤_}
 use native.Mathlib.Omega.{arith}
-use mathlib.Core.Path.{_≡_, refl, sym, ap, _∙_}
+use mathlib.Core.Path.{_≡_, refl, sym, ap}
 use mathlib.Core.List.{List, [], _∷_}
-use lib.ListN.{length, take, drop, length-append, length-drop}
+use lib.ListN.{length, drop, length-append, length-drop}
 use lib.Seq.{length-take-le}
-use Rattle.lists.specs.Repeat.{Step, more, stop, Ended, ended, onStep, manyFrom}
-use Rattle.jkf.specs.declared.Entry.{Entry}
-use Rattle.text.specs.declared.Cursor.{Cursor}
+use Rattle.lists.specs.Repeat.{Step, more, stop, ended, onStep, manyFrom}
 use Rattle.block.specs.Model.{Noted}
 use Rattle.block.specs.Encode.{concat, commentsOf, commentText}
 use Rattle.block.proofs.Tabling.{concat-append}

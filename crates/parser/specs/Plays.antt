@@ -1,7 +1,7 @@
 -- Lines of play: comments, move lines with their comments, skip lines.                               (01, Reading rules: then)
 -- Assumes nothing: these are definitions.
 use Prim.Native.Nat.{ℕ, _-_}
-use mathlib.Core.List.{List, [], _∷_}
+use mathlib.Core.List.{List, _∷_}
 use lib.ListN.{length, take, drop}
 use lib.Dec.{eqb}
 use Rattle.lists.specs.Pick.{pick}

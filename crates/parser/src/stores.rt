@@ -12,7 +12,6 @@ use jkf::Position;
 use text::Cursor;
 ghost use mathlib.Core.Path.{_≡_};
 ghost use Prim.Native.Nat.{_+_, _*_, _≤_};
-ghost use mathlib.Core.List.{_++_};
 ghost use lib.ListN.{length, replicate};
 ghost use Rattle.lent.specs.Bytes.{fitting};
 ghost use Rattle.lent.specs.Regions.{put, Stored};

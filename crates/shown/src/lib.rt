@@ -7,7 +7,6 @@ ghost use mathlib.Core.Path.{_≡_};
 ghost use Prim.Native.Nat.{_*_, _≤_, _<_};
 ghost use lib.ListN.{length, take};
 ghost use Rattle.lent.specs.Bytes.{Wrote};
-ghost use Rattle.block.specs.Decode.{linesIn};
 ghost use Rattle.shown.specs.Listing.{lineText, linesText, listed};
 
 // The first n bytes of a slice, or all where there are fewer.

@@ -1,5 +1,4 @@
 // The listing's lines of text. Each function answers how many bytes of out it fills.
-ghost use mathlib.Core.List.{[], _∷_, _++_};
 ghost use Prim.Native.Nat.{_≤_};
 ghost use lib.ListN.{length};
 ghost use Rattle.lent.specs.Bytes.{Wrote, fitting};

@@ -1,4 +1,4 @@
--- The line that the attaching rule finds, and 0 where it finds none.
+-- The line that is found, and 0 where none is.
 -- Assumes nothing.
 use Prim.Native.Nat.{ℕ}
 use mathlib.Core.Path.{sym, ap, _∙_}
@@ -18,10 +18,10 @@ enum-told : tie.Need-enum-told
 enum-told c = search needs
 
 returns : tie.Need-returns
-returns c = λ l. sym (ap (λ (r : Hang). onHang {A = ℕ} r (λ p e. p) 0) (sym (c .before .before .attach .ensures l) ∙ c .enum-told .given .1))
+returns c = sym (ap (λ (r : Hang). onHang {A = ℕ} r (λ p e. p) 0) (sym (c .before .before .attach .ensures) ∙ c .enum-told .given .1))
 
 returns-2 : tie.Need-returns-2
-returns-2 c = λ l. sym (ap (λ (r : Hang). onHang {A = ℕ} r (λ p e. p) 0) (sym (c .before .before .before .attach .ensures l) ∙ c .before .parent .given .1))
+returns-2 c = sym (ap (λ (r : Hang). onHang {A = ℕ} r (λ p e. p) 0) (sym (c .before .before .before .attach .ensures) ∙ c .before .parent .given .1))
 
 pub parent-in-spec : {M : Type 1} → statement M
 parent-in-spec = tie.close (tie.spec attach-requires enum-known-parent enum-told returns returns-2)

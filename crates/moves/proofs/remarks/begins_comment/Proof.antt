@@ -1,6 +1,5 @@
 -- The tests are the definition's, in its order.
 -- Assumes nothing.
-use mathlib.Core.Path.{_≡_, sym}
 use borrow.Author.Tests.{eq-eqb, ne-eqb}
 use borrow.Author.Needs.{needs}
 use Rattle.moves.specs.Endings.{beginsComment}
