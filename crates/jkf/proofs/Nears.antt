@@ -4,7 +4,7 @@
 --     near-jump                          from a line that starts above, the search goes on at its parent
 --     follow-here, -up, -stuck           a search that follows the parents, step by step
 --     hangs-followed                     in a table whose parents are right it finds the same line
---     hangs-made, hangs-by-made          the rule at what the code has read
+--     hangs-made                         the rule at what the code has read
 --     Hangs, hangs-says, hangs-on        that a line hangs
 -- Assumes nothing.
 use Prim.Native.Nat.{ℕ, zero, suc, _+_, _-_, _≤_, _<_}
@@ -172,10 +172,6 @@ module _ {b : List ℕ} {k : ℕ} (l : Linked b k) (s : ℕ) where
 pub hangs-made : (st n : ℕ → ℕ) (s k p t m : ℕ) → p ≡ near st s k → t ≡ st p → m ≡ n p → hangs st n s k ≡ hangOn s p t m
 unfolding hangs
 hangs-made st n s k p t m e₁ e₂ e₃ = cc
-
-pub hangs-by-made : (b : List ℕ) (s k : ℕ) {p t m : ℕ} → p ≡ followed b s k → t ≡ startAt b p → m ≡ countAt b p → hangsBy b s k ≡ hangOn s p t m
-unfolding hangsBy
-hangs-by-made b s k e₁ e₂ e₃ = cc
 
 -- lines that start alike and have as many entries hang alike
 pub hangs-same : (st st′ ct ct′ : ℕ → ℕ) → ((j : ℕ) → st j ≡ st′ j) → ((j : ℕ) → ct j ≡ ct′ j) → (s k : ℕ) → hangs st ct s k ≡ hangs st′ ct′ s k

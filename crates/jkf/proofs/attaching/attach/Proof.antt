@@ -1,9 +1,8 @@
 -- The line is the one that is found, and the two tests are the definition's.
 -- Assumes nothing.
-use mathlib.Core.Path.{sym, _∙_, refl}
 use borrow.Author.Tests.{le-leb, lt-leb, lt-ltb, le-ltb}
 use borrow.Author.Needs.{needs}
-use Rattle.jkf.proofs.Nears.{hangs-by-made}
+use Rattle.jkf.specs.Attaching.{hangsBy}
 use Rattle.jkf.proofs.attaching.attach.Statement.{statement}
 use Rattle.jkf.proofs.attaching.attach.Tie as tie
 
@@ -14,16 +13,21 @@ start-requires : tie.Need-start-requires
 start-requires c κs = search needs
 
 returns : tie.Need-returns
-returns c = sym (hangs-by-made _ _ _ (c .before .before .nearest .ensures) (c .before .start .ensures) refl ∙ simp (lt-leb _ _ (c .if1 .taken)))
+unfolding hangsBy
+returns c = rw (← c .before .before .nearest .ensures, ← c .before .start .ensures, lt-leb _ _ (c .if1 .taken))
 
 count-requires : tie.Need-count-requires
 count-requires c κs = search needs
 
 returns-2 : tie.Need-returns-2
-returns-2 c = sym (hangs-by-made _ _ _ (c .before .before .before .before .nearest .ensures) (c .before .before .before .start .ensures) (c .before .count .ensures) ∙ simp (le-leb _ _ (c .before .before .if1 .left), lt-ltb _ _ (c .if2 .taken)))
+unfolding hangsBy
+returns-2 c =
+    rw (← c .before .before .before .before .nearest .ensures, ← c .before .before .before .start .ensures, ← c .before .count .ensures, le-leb _ _ (c .before .before .if1 .left), lt-ltb _ _ (c .if2 .taken))
 
 returns-3 : tie.Need-returns-3
-returns-3 c = sym (hangs-by-made _ _ _ (c .before .before .before .before .nearest .ensures) (c .before .before .before .start .ensures) (c .before .count .ensures) ∙ simp (le-leb _ _ (c .before .before .if1 .left), le-ltb _ _ (c .if2 .left)))
+unfolding hangsBy
+returns-3 c =
+    rw (← c .before .before .before .before .nearest .ensures, ← c .before .before .before .start .ensures, ← c .before .count .ensures, le-leb _ _ (c .before .before .if1 .left), le-ltb _ _ (c .if2 .left))
 
 pub attach-spec : {M : Type 1} → statement M
 attach-spec =
