@@ -38,21 +38,27 @@ fn two(before: &[u8], x: u64, between: &[u8], y: u64, after: &[u8]) -> bool {
     notes::say_two(STDERR_FILENO, before, x, between, y, after)
 }
 
-// The table.
-fn say_refusal(number: u64, x: u64, y: u64) -> bool {
+// Refusals of a text.
+fn say_of_text(number: u64, x: u64, y: u64) -> bool {
     match number {
         1 => one(b"the text has ", x, b" bytes or more; 65535 is the most"),
         2 => one(b"the text is not UTF-8 after its first ", x, b" bytes"),
         3 => one(b"the hand line at byte ", x, b" cannot be read"),
         4 => one(b"the block would have ", x, b" bytes; 65535 is the most"),
         5 => one(b"the result has ", x, b" bytes, and there is no room"),
-        6 => two(
+        _ => two(
             b"variation ",
             x,
             b" starts at ply ",
             y,
             b", where nothing stands that it could hang on",
         ),
+    }
+}
+
+// Refusals of a block.
+fn say_of_block(number: u64, x: u64, y: u64) -> bool {
+    match number {
         7 => io::write_all(STDERR_FILENO, b"this is not a sound block"),
         8 => say_hand(x, y),
         9 => two(
@@ -62,12 +68,29 @@ fn say_refusal(number: u64, x: u64, y: u64) -> bool {
             y,
             b" cannot be written: its square is off the board, or its time has no room beside it",
         ),
-        10 => one(b"there is no such line: ", x, b""),
+        _ => one(b"there is no such line: ", x, b""),
+    }
+}
+
+// Refusals of an edit.
+fn say_of_edit(number: u64, x: u64, y: u64) -> bool {
+    match number {
         11 => io::write_all(STDERR_FILENO, b"the text is not one variation"),
         12 => two(b"line ", x, b" has no ply ", y, b" to put a variation at"),
         13 => two(b"line ", x, b", ply ", y, b" already carries a variation"),
         _ => one(b"the parent of line ", x, b" would change"),
     }
+}
+
+// The table.
+fn say_refusal(number: u64, x: u64, y: u64) -> bool {
+    if number <= 6 {
+        return say_of_text(number, x, y);
+    }
+    if number <= 10 {
+        return say_of_block(number, x, y);
+    }
+    say_of_edit(number, x, y)
 }
 
 // Says in a line why a file was refused.

@@ -62,30 +62,31 @@ fn place_of(kind: u8) -> usize {
     }
 }
 
+// A row is a name's length and the name, with zeros to 32 bytes.
+const NAMES: [u8; 608] =
+    *b"\x0cUTF-8 counts\x00\x00\x00\x00\x00\x00\x00\x00\x00\x00\x00\x00\x00\x00\x00\x00\x00\x00\x00\x1eblanks, padding, tails, breaks\x00\x0cnumbers read\x00\x00\x00\x00\x00\x00\x00\x00\x00\x00\x00\x00\x00\x00\x00\x00\x00\x00\x00\x0espellings read\x00\x00\x00\x00\x00\x00\x00\x00\x00\x00\x00\x00\x00\x00\x00\x00\x00\x0dnumerals read\x00\x00\x00\x00\x00\x00\x00\x00\x00\x00\x00\x00\x00\x00\x00\x00\x00\x00\x10hand counts read\x00\x00\x00\x00\x00\x00\x00\x00\x00\x00\x00\x00\x00\x00\x00\x11spellings written\x00\x00\x00\x00\x00\x00\x00\x00\x00\x00\x00\x00\x00\x00\x13hand counts written\x00\x00\x00\x00\x00\x00\x00\x00\x00\x00\x00\x00\x0fnumbers written\x00\x00\x00\x00\x00\x00\x00\x00\x00\x00\x00\x00\x00\x00\x00\x00\x14blocks, sound or not\x00\x00\x00\x00\x00\x00\x00\x00\x00\x00\x00\x08look-ups\x00\x00\x00\x00\x00\x00\x00\x00\x00\x00\x00\x00\x00\x00\x00\x00\x00\x00\x00\x00\x00\x00\x00\x0amove lines\x00\x00\x00\x00\x00\x00\x00\x00\x00\x00\x00\x00\x00\x00\x00\x00\x00\x00\x00\x00\x00\x08comments\x00\x00\x00\x00\x00\x00\x00\x00\x00\x00\x00\x00\x00\x00\x00\x00\x00\x00\x00\x00\x00\x00\x00\x0askip lines\x00\x00\x00\x00\x00\x00\x00\x00\x00\x00\x00\x00\x00\x00\x00\x00\x00\x00\x00\x00\x00\x0atexts read\x00\x00\x00\x00\x00\x00\x00\x00\x00\x00\x00\x00\x00\x00\x00\x00\x00\x00\x00\x00\x00\x0eblocks written\x00\x00\x00\x00\x00\x00\x00\x00\x00\x00\x00\x00\x00\x00\x00\x00\x00\x11variations put in\x00\x00\x00\x00\x00\x00\x00\x00\x00\x00\x00\x00\x00\x00\x09lines cut\x00\x00\x00\x00\x00\x00\x00\x00\x00\x00\x00\x00\x00\x00\x00\x00\x00\x00\x00\x00\x00\x00\x0fof unknown kind\x00\x00\x00\x00\x00\x00\x00\x00\x00\x00\x00\x00\x00\x00\x00\x00";
+
+// The name in a row of a table, or nothing.
+fn named(table: &[u8], k: usize) -> &[u8] {
+    if 255 < k {
+        return &table[..0];
+    }
+    let at = k * 32;
+    if table.len() <= at {
+        return &table[..0];
+    }
+    let e = at + 1 + lent::wide(table[at]);
+    if table.len() < e {
+        return &table[..0];
+    }
+    &table[at + 1..e]
+}
+
 // The name of the kind at a place of the tally.
 fn print_name(place: usize) {
-    match place {
-        0 => io::write_all(STDOUT_FILENO, b"UTF-8 counts"),
-        1 => io::write_all(STDOUT_FILENO, b"blanks, padding, tails, breaks"),
-        2 => io::write_all(STDOUT_FILENO, b"numbers read"),
-        3 => io::write_all(STDOUT_FILENO, b"spellings read"),
-        4 => io::write_all(STDOUT_FILENO, b"numerals read"),
-        5 => io::write_all(STDOUT_FILENO, b"hand counts read"),
-        6 => io::write_all(STDOUT_FILENO, b"spellings written"),
-        7 => io::write_all(STDOUT_FILENO, b"hand counts written"),
-        8 => io::write_all(STDOUT_FILENO, b"numbers written"),
-        9 => io::write_all(STDOUT_FILENO, b"blocks, sound or not"),
-        10 => io::write_all(STDOUT_FILENO, b"look-ups"),
-        11 => io::write_all(STDOUT_FILENO, b"move lines"),
-        12 => io::write_all(STDOUT_FILENO, b"comments"),
-        13 => io::write_all(STDOUT_FILENO, b"skip lines"),
-        14 => io::write_all(STDOUT_FILENO, b"texts read"),
-        15 => io::write_all(STDOUT_FILENO, b"blocks written"),
-        16 => io::write_all(STDOUT_FILENO, b"variations put in"),
-        17 => io::write_all(STDOUT_FILENO, b"lines cut"),
-        _ => io::write_all(STDOUT_FILENO, b"of unknown kind"),
-    }
-    ;
+    let k = if place < 18 { place } else { 18 };
+    let names = NAMES;
+    io::write_all(STDOUT_FILENO, named(&names, k));
 }
 
 // Fills the front of out with the library's answer to a request, and answers how many bytes it has.

@@ -3,7 +3,7 @@
 use mathlib.Core.Path.{sym, ap}
 use denote.Ref.{now}
 use lib.ListN.{drop}
-use Rattle.lent.proofs.Writes.{as-text, then}
+use Rattle.lent.proofs.Writes.{as-text, then, wrote-length}
 use Rattle.jkf.specs.Positions.{positionIn}
 use Rattle.block.specs.Decode.{decode}
 use Rattle.converter.specs.Diagrams.{positionText}
@@ -60,13 +60,13 @@ put-moves-requires c κs =
 add-result : tie.Need-add-result
 add-result c = search needs
 
-same-length : tie.Need-same-length
-same-length c = search needs
-
 returns : tie.Need-returns
 returns c =
     let w = then (c .before .before .before .before .before .before .before .before .before .before .before .put-headers .ensures) (as-text (ap positionText (c .before .before .before .before .before .before .before .position-of .ensures)) (c .before .before .before .before .before .before .put-position .ensures)) in
     as-text (sym (record-is (now (c .before .before .before .before .before .before .before .before .before .before .before .before .before .before .before .args .b)))) (then w (c .before .before .put-moves .ensures))
+
+same-length : tie.Need-same-length
+same-length c = wrote-length (returns c)
 
 pub put-record-spec : {M : Type 1} → statement M
 put-record-spec =

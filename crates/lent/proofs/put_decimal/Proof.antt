@@ -2,7 +2,7 @@
 -- Assumes nothing.
 use native.Mathlib.Omega.{arith}
 use borrow.Author.Needs.{needs}
-use Rattle.lent.proofs.Writes.{unwritten, written}
+use Rattle.lent.proofs.Writes.{unwritten, written, wrote-length}
 use Rattle.lent.proofs.put_decimal.Statement.{statement}
 use Rattle.lent.proofs.put_decimal.Tie as tie
 
@@ -15,11 +15,11 @@ returns c = unwritten _ _ (omega arith)
 put-digits-requires : tie.Need-put-digits-requires
 put-digits-requires c κs = search needs
 
-same-length : tie.Need-same-length
-same-length c = search needs
-
 returns-2 : tie.Need-returns-2
 returns-2 c = written (c .before .before .put-digits .ensures)
+
+same-length : tie.Need-same-length
+same-length c = wrote-length (returns-2 c)
 
 pub put-decimal-spec : {M : Type 1} → statement M
 put-decimal-spec =

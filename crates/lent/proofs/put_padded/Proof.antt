@@ -20,13 +20,13 @@ decimal-len-requires c κs = search needs
 put-decimal-requires : tie.Need-put-decimal-requires
 put-decimal-requires c κs = search needs
 
-same-length : tie.Need-same-length
-same-length c = search needs
-
 returns : tie.Need-returns
 returns c =
     let a = c .before .before .before .before .before .before .before .args in
     as-text (ap (λ (t : List ℕ). fitting t (now (a .out))) (sym (padded-none (a .width) (a .fill) (a .v) (omega arith)))) (c .before .before .put-decimal .ensures)
+
+same-length : tie.Need-same-length
+same-length c = wrote-length (returns c)
 
 returns-2 : tie.Need-returns-2
 returns-2 c =
@@ -59,9 +59,6 @@ put-digits-requires c κs =
 add-result : tie.Need-add-result
 add-result c = search needs
 
-same-length-2 : tie.Need-same-length-2
-same-length-2 c = search needs
-
 returns-3 : tie.Need-returns-3
 returns-3 c =
     let a = c .before .before .before .before .before .before .before .before .before .before .before .before .args in
@@ -69,6 +66,9 @@ returns-3 c =
     let n = length-replicate (a .width - k) (a .fill) in
     let r = wrote-all {t = replicate (a .width - k) (a .fill)} (omega arith) (c .before .before .before .before .before .before .put-run .ensures) in
     written (as-text (ap (λ (m : ℕ). replicate (a .width - m) (a .fill) ++ decimal (a .v)) (c .before .before .before .before .before .before .before .before .before .before .decimal-len .ensures) ∙ sym (padded-some (a .width) (a .fill) (a .v))) (then r (c .before .before .put-digits .ensures)))
+
+same-length-2 : tie.Need-same-length-2
+same-length-2 c = wrote-length (returns-3 c)
 
 pub put-padded-spec : {M : Type 1} → statement M
 put-padded-spec =

@@ -47,14 +47,14 @@ put-lines-requires c κs =
 add-result : tie.Need-add-result
 add-result c = search needs
 
-same-length : tie.Need-same-length
-same-length c = search needs
-
 returns-2 : tie.Need-returns-2
 returns-2 c =
     let a = c .before .before .before .before .before .before .before .before .before .before .before .before .args in
     let w = read-fits (a .taken) (length (now (a .b))) (omega arith) (omega arith) (omega arith) (c .before .before .before .before .before .before .put-read .ensures) in
     listed-all (a .taken) (now (a .b)) (omega arith) (then (w .0) (as-text (ap (linesText (now (a .b))) (c .before .before .before .before .before .before .before .before .before .lines-in .ensures .0)) (c .before .before .put-lines .ensures)))
+
+same-length : tie.Need-same-length
+same-length c = wrote-length (returns-2 c)
 
 pub put-listing-spec : {M : Type 1} → statement M
 put-listing-spec =

@@ -7,7 +7,7 @@ use lib.ListN.{length}
 use denote.Ref.{now}
 use borrow.Author.Needs.{needs}
 use Rattle.block.specs.Decode.{run, commentOf}
-use Rattle.lent.proofs.Writes.{as-text}
+use Rattle.lent.proofs.Writes.{as-text, wrote-length}
 use Rattle.block.proofs.Within.{comments-within, comments-small}
 use Rattle.converter.specs.Entries.{remarksText}
 use Rattle.converter.proofs.kif.put_comments.Statement.{statement}
@@ -30,13 +30,13 @@ put-remarks-requires c κs =
     let e = ap₂ (λ (j n : ℕ). length (remarksText (run (commentOf b) j n))) (c .before .first-comment .ensures .0) (c .comment-count .ensures .0) in
     (omega (arith, comments-small b s), omega (arith, c .before .before .before .before .before .pre .2))
 
-same-length : tie.Need-same-length
-same-length c = search needs
-
 returns : tie.Need-returns
 returns c =
     let b = now (c .before .before .before .before .before .before .before .before .args .b) in
     as-text (ap₂ (λ (j n : ℕ). remarksText (run (commentOf b) j n)) (c .before .before .before .before .first-comment .ensures .0) (c .before .before .before .comment-count .ensures .0)) (c .before .before .put-remarks .ensures)
+
+same-length : tie.Need-same-length
+same-length c = wrote-length (returns c)
 
 pub put-comments-spec : {M : Type 1} → statement M
 put-comments-spec =

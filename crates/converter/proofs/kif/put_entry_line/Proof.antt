@@ -4,7 +4,7 @@ use mathlib.Core.Path.{ap₂}
 use mathlib.Core.List.{[], _∷_}
 use borrow.Author.Needs.{needs}
 use Rattle.jkf.specs.Entries.{timeOf}
-use Rattle.lent.proofs.Writes.{as-text, then}
+use Rattle.lent.proofs.Writes.{as-text, then, wrote-length}
 use Rattle.converter.specs.Entries.{timeText, playText, widthOf, entryLine}
 use Rattle.converter.proofs.Worded.{line-room}
 use Rattle.converter.proofs.kif.put_entry_line.Statement.{statement}
@@ -75,15 +75,15 @@ put-bytes-requires c κs = search needs
 add-result : tie.Need-add-result
 add-result c = search needs
 
-same-length : tie.Need-same-length
-same-length c = search needs
-
 returns : tie.Need-returns
 unfolding entryLine
 returns c =
     then-piece (10 ∷ [])
     (then (then (c .before .before .before .before .before .before .before .before .before .before .before .before .before .before .before .before .before .put-ply .ensures) (c .before .before .before .before .before .before .before .before .before .before .before .before .before .put-play .ensures)) (as-text (ap₂ timeText (c .before .before .before .before .before .before .before .before .before .width-of .ensures .0) (c .before .before .before .before .before .before .before .before .time-of .ensures)) (c .before .before .before .before .before .before .before .put-time .ensures)))
     (c .before .before .before .before .before .before .before .before .before .before .before .before .before .before .before .before .before .before .before .before .pre) (c .before .before .put-bytes .ensures)
+
+same-length : tie.Need-same-length
+same-length c = wrote-length (returns c)
 
 pub put-entry-line-spec : {M : Type 1} → statement M
 put-entry-line-spec =

@@ -1,5 +1,6 @@
 -- Four pieces one after another, each with its room.
 -- Assumes nothing.
+use Rattle.lent.proofs.Writes.{wrote-length}
 use mathlib.Core.List.{[], _∷_}
 use borrow.Author.Needs.{needs}
 use Rattle.lent.specs.Numbers.{decimal}
@@ -62,9 +63,6 @@ put-bytes-requires-2 c κs = search needs
 add-result : tie.Need-add-result
 add-result c = search needs
 
-same-length : tie.Need-same-length
-same-length c = search needs
-
 returns : tie.Need-returns
 returns c =
     let x = decimal (c .before .before .before .before .before .before .before .before .before .before .before .before .before .before .before .before .before .before .before .args .x) in
@@ -73,6 +71,9 @@ returns c =
     then-piece (41 ∷ [])
     (then-piece y (two-of (40 ∷ []) x (r .1) (c .before .before .before .before .before .before .before .before .before .before .before .before .before .before .before .put-bytes .ensures) (c .before .before .before .before .before .before .before .before .before .before .before .put-decimal .ensures)) (r .2) (c .before .before .before .before .before .before .before .put-decimal2 .ensures))
     (c .before .before .before .before .before .before .before .before .before .before .before .before .before .before .before .before .before .before .before .pre) (c .before .before .put-bytes2 .ensures)
+
+same-length : tie.Need-same-length
+same-length c = wrote-length (returns c)
 
 pub put-from-spec : {M : Type 1} → statement M
 put-from-spec =

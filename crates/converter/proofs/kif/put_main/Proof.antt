@@ -6,7 +6,7 @@ use mathlib.Core.Path.{refl}
 use denote.Ref.{now}
 use borrow.Author.Needs.{needs}
 use Rattle.block.specs.Decode.{run, notedIn, entryCount}
-use Rattle.lent.proofs.Writes.{as-text, then}
+use Rattle.lent.proofs.Writes.{as-text, then, wrote-length}
 use Rattle.block.proofs.Within.{entries-within, some-line, some-entry}
 use Rattle.converter.specs.Entries.{remarksText, entriesText}
 use Rattle.converter.proofs.Playing.{main-text}
@@ -58,12 +58,12 @@ put-entries-requires c κs =
 add-result : tie.Need-add-result
 add-result c = search needs
 
-same-length : tie.Need-same-length
-same-length c = search needs
-
 returns : tie.Need-returns
 returns c =
     as-text (main-text (now (c .before .before .before .before .before .before .before .before .before .before .before .args .b)) (c .before .before .before .before .before .before .before .before .before .before .before .pre .0) (c .before .before .before .entry-count .ensures .0)) (then (c .before .before .before .before .before .before .before .put-comments .ensures) (c .before .before .put-entries .ensures))
+
+same-length : tie.Need-same-length
+same-length c = wrote-length (returns c)
 
 pub put-main-spec : {M : Type 1} → statement M
 put-main-spec =

@@ -3,7 +3,7 @@
 use borrow.Author.Needs.{needs}
 use Rattle.spell.specs.Tables.{moveKinds}
 use Rattle.spell.specs.Spell.{spelled}
-use Rattle.lent.proofs.Writes.{then}
+use Rattle.lent.proofs.Writes.{then, wrote-length}
 use Rattle.converter.specs.Entries.{promoteText, originText, moveText}
 use Rattle.converter.proofs.Worded.{move-room}
 use Rattle.converter.proofs.kif.put_move.Statement.{statement}
@@ -67,9 +67,6 @@ put-origin-requires c κs =
 add-result : tie.Need-add-result
 add-result c = search needs
 
-same-length : tie.Need-same-length
-same-length c = search needs
-
 returns : tie.Need-returns
 unfolding moveText
 returns c =
@@ -77,6 +74,9 @@ returns c =
     let r = move-room m (c .before .before .before .before .before .before .before .before .before .before .before .before .before .before .before .before .before .pre) in
     then (then (then-piece (spelled moveKinds (m .piece)) (c .before .before .before .before .before .before .before .before .before .before .before .before .before .before .put-target .ensures) (r .1) (c .before .before .before .before .before .before .before .before .before .before .put-kind .ensures)) (c .before .before .before .before .before .before .put-promote .ensures))
     (c .before .before .put-origin .ensures)
+
+same-length : tie.Need-same-length
+same-length c = wrote-length (returns c)
 
 pub put-move-spec : {M : Type 1} → statement M
 put-move-spec =

@@ -7,7 +7,7 @@ use denote.Ref.{now}
 use borrow.Author.Needs.{needs}
 use Rattle.block.specs.Decode.{run, lineIn}
 use Rattle.block.specs.Encode.{concat}
-use Rattle.lent.proofs.Writes.{as-text, wrote-all, then}
+use Rattle.lent.proofs.Writes.{as-text, wrote-all, then, wrote-length}
 use Rattle.converter.specs.Show.{numberLine, mainText, variationText}
 use Rattle.converter.proofs.Playing.{lines-text}
 use Rattle.lent.proofs.Room.{room-after, room-as, room-front}
@@ -69,9 +69,6 @@ put-variations-requires c κs =
 add-result : tie.Need-add-result
 add-result c = search needs
 
-same-length : tie.Need-same-length
-same-length c = search needs
-
 returns : tie.Need-returns
 returns c =
     let a = c .before .before .before .before .before .before .before .before .before .before .before .before .before .before .before .args in
@@ -82,6 +79,9 @@ returns c =
     let e = lines-text b (a .lines) (p .0) in
     let h = room-front numberLine t (room-front (numberLine ++ t) v (room-as e (p .1))) in
     as-text e (then (then (wrote-all {t = numberLine} h (c .before .before .before .before .before .before .before .before .before .before .put-bytes .ensures)) (c .before .before .before .before .before .before .put-main .ensures)) (c .before .before .put-variations .ensures))
+
+same-length : tie.Need-same-length
+same-length c = wrote-length (returns c)
 
 pub put-moves-spec : {M : Type 1} → statement M
 put-moves-spec =

@@ -5,7 +5,7 @@ use mathlib.Core.Path.{refl}
 use denote.Ref.{now}
 use Rattle.jkf.specs.Entries.{entryIn}
 use Rattle.block.specs.Decode.{run, commentOf, notedIn}
-use Rattle.lent.proofs.Writes.{as-text, then}
+use Rattle.lent.proofs.Writes.{as-text, then, wrote-length}
 use Rattle.converter.specs.Entries.{entryLine, remarksText}
 use Rattle.converter.proofs.Playing.{row-number, noted-text, noted-bare}
 use Rattle.lent.proofs.Room.{room-after, room-as, room-front}
@@ -30,15 +30,15 @@ put-row-requires c κs =
 get16-requires : tie.Need-get16-requires
 get16-requires c κs = search needs
 
-same-length : tie.Need-same-length
-same-length c = search needs
-
 returns : tie.Need-returns
 returns c =
     let s = c .before .before .before .before .before .before .before .before .before in
     let b = now (s .args .b) in
     let r = c .before .before .before .before .before .before .row-of .ensures in
     as-text (noted-bare b (s .args .ply) (s .args .k) r (row-number b (s .args .k) 18 r (c .before .get16 .ensures .0)) (c .if1 .taken)) (c .before .before .before .before .put-row .ensures)
+
+same-length : tie.Need-same-length
+same-length c = wrote-length (returns c)
 
 sub-put-remarks : tie.Need-sub-put-remarks
 sub-put-remarks c = search needs
@@ -67,9 +67,6 @@ put-remarks-requires c κs =
 add-result : tie.Need-add-result
 add-result c = search needs
 
-same-length-2 : tie.Need-same-length-2
-same-length-2 c = search needs
-
 returns-2 : tie.Need-returns-2
 returns-2 c =
     let s = c .before .before .before .before .before .before .before .before .before .before .before .before .before .before in
@@ -79,6 +76,9 @@ returns-2 c =
     let e = row-number b k 16 r (c .before .before .before .get162 .ensures .0) in
     let f = row-number b k 18 r (c .before .before .before .before .before .before .get16 .ensures .0) in
     as-text (noted-text b (s .args .ply) k r e f) (then (c .before .before .before .before .before .before .before .before .before .put-row .ensures) (c .before .before .put-remarks .ensures))
+
+same-length-2 : tie.Need-same-length-2
+same-length-2 c = wrote-length (returns-2 c)
 
 pub put-noted-spec : {M : Type 1} → statement M
 put-noted-spec =

@@ -3,7 +3,7 @@
 use mathlib.Core.List.{[], _∷_}
 use mathlib.Core.Path.{ap}
 use borrow.Author.Needs.{needs}
-use Rattle.lent.proofs.Writes.{as-text, wrote-all, then}
+use Rattle.lent.proofs.Writes.{as-text, wrote-all, then, wrote-length}
 use Rattle.converter.specs.Entries.{minute, second, figureText, nowText}
 use Rattle.converter.proofs.Worded.{now-room}
 use Rattle.converter.proofs.kif.put_now.Statement.{statement}
@@ -62,9 +62,6 @@ put-figure-requires-2 c κs =
 add-result : tie.Need-add-result
 add-result c = search needs
 
-same-length : tie.Need-same-length
-same-length c = search needs
-
 returns : tie.Need-returns
 unfolding nowText
 returns c =
@@ -72,6 +69,9 @@ returns c =
     let r = now-room k (c .before .before .before .before .before .before .before .before .before .before .before .before .before .before .before .before .pre) in
     then (then (wrote-all {t = 40 ∷ []} (r .0) (c .before .before .before .before .before .before .before .before .before .before .before .before .put-bytes .ensures)) (as-text (ap (figureText 32 58) (c .before .before .before .before .before .before .before .before .minute .ensures)) (c .before .before .before .before .before .before .before .put-figure .ensures)))
     (as-text (ap (figureText 48 47) (c .before .before .before .second .ensures)) (c .before .before .put-figure2 .ensures))
+
+same-length : tie.Need-same-length
+same-length c = wrote-length (returns c)
 
 pub put-now-spec : {M : Type 1} → statement M
 put-now-spec =

@@ -2,7 +2,7 @@
 -- Assumes nothing.
 use mathlib.Core.Path.{sym, ap}
 use borrow.Author.Needs.{needs}
-use Rattle.lent.proofs.Writes.{as-text}
+use Rattle.lent.proofs.Writes.{as-text, wrote-length}
 use Rattle.converter.specs.Entries.{originText}
 use Rattle.converter.proofs.Worded.{room-of, arm}
 use Rattle.converter.proofs.kif.put_origin.Statement.{statement}
@@ -25,21 +25,21 @@ unfolding originText
 put-from-requires c κs =
     room-of originText (c .before .before .from .given .1) (c .before .before .before .before .before .pre)
 
-same-length : tie.Need-same-length
-same-length c = search needs
-
 returns : tie.Need-returns
 unfolding originText
 returns c =
     arm (ap originText (sym (c .before .before .before .before .before .enum-told .given .1))) (c .before .before .before .before .before .before .before .before .pre) (c .before .before .put-bytes .ensures)
 
-same-length-2 : tie.Need-same-length-2
-same-length-2 c = search needs
+same-length : tie.Need-same-length
+same-length c = wrote-length (returns c)
 
 returns-2 : tie.Need-returns-2
 unfolding originText
 returns-2 c =
     as-text (ap originText (sym (c .before .before .before .before .before .from .given .1))) (c .before .before .put-from .ensures)
+
+same-length-2 : tie.Need-same-length-2
+same-length-2 c = wrote-length (returns-2 c)
 
 pub put-origin-spec : {M : Type 1} → statement M
 put-origin-spec =

@@ -4,7 +4,7 @@ use mathlib.Core.Path.{sym, ap, _∙_}
 use borrow.Author.Needs.{needs}
 use Rattle.spell.specs.Tables.{writtenSpecials}
 use Rattle.spell.specs.Spell.{spelled}
-use Rattle.lent.proofs.Writes.{as-text, nothing}
+use Rattle.lent.proofs.Writes.{as-text, nothing, wrote-length}
 use Rattle.converter.specs.Entries.{specialText, playText}
 use Rattle.converter.proofs.Worded.{room-of, arm}
 use Rattle.converter.proofs.kif.put_play.Statement.{statement}
@@ -33,21 +33,21 @@ returns : tie.Need-returns
 unfolding playText
 returns c = as-text (ap playText (sym (c .enum-told .given .1))) (nothing _)
 
-same-length : tie.Need-same-length
-same-length c = search needs
-
 returns-2 : tie.Need-returns-2
 unfolding playText
 returns-2 c =
     as-text (ap playText (sym (c .before .before .before .before .before .e .given .1))) (c .before .before .put-move .ensures)
 
-same-length-2 : tie.Need-same-length-2
-same-length-2 c = search needs
+same-length : tie.Need-same-length
+same-length c = wrote-length (returns-2 c)
 
 returns-3 : tie.Need-returns-3
 unfolding playText specialText
 returns-3 c =
     arm (ap (spelled writtenSpecials) (c .before .before .before .number-of .ensures) ∙ ap playText (sym (c .before .before .before .before .before .before .e2 .given .1))) (c .before .before .before .before .before .before .before .before .before .pre) (c .before .before .put-special .ensures)
+
+same-length-2 : tie.Need-same-length-2
+same-length-2 c = wrote-length (returns-3 c)
 
 pub put-play-spec : {M : Type 1} → statement M
 put-play-spec =

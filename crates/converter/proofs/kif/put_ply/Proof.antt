@@ -1,5 +1,6 @@
 -- The number and the space after it, for which there is room.
 -- Assumes nothing.
+use Rattle.lent.proofs.Writes.{wrote-length}
 use mathlib.Core.List.{[], _∷_}
 use borrow.Author.Needs.{needs}
 use Rattle.lent.specs.Numbers.{padded}
@@ -28,12 +29,12 @@ put-bytes-requires c κs = search needs
 add-result : tie.Need-add-result
 add-result c = search needs
 
-same-length : tie.Need-same-length
-same-length c = search needs
-
 returns : tie.Need-returns
 returns c =
     two-of (padded 4 32 (c .before .before .before .before .before .before .before .before .before .before .args .ply)) (32 ∷ []) (c .before .before .before .before .before .before .before .before .before .before .pre) (c .before .before .before .before .before .before .before .put-padded .ensures) (c .before .before .put-bytes .ensures)
+
+same-length : tie.Need-same-length
+same-length c = wrote-length (returns c)
 
 pub put-ply-spec : {M : Type 1} → statement M
 put-ply-spec =

@@ -3,7 +3,7 @@
 use mathlib.Core.Path.{sym}
 use borrow.Author.Tests.{eq-eqb, ne-eqb}
 use borrow.Author.Needs.{needs}
-use Rattle.lent.proofs.Writes.{as-text, nothing}
+use Rattle.lent.proofs.Writes.{as-text, nothing, wrote-length}
 use Rattle.converter.specs.Entries.{promoteText}
 use Rattle.converter.proofs.Worded.{arm}
 use Rattle.converter.proofs.kif.put_promote.Statement.{statement}
@@ -19,13 +19,13 @@ slice-aggregate-put-bytes c = search needs
 put-bytes-requires : tie.Need-put-bytes-requires
 put-bytes-requires c κs = search needs
 
-same-length : tie.Need-same-length
-same-length c = search needs
-
 returns-2 : tie.Need-returns-2
 unfolding promoteText
 returns-2 c =
     arm (sym (simp (eq-eqb _ _ (c .before .before .before .before .before .if1 .left)))) (c .before .before .before .before .before .before .before .pre) (c .before .before .put-bytes .ensures)
+
+same-length : tie.Need-same-length
+same-length c = wrote-length (returns-2 c)
 
 pub put-promote-spec : {M : Type 1} → statement M
 put-promote-spec =

@@ -1,5 +1,6 @@
 -- The star, the comment and the line feed are the three pieces of its line, written one after another; the whole fits, so each piece does.
 -- Assumes nothing.
+use Rattle.lent.proofs.Writes.{wrote-length}
 use mathlib.Core.List.{[], _∷_, _++_}
 use denote.Ref.{now}
 use borrow.Author.Needs.{needs}
@@ -47,15 +48,15 @@ put-bytes-requires-2 c κs = search needs
 add-result : tie.Need-add-result
 add-result c = search needs
 
-same-length : tie.Need-same-length
-same-length c = search needs
-
 returns : tie.Need-returns
 unfolding remarkText
 returns c =
     let t = now (c .before .before .before .before .before .before .before .before .before .before .before .before .before .before .before .args .c) in
     let w = then-piece t (c .before .before .before .before .before .before .before .before .before .before .before .put-star .ensures) (room-front (starText t ++ t) (10 ∷ []) (c .before .before .before .before .before .before .before .before .before .before .before .before .before .before .before .pre)) (c .before .before .before .before .before .before .before .put-bytes .ensures) in
     then-piece (10 ∷ []) w (c .before .before .before .before .before .before .before .before .before .before .before .before .before .before .before .pre) (c .before .before .put-bytes2 .ensures)
+
+same-length : tie.Need-same-length
+same-length c = wrote-length (returns c)
 
 pub put-remark-spec : {M : Type 1} → statement M
 put-remark-spec =

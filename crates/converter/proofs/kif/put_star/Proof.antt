@@ -4,7 +4,7 @@ use mathlib.Core.List.{[], _∷_}
 use mathlib.Core.Path.{sym, _∙_}
 use borrow.Author.Needs.{needs}
 use borrow.Author.Tests.{eq-eqb, ne-eqb}
-use Rattle.lent.proofs.Writes.{nothing, wrote-all}
+use Rattle.lent.proofs.Writes.{nothing, wrote-all, wrote-length}
 use Rattle.converter.specs.Entries.{starText}
 use Rattle.converter.proofs.kif.put_star.Statement.{statement}
 use Rattle.converter.proofs.kif.put_star.Tie as tie
@@ -23,14 +23,14 @@ slice-aggregate-put-bytes c = search needs
 put-bytes-requires : tie.Need-put-bytes-requires
 put-bytes-requires c κs = search needs
 
-same-length : tie.Need-same-length
-same-length c = search needs
-
 returns-2 : tie.Need-returns-2
 unfolding starText
 returns-2 c =
     let e = ne-eqb _ _ (λ z. c .before .before .before .before .before .if1 .left (c .before .before .before .before .before .before .peek .ensures ∙ z)) in
     rw e (wrote-all {t = 42 ∷ []} (rw e at (c .before .before .before .before .before .before .before .before .before .pre)) (c .before .before .put-bytes .ensures))
+
+same-length : tie.Need-same-length
+same-length c = wrote-length (returns-2 c)
 
 pub put-star-spec : {M : Type 1} → statement M
 put-star-spec =

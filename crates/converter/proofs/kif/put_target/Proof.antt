@@ -4,7 +4,7 @@ use mathlib.Core.Path.{sym, ap}
 use borrow.Author.Needs.{needs}
 use Rattle.spell.specs.Tables.{numerals, files}
 use Rattle.spell.specs.Spell.{spelled}
-use Rattle.lent.proofs.Writes.{as-text}
+use Rattle.lent.proofs.Writes.{as-text, wrote-length}
 use Rattle.converter.specs.Entries.{targetText}
 use Rattle.converter.proofs.Worded.{room-of, arm}
 use Rattle.converter.proofs.kif.put_target.Statement.{statement}
@@ -41,16 +41,13 @@ put-numeral-requires c κs = search needs
 add-result : tie.Need-add-result
 add-result c = search needs
 
-same-length : tie.Need-same-length
-same-length c = search needs
-
 returns : tie.Need-returns
 unfolding targetText
 returns c =
     arm (ap targetText (sym (c .before .before .before .before .before .enum-told .given .1))) (c .before .before .before .before .before .before .before .before .pre) (c .before .before .put-bytes .ensures)
 
-same-length-2 : tie.Need-same-length-2
-same-length-2 c = search needs
+same-length : tie.Need-same-length
+same-length c = wrote-length (returns c)
 
 returns-2 : tie.Need-returns-2
 unfolding targetText
@@ -58,6 +55,9 @@ returns-2 c =
     let t = c .before .before .before .before .before .before .before .before .before .to .given in
     as-text (ap targetText (sym (t .1)))
     (two-of (spelled files (t .0 .0)) (spelled numerals (t .0 .1 .0)) (room-of targetText (t .1) (c .before .before .before .before .before .before .before .before .before .before .before .before .pre)) (c .before .before .before .before .before .before .put-file .ensures) (c .before .before .put-numeral .ensures))
+
+same-length-2 : tie.Need-same-length-2
+same-length-2 c = wrote-length (returns-2 c)
 
 pub put-target-spec : {M : Type 1} → statement M
 put-target-spec =

@@ -2,7 +2,7 @@
 -- Assumes nothing.
 use mathlib.Core.Path.{sym, ap}
 use borrow.Author.Needs.{needs}
-use Rattle.lent.proofs.Writes.{as-text, nothing, then}
+use Rattle.lent.proofs.Writes.{as-text, nothing, then, wrote-length}
 use Rattle.converter.specs.Entries.{nowText, totalText, padding, timeText}
 use Rattle.converter.proofs.Worded.{three, room-of}
 use Rattle.converter.proofs.kif.put_time.Statement.{statement}
@@ -68,13 +68,13 @@ unfolding timeText
 returns c =
     as-text (ap (timeText (c .before .before .before .args .width)) (sym (c .enum-told .given .1))) (nothing _)
 
-same-length : tie.Need-same-length
-same-length c = search needs
-
 returns-2 : tie.Need-returns-2
 unfolding timeText
 returns-2 c =
     as-text (ap (timeText (c .before .before .before .before .before .before .before .before .before .before .before .before .before .before .before .before .args .width)) (sym (c .before .before .before .before .before .before .before .before .before .before .before .before .before .time .given .1))) (then (then (c .before .before .before .before .before .before .before .before .before .before .put-padding .ensures) (c .before .before .before .before .before .before .put-now .ensures)) (c .before .before .put-total .ensures))
+
+same-length : tie.Need-same-length
+same-length c = wrote-length (returns-2 c)
 
 pub put-time-spec : {M : Type 1} → statement M
 put-time-spec =

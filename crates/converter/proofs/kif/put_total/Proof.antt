@@ -2,7 +2,7 @@
 -- Assumes nothing.
 use mathlib.Core.Path.{ap}
 use borrow.Author.Needs.{needs}
-use Rattle.lent.proofs.Writes.{as-text, then}
+use Rattle.lent.proofs.Writes.{as-text, then, wrote-length}
 use Rattle.converter.specs.Entries.{minute, second, figureText, totalText}
 use Rattle.converter.proofs.Worded.{total-room}
 use Rattle.converter.proofs.kif.put_total.Statement.{statement}
@@ -60,15 +60,15 @@ put-figure-requires-3 c κs =
 add-result : tie.Need-add-result
 add-result c = search needs
 
-same-length : tie.Need-same-length
-same-length c = search needs
-
 returns : tie.Need-returns
 unfolding totalText
 returns c =
     then
     (then (as-text (ap (figureText 48 58) (c .before .before .before .before .before .before .before .before .before .before .before .before .before .hour .ensures)) (c .before .before .before .before .before .before .before .before .before .before .before .before .put-figure .ensures)) (as-text (ap (figureText 48 58) (c .before .before .before .before .before .before .before .before .minute .ensures)) (c .before .before .before .before .before .before .before .put-figure2 .ensures)))
     (as-text (ap (figureText 48 41) (c .before .before .before .second .ensures)) (c .before .before .put-figure3 .ensures))
+
+same-length : tie.Need-same-length
+same-length c = wrote-length (returns c)
 
 pub put-total-spec : {M : Type 1} → statement M
 put-total-spec =

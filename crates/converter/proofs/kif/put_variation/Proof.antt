@@ -5,7 +5,7 @@ use mathlib.Core.Path.{refl}
 use denote.Ref.{now}
 use borrow.Author.Needs.{needs}
 use Rattle.block.specs.Decode.{run, notedIn, firstEntry, entryCount}
-use Rattle.lent.proofs.Writes.{as-text, then}
+use Rattle.lent.proofs.Writes.{as-text, then, wrote-length}
 use Rattle.block.proofs.Within.{entries-within}
 use Rattle.converter.specs.Show.{variationHead}
 use Rattle.converter.specs.Entries.{entriesText}
@@ -58,14 +58,14 @@ put-entries-requires c κs =
 add-result : tie.Need-add-result
 add-result c = search needs
 
-same-length : tie.Need-same-length
-same-length c = search needs
-
 returns : tie.Need-returns
 returns c =
     let a = c .before .before .before .before .before .before .before .before .before .before .before .before .before .args in
     as-text (variation-text (now (a .b)) (a .k) (c .before .before .before .before .before .before .before .before .before .before .start-of .ensures .0) (c .before .before .before .before .first-entry .ensures .0) (c .before .before .before .entry-count .ensures .0))
     (then (c .before .before .before .before .before .before .before .before .put-variation-head .ensures) (c .before .before .put-entries .ensures))
+
+same-length : tie.Need-same-length
+same-length c = wrote-length (returns c)
 
 pub put-variation-spec : {M : Type 1} → statement M
 put-variation-spec =

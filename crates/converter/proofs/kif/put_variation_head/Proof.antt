@@ -3,7 +3,7 @@
 use Prim.Native.Nat.{ℕ}
 use mathlib.Core.List.{List, _∷_, _++_}
 use borrow.Author.Needs.{needs}
-use Rattle.lent.proofs.Writes.{wrote-all}
+use Rattle.lent.proofs.Writes.{wrote-all, wrote-length}
 use Rattle.lent.specs.Numbers.{decimal}
 use Rattle.converter.specs.Show.{variationHead, variationTag, plyTag}
 use Rattle.lent.proofs.Room.{then-piece, room-front}
@@ -49,9 +49,6 @@ put-bytes-requires-2 c κs = search needs
 add-result : tie.Need-add-result
 add-result c = search needs
 
-same-length : tie.Need-same-length
-same-length c = search needs
-
 returns : tie.Need-returns
 unfolding variationHead
 returns c =
@@ -60,6 +57,9 @@ returns c =
     let h = room-front (t ++ d) plyTag (c .before .before .before .before .before .before .before .before .before .before .before .before .before .before .before .pre) in
     let w = wrote-all {t = t} (room-front t d h) (c .before .before .before .before .before .before .before .before .before .before .before .put-bytes .ensures) in
     then-piece plyTag (then-piece d w h (c .before .before .before .before .before .before .before .put-decimal .ensures)) (c .before .before .before .before .before .before .before .before .before .before .before .before .before .before .before .pre) (c .before .before .put-bytes2 .ensures)
+
+same-length : tie.Need-same-length
+same-length c = wrote-length (returns c)
 
 pub put-variation-head-spec : {M : Type 1} → statement M
 put-variation-head-spec =

@@ -3,7 +3,7 @@
 use Prim.Native.Nat.{ℕ}
 use mathlib.Core.List.{List, [], _∷_, _++_}
 use borrow.Author.Needs.{needs}
-use Rattle.lent.proofs.Writes.{then}
+use Rattle.lent.proofs.Writes.{then, wrote-length}
 use Rattle.kakinoki.specs.Boards.{filesTag, ruleTag}
 use Rattle.converter.specs.Diagrams.{rowsText, boardText}
 use Rattle.converter.proofs.starts.put_board.Statement.{statement}
@@ -57,15 +57,15 @@ put-bytes-requires-2 c κs = search needs
 add-result : tie.Need-add-result
 add-result c = search needs
 
-same-length : tie.Need-same-length
-same-length c = search needs
-
 returns : tie.Need-returns
 unfolding boardText
 returns c =
     let t = rowsText (c .before .before .before .before .before .before .before .before .before .before .before .before .before .before .before .before .args .cells .now) in
     let h = room-front (head ++ t) (ruleTag ++ (10 ∷ [])) (c .before .before .before .before .before .before .before .before .before .before .before .before .before .before .before .before .pre) in
     then-piece (ruleTag ++ (10 ∷ [])) (then (first-of head t h (c .before .before .before .before .before .before .before .before .before .before .before .put-bytes .ensures)) (c .before .before .before .before .before .before .before .put-rows .ensures)) (c .before .before .before .before .before .before .before .before .before .before .before .before .before .before .before .before .pre) (c .before .before .put-bytes2 .ensures)
+
+same-length : tie.Need-same-length
+same-length c = wrote-length (returns c)
 
 pub put-board-spec : {M : Type 1} → statement M
 put-board-spec =

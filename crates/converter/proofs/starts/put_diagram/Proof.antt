@@ -2,7 +2,7 @@
 -- Assumes nothing.
 use mathlib.Core.List.{_++_}
 use borrow.Author.Needs.{needs}
-use Rattle.lent.proofs.Writes.{then}
+use Rattle.lent.proofs.Writes.{then, wrote-length}
 use Rattle.converter.specs.Diagrams.{presetLine, handLine, boardText, turnText, diagramText}
 use Rattle.converter.proofs.starts.put_diagram.Statement.{statement}
 use Rattle.converter.proofs.starts.put_diagram.Tie as tie
@@ -55,12 +55,12 @@ put-turn-requires c κs = room-after (turnText (c .before .before .before .befor
 add-result : tie.Need-add-result
 add-result c = search needs
 
-same-length : tie.Need-same-length
-same-length c = search needs
-
 returns : tie.Need-returns
 unfolding diagramText
 returns c = then (then (c .before .before .before .before .before .before .before .before .before .before .before .put-upper .ensures) (c .before .before .before .before .before .before .put-hand-line .ensures)) (c .before .before .put-turn .ensures)
+
+same-length : tie.Need-same-length
+same-length c = wrote-length (returns c)
 
 pub put-diagram-spec : {M : Type 1} → statement M
 put-diagram-spec =

@@ -4,7 +4,7 @@ use native.Mathlib.Omega.{arith}
 use mathlib.Core.Path.{sym, ap, _∙_}
 use lib.ListN.{length}
 use borrow.Author.Needs.{needs}
-use Rattle.lent.proofs.Writes.{as-text}
+use Rattle.lent.proofs.Writes.{as-text, wrote-length}
 use Rattle.kakinoki.specs.Informations.{noneTag}
 use Rattle.converter.specs.Diagrams.{allHeld}
 use Rattle.converter.proofs.Cased.{hand-none, hand-some, hand-room}
@@ -23,9 +23,6 @@ slice-aggregate-put-bytes c = search needs
 put-bytes-requires : tie.Need-put-bytes-requires
 put-bytes-requires c κs = search needs
 
-same-length : tie.Need-same-length
-same-length c = search needs
-
 returns : tie.Need-returns
 returns c =
     let a = c .before .before .before .before .before .before .before .before .before .before .before .before .args in
@@ -34,14 +31,17 @@ returns c =
     let e = hand-none (allHeld (a .hands .now) (a .side)) (sym (w .count) ∙ n) in
     as-text (sym e) (instead noneTag w n (omega (arith, ap length e, c .before .before .before .before .before .before .before .before .before .before .before .before .pre .1)) (c .before .before .put-bytes .ensures))
 
-same-length-2 : tie.Need-same-length-2
-same-length-2 c = search needs
+same-length : tie.Need-same-length
+same-length c = wrote-length (returns c)
 
 returns-2 : tie.Need-returns-2
 returns-2 c =
     let a = c .before .before .before .before .before .before .before .args in
     let w = c .before .before .before .put-all-held .ensures in
     as-text (sym (hand-some (allHeld (a .hands .now) (a .side)) (λ z. c .if1 .left (w .count ∙ z)))) w
+
+same-length-2 : tie.Need-same-length-2
+same-length-2 c = wrote-length (returns-2 c)
 
 pub put-hand-spec : {M : Type 1} → statement M
 put-hand-spec =

@@ -2,7 +2,7 @@
 -- Assumes nothing.
 use mathlib.Core.List.{[], _∷_, _++_}
 use borrow.Author.Needs.{needs}
-use Rattle.lent.proofs.Writes.{then}
+use Rattle.lent.proofs.Writes.{then, wrote-length}
 use Rattle.spell.specs.Spell.{spelled}
 use Rattle.spell.specs.Tables.{sides}
 use Rattle.kakinoki.specs.Informations.{handsTag}
@@ -74,9 +74,6 @@ put-bytes-requires-2 c κs = search needs
 add-result : tie.Need-add-result
 add-result c = search needs
 
-same-length : tie.Need-same-length
-same-length c = search needs
-
 returns : tie.Need-returns
 unfolding handLine
 returns c =
@@ -85,6 +82,9 @@ returns c =
     let t = orNone (allHeld (a .hands .now) (a .side)) in
     let h = room-front (s ++ handsTag) t (room-front ((s ++ handsTag) ++ t) (10 ∷ []) (c .before .before .before .before .before .before .before .before .before .before .before .before .before .before .before .before .before .before .before .before .pre .1)) in
     then-piece (10 ∷ []) (then (two-of s handsTag h (c .before .before .before .before .before .before .before .before .before .before .before .before .before .before .before .before .put-side .ensures) (c .before .before .before .before .before .before .before .before .before .before .before .put-bytes .ensures)) (c .before .before .before .before .before .before .before .put-hand .ensures)) (c .before .before .before .before .before .before .before .before .before .before .before .before .before .before .before .before .before .before .before .before .pre .1) (c .before .before .put-bytes2 .ensures)
+
+same-length : tie.Need-same-length
+same-length c = wrote-length (returns c)
 
 pub put-hand-line-spec : {M : Type 1} → statement M
 put-hand-line-spec =

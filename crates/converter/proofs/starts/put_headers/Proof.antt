@@ -2,7 +2,7 @@
 -- Assumes nothing.
 use denote.Ref.{now}
 use borrow.Author.Needs.{needs}
-use Rattle.lent.proofs.Writes.{then}
+use Rattle.lent.proofs.Writes.{then, wrote-length}
 use Rattle.converter.specs.Headers.{linesOf, headersOf, headersText}
 use Rattle.converter.proofs.Heading.{leads}
 use Rattle.converter.proofs.starts.put_headers.Statement.{statement}
@@ -39,13 +39,13 @@ put-others-requires c κs =
 add-result : tie.Need-add-result
 add-result c = search needs
 
-same-length : tie.Need-same-length
-same-length c = search needs
-
 returns : tie.Need-returns
 unfolding headersText
 returns c =
     then (c .before .before .before .before .before .before .put-leading .ensures) (c .before .before .put-others .ensures)
+
+same-length : tie.Need-same-length
+same-length c = wrote-length (returns c)
 
 pub put-headers-spec : {M : Type 1} → statement M
 put-headers-spec =

@@ -7,7 +7,7 @@ use mathlib.Core.Path.{sym, ap}
 use lib.ListN.{length}
 use borrow.Author.Needs.{needs}
 use Rattle.text.specs.Text.{wideSpace}
-use Rattle.lent.proofs.Writes.{as-text, nothing, then}
+use Rattle.lent.proofs.Writes.{as-text, nothing, then, wrote-length}
 use Rattle.spell.specs.Spell.{spelled}
 use Rattle.spell.specs.Tables.{kinds}
 use Rattle.converter.proofs.Cased.{moreText, held-none, held-some}
@@ -61,9 +61,6 @@ put-bytes-requires c κs = search needs
 add-result : tie.Need-add-result
 add-result c = search needs
 
-same-length : tie.Need-same-length
-same-length c = search needs
-
 returns-2 : tie.Need-returns-2
 returns-2 c =
     let a = c .before .before .before .before .before .before .before .before .before .before .before .before .before .before .before .args in
@@ -73,6 +70,9 @@ returns-2 c =
     let h : length ((k ++ m) ++ wideSpace) ≤ length (a .out .now) = omega (arith, ap length e, c .before .before .before .before .before .before .before .before .before .before .before .before .before .before .before .pre) in
     let w = first-of k m (room-front (k ++ m) wideSpace h) (c .before .before .before .before .before .before .before .before .before .before .before .put-board-kind .ensures) in
     as-text (sym e) (then-piece wideSpace (then w (c .before .before .before .before .before .before .before .put-more .ensures)) h (c .before .before .put-bytes .ensures))
+
+same-length : tie.Need-same-length
+same-length c = wrote-length (returns-2 c)
 
 pub put-held-spec : {M : Type 1} → statement M
 put-held-spec =

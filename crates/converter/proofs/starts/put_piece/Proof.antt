@@ -1,5 +1,6 @@
 -- The mark and the kind: room for both is room for each.
 -- Assumes nothing.
+use Rattle.lent.proofs.Writes.{wrote-length}
 use mathlib.Core.List.{[], _∷_}
 use borrow.Author.Needs.{needs}
 use Rattle.spell.specs.Spell.{spelled}
@@ -29,13 +30,13 @@ put-board-kind-requires c κs = search needs
 add-result : tie.Need-add-result
 add-result c = search needs
 
-same-length : tie.Need-same-length
-same-length c = search needs
-
 returns : tie.Need-returns
 returns c =
     let a = c .before .before .before .before .before .before .before .before .before .before .args in
     two-of (a .before ∷ []) (spelled kinds (a .kind)) (c .before .before .before .before .before .before .before .before .before .before .pre) (c .before .before .before .before .before .before .put-bytes .ensures) (c .before .before .put-board-kind .ensures)
+
+same-length : tie.Need-same-length
+same-length c = wrote-length (returns c)
 
 pub put-piece-spec : {M : Type 1} → statement M
 put-piece-spec =

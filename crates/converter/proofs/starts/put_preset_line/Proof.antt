@@ -1,5 +1,6 @@
 -- 手合割：, the spelling and LF: room for the line is room for each piece.
 -- Assumes nothing.
+use Rattle.lent.proofs.Writes.{wrote-length}
 use mathlib.Core.List.{[], _∷_}
 use borrow.Author.Needs.{needs}
 use Rattle.spell.specs.Spell.{spelled}
@@ -49,14 +50,14 @@ put-bytes-requires-2 c κs = search needs
 add-result : tie.Need-add-result
 add-result c = search needs
 
-same-length : tie.Need-same-length
-same-length c = search needs
-
 returns : tie.Need-returns
 unfolding presetLine
 returns c =
     three-of presetTag (spelled presets (c .before .before .before .before .before .before .before .before .before .before .before .before .before .before .before .args .preset)) (10 ∷ []) (c .before .before .before .before .before .before .before .before .before .before .before .before .before .before .before .pre)
     (c .before .before .before .before .before .before .before .before .before .before .before .put-bytes .ensures) (c .before .before .before .before .before .before .before .put-preset .ensures) (c .before .before .put-bytes2 .ensures)
+
+same-length : tie.Need-same-length
+same-length c = wrote-length (returns c)
 
 pub put-preset-line-spec : {M : Type 1} → statement M
 put-preset-line-spec =

@@ -3,7 +3,7 @@
 use Prim.Native.Nat.{_+_}
 use mathlib.Core.List.{[], _∷_, _++_}
 use borrow.Author.Needs.{needs}
-use Rattle.lent.proofs.Writes.{then}
+use Rattle.lent.proofs.Writes.{then, wrote-length}
 use Rattle.spell.specs.Spell.{spelled}
 use Rattle.spell.specs.Tables.{numerals}
 use Rattle.converter.specs.Diagrams.{cellsText, rowText}
@@ -58,9 +58,6 @@ put-row-end-requires c κs =
 add-result : tie.Need-add-result
 add-result c = search needs
 
-same-length : tie.Need-same-length
-same-length c = search needs
-
 returns : tie.Need-returns
 unfolding rowText
 returns c =
@@ -68,6 +65,9 @@ returns c =
     let t = cellsText (a .cells .now) (a .rank) in
     let h = room-front ((124 ∷ []) ++ t) (((124 ∷ []) ++ spelled numerals (a .rank + 1)) ++ (10 ∷ [])) (c .before .before .before .before .before .before .before .before .before .before .before .before .before .before .before .pre .1) in
     then (then (first-of (124 ∷ []) t h (c .before .before .before .before .before .before .before .before .before .before .put-bytes .ensures)) (c .before .before .before .before .before .before .put-cells .ensures)) (c .before .before .put-row-end .ensures)
+
+same-length : tie.Need-same-length
+same-length c = wrote-length (returns c)
 
 pub put-row-spec : {M : Type 1} → statement M
 put-row-spec =

@@ -1,5 +1,6 @@
 -- |, the numeral and LF: room for all is room for each.
 -- Assumes nothing.
+use Rattle.lent.proofs.Writes.{wrote-length}
 use Prim.Native.Nat.{_+_}
 use mathlib.Core.List.{[], _∷_}
 use borrow.Author.Needs.{needs}
@@ -54,13 +55,13 @@ put-bytes-requires-2 c κs = search needs
 add-result : tie.Need-add-result
 add-result c = search needs
 
-same-length : tie.Need-same-length
-same-length c = search needs
-
 returns : tie.Need-returns
 returns c =
     three-of (124 ∷ []) (spelled numerals (c .before .before .before .before .before .before .before .before .before .before .before .before .before .before .before .args .rank + 1)) (10 ∷ []) (c .before .before .before .before .before .before .before .before .before .before .before .before .before .before .before .pre .1)
     (c .before .before .before .before .before .before .before .before .before .before .before .put-bytes .ensures) (c .before .before .before .before .before .before .before .put-numeral .ensures) (c .before .before .put-bytes2 .ensures)
+
+same-length : tie.Need-same-length
+same-length c = wrote-length (returns c)
 
 pub put-row-end-spec : {M : Type 1} → statement M
 put-row-end-spec =

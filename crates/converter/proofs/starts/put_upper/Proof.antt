@@ -2,7 +2,7 @@
 -- Assumes nothing.
 use mathlib.Core.List.{_++_}
 use borrow.Author.Needs.{needs}
-use Rattle.lent.proofs.Writes.{then}
+use Rattle.lent.proofs.Writes.{then, wrote-length}
 use Rattle.converter.specs.Diagrams.{presetLine, handLine, boardText}
 use Rattle.converter.proofs.starts.put_upper.Statement.{statement}
 use Rattle.converter.proofs.starts.put_upper.Tie as tie
@@ -52,11 +52,11 @@ put-board-requires c κs = room-after (boardText (c .before .before .before .bef
 add-result : tie.Need-add-result
 add-result c = search needs
 
-same-length : tie.Need-same-length
-same-length c = search needs
-
 returns : tie.Need-returns
 returns c = then (then (c .before .before .before .before .before .before .before .before .before .before .before .before .put-preset-line .ensures) (c .before .before .before .before .before .before .before .put-hand-line .ensures)) (c .before .before .put-board .ensures)
+
+same-length : tie.Need-same-length
+same-length c = wrote-length (returns c)
 
 pub put-upper-spec : {M : Type 1} → statement M
 put-upper-spec =

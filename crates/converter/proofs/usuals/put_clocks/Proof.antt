@@ -1,5 +1,6 @@
 -- The bytes are those of the time (`clocks-text`); the minutes fill their tens with a space.
 -- Assumes nothing.
+use Rattle.lent.proofs.Writes.{wrote-length}
 use mathlib.Core.Logic.{⊎-elim}
 use denote.Ref.{now}
 use Rattle.lent.proofs.Room.{bytes-of}
@@ -59,15 +60,15 @@ slice-aggregate-put-bytes c = search needs
 put-bytes-requires : tie.Need-put-bytes-requires
 put-bytes-requires c κs = search needs
 
-same-length : tie.Need-same-length
-same-length c = search needs
-
 returns : tie.Need-returns
 returns c =
     let s = c .before .before .before .before .before .before .before .before .before .before .before .before .before in
     let row = now (s .args .row) in
     let e = ⊎-elim (λ w. blank-none (w .0 .taken) (w .1)) (λ w. blank-some (w .0 .left) (w .1)) (c .before .before .before .before .before .if1 .came) in
     bytes-of (clocks-text row (s .pre .0) e) (s .pre .1) (c .before .before .put-bytes .ensures)
+
+same-length : tie.Need-same-length
+same-length c = wrote-length (returns c)
 
 pub put-clocks-spec : {M : Type 1} → statement M
 put-clocks-spec =

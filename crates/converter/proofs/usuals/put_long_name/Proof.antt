@@ -1,5 +1,6 @@
 -- The bytes are those of the name (`long-text`): the first character is the kind's, and the second is chosen.
 -- Assumes nothing.
+use Rattle.lent.proofs.Writes.{wrote-length}
 use mathlib.Core.Path.{_∙_}
 use mathlib.Core.Logic.{⊎-elim}
 use denote.Ref.{now}
@@ -63,9 +64,6 @@ slice-aggregate-put-bytes c = search needs
 put-bytes-requires : tie.Need-put-bytes-requires
 put-bytes-requires c κs = search needs
 
-same-length : tie.Need-same-length
-same-length c = search needs
-
 returns : tie.Need-returns
 returns c =
     let s = c .before .before .before .before .before .before .before .before .before .before .before .before .before .before in
@@ -75,6 +73,9 @@ returns c =
     let l = c .before .before .before .before .before .before .before .before .if1 in
     let second = ⊎-elim (λ w. second-kind row u (w .0 .taken) (w .3 ∙ w .2 .ensures)) (λ w. second-promoted row u (w .0 .left) (w .1)) (l .came) in
     bytes-of (long-text row u (k .result) (l .l) (s .pre .1) (first-kind row u (k .ensures)) second) (s .pre .2) (c .before .before .put-bytes .ensures)
+
+same-length : tie.Need-same-length
+same-length c = wrote-length (returns c)
 
 pub put-long-name-spec : {M : Type 1} → statement M
 put-long-name-spec =

@@ -1,5 +1,6 @@
 -- A name of two characters is put by itself; the bytes of any other are its kind, its origin and spaces (`short-text`).
 -- Assumes nothing.
+use Rattle.lent.proofs.Writes.{wrote-length}
 use mathlib.Core.Path.{sym, _∙_}
 use denote.Ref.{now}
 use Rattle.lent.proofs.Room.{bytes-of}
@@ -14,11 +15,11 @@ is-long-requires c κs = search needs
 put-long-name-requires : tie.Need-put-long-name-requires
 put-long-name-requires c κs = (c .before .before .before .before .before .pre .0, sym (c .before .before .is-long .ensures) ∙ c .before .if1 .taken, c .before .before .before .before .before .pre .1)
 
-same-length : tie.Need-same-length
-same-length c = search needs
-
 returns : tie.Need-returns
 returns c = search needs
+
+same-length : tie.Need-same-length
+same-length c = wrote-length (returns c)
 
 shared-slice-read-kind-key : tie.Need-shared-slice-read-kind-key
 shared-slice-read-kind-key c = search needs
@@ -53,13 +54,13 @@ slice-aggregate-put-bytes c = search needs
 put-bytes-requires : tie.Need-put-bytes-requires
 put-bytes-requires c κs = search needs
 
-same-length-2 : tie.Need-same-length-2
-same-length-2 c = search needs
-
 returns-2 : tie.Need-returns-2
 returns-2 c =
     let s = c .before .before .before .before .before .before .before .before .before .before .before .before .before in
     bytes-of (short-text (now (s .args .row)) (s .pre .0) (c .before .before .before .before .before .before .before .kind-key .result) (sym (c .before .before .before .before .before .before .before .before .before .before .is-long .ensures) ∙ c .before .before .before .before .before .before .before .before .before .if1 .left) (c .before .before .before .before .before .before .before .kind-key .ensures)) (s .pre .1) (c .before .before .put-bytes .ensures)
+
+same-length-2 : tie.Need-same-length-2
+same-length-2 c = wrote-length (returns-2 c)
 
 pub put-name-spec : {M : Type 1} → statement M
 put-name-spec =

@@ -1,5 +1,6 @@
 -- The bytes are those of the ply and of the target (`start-text`); the two characters of the target are chosen alike.
 -- Assumes nothing.
+use Rattle.lent.proofs.Writes.{wrote-length}
 use native.Mathlib.Omega.{arith}
 use mathlib.Core.Logic.{⊎-elim}
 use mathlib.Core.Path.{_∙_}
@@ -67,9 +68,6 @@ slice-aggregate-put-bytes c = search needs
 put-bytes-requires : tie.Need-put-bytes-requires
 put-bytes-requires c κs = search needs
 
-same-length : tie.Need-same-length
-same-length c = search needs
-
 returns : tie.Need-returns
 returns c =
     let s = c .before .before .before .before .before .before .before .before .before .before .before .before .before .before .before in
@@ -78,6 +76,9 @@ returns c =
     let f = ⊎-elim (λ w. file-same row u (w .0 .taken) (w .1)) (λ w. file-square row u (w .0 .left) (w .2)) (c .before .before .before .before .before .before .before .before .before .before .before .if1 .came) in
     let r = ⊎-elim (λ w. rank-same row u (w .0 .taken) (w .1)) (λ w. rank-square row u (w .0 .left) (w .3 ∙ w .2 .ensures)) (c .before .before .before .before .before .before .before .before .before .if2 .came) in
     bytes-of (start-text row u (c .before .before .before .before .before .before .before .before .before .before .before .if1 .file) (c .before .before .before .before .before .before .before .before .before .if2 .rank) (s .pre .1) (c .before .before .before .before .before .before .before .spaced .ensures) (c .before .before .before .before .before .before .spaced2 .ensures) f r) (s .pre .2) (c .before .before .put-bytes .ensures)
+
+same-length : tie.Need-same-length
+same-length c = wrote-length (returns c)
 
 pub put-start-spec : {M : Type 1} → statement M
 put-start-spec =

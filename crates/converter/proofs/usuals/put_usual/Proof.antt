@@ -2,7 +2,7 @@
 -- Assumes nothing.
 use mathlib.Core.Path.{sym}
 use denote.Ref.{now}
-use Rattle.lent.proofs.Writes.{as-text, then}
+use Rattle.lent.proofs.Writes.{as-text, then, wrote-length}
 use Rattle.converter.specs.Usuals.{nameText, clocksText}
 use Rattle.lent.proofs.Room.{room-after}
 use Rattle.converter.proofs.Usually.{usual-line, usual-room}
@@ -51,13 +51,13 @@ put-clocks-requires c κs =
 add-result : tie.Need-add-result
 add-result c = search needs
 
-same-length : tie.Need-same-length
-same-length c = search needs
-
 returns : tie.Need-returns
 returns c =
     let s = c .before .before .before .before .before .before .before .before .before .before .before .before .before .before in
     as-text (sym (usual-line (now (s .args .row)) (s .pre .0) (s .args .ply))) (then (then (c .before .before .before .before .before .before .before .before .before .before .put-start .ensures) (c .before .before .before .before .before .before .put-name .ensures)) (c .before .before .put-clocks .ensures))
+
+same-length : tie.Need-same-length
+same-length c = wrote-length (returns c)
 
 pub put-usual-spec : {M : Type 1} → statement M
 put-usual-spec =

@@ -3,7 +3,7 @@
 use native.Mathlib.Omega.{arith}
 use borrow.Author.Needs.{needs}
 use Rattle.jkf.proofs.EntriesBack.{entry-length}
-use Rattle.lent.proofs.Writes.{unwritten, written}
+use Rattle.lent.proofs.Writes.{unwritten, written, wrote-length}
 use Rattle.jkf.proofs.entries.put_entry.Statement.{statement}
 use Rattle.jkf.proofs.entries.put_entry.Tie as tie
 
@@ -15,11 +15,11 @@ returns c =
 put-parts-requires : tie.Need-put-parts-requires
 put-parts-requires c κs = search needs
 
-same-length : tie.Need-same-length
-same-length c = search needs
-
 returns-2 : tie.Need-returns-2
 returns-2 c = written (c .before .before .put-parts .ensures)
+
+same-length : tie.Need-same-length
+same-length c = wrote-length (returns-2 c)
 
 pub put-entry-spec : {M : Type 1} → statement M
 put-entry-spec = tie.close (tie.spec returns put-parts-requires same-length returns-2)

@@ -3,7 +3,7 @@
 use native.Mathlib.Omega.{arith}
 use borrow.Author.Needs.{needs}
 use Rattle.jkf.proofs.Entering.{head-made}
-use Rattle.lent.proofs.Writes.{as-text, wrote-all}
+use Rattle.lent.proofs.Writes.{as-text, wrote-all, wrote-length}
 use Rattle.jkf.proofs.entries.put_move_head.Statement.{statement}
 use Rattle.jkf.proofs.entries.put_move_head.Tie as tie
 
@@ -28,11 +28,11 @@ slice-aggregate-put-bytes c = search needs
 put-bytes-requires : tie.Need-put-bytes-requires
 put-bytes-requires c κs = search needs
 
-same-length : tie.Need-same-length
-same-length c = search needs
-
 returns : tie.Need-returns
 returns c = as-text (head-made (c .before .before .before .before .before .before .before .before .before .before .before .args .m) _ _ _ _ _ (c .before .before .before .before .before .before .before .before .before .target-field .ensures .2) (c .before .before .before .before .before .before .before .before .origin-field .ensures .2) (omega (arith, c .before .before .before .before .before .before .before .before .before .target-field .ensures .0, c .before .before .before .before .before .before .before .before .origin-field .ensures .0, c .before .before .before .before .before .time-mark .ensures .0))) (wrote-all (omega arith) (c .before .before .put-bytes .ensures))
+
+same-length : tie.Need-same-length
+same-length c = wrote-length (returns c)
 
 pub put-move-head-spec : {M : Type 1} → statement M
 put-move-head-spec =

@@ -63,9 +63,6 @@ put-bytes-requires c κs = search needs
 add-result : tie.Need-add-result
 add-result c = search needs
 
-same-length : tie.Need-same-length
-same-length c = search needs
-
 returns : tie.Need-returns
 returns c =
     let a = c .before .before .before .before .before .before .before .before .before .before .before .before .before .before .before .args in
@@ -74,6 +71,9 @@ returns c =
     let h = head-length (a .e) in
     let t = time-length (c .before .before .before .before .before .before .before .before .time-of .result) in
     as-text (parts-made (a .e) (c .before .before .before .before .before .before .before .before .time-of .result) (a .first) (a .count) (c .before .before .before .before .before .before .before .before .time-of .ensures)) (then-all ((0 ∷ []) ++ bytes16 (a .first) ++ bytes16 (a .count)) (then w v) (omega (arith, w .count, v .count)) (c .before .before .put-bytes .ensures))
+
+same-length : tie.Need-same-length
+same-length c = wrote-length (returns c)
 
 pub put-parts-spec : {M : Type 1} → statement M
 put-parts-spec =

@@ -6,7 +6,7 @@ use mathlib.Core.List.{List, [], _∷_, _++_}
 use mathlib.Core.Path.{sym, ap, ap₂, _∙_}
 use borrow.Author.Needs.{needs}
 use Rattle.jkf.specs.Entries.{timeBytes}
-use Rattle.lent.proofs.Writes.{as-text, wrote-all}
+use Rattle.lent.proofs.Writes.{as-text, wrote-all, wrote-length}
 use Rattle.jkf.proofs.entries.put_time.Statement.{statement}
 use Rattle.jkf.proofs.entries.put_time.Tie as tie
 
@@ -34,17 +34,17 @@ slice-aggregate-put-bytes-2 c = search needs
 put-bytes-requires-2 : tie.Need-put-bytes-requires-2
 put-bytes-requires-2 c κs = search needs
 
-same-length : tie.Need-same-length
-same-length c = search needs
-
 returns : tie.Need-returns
 returns c = as-text (ap timeBytes (sym (c .before .before .before .before .before .enum-told .given .1))) (wrote-all {t = 0 ∷ 0 ∷ 0 ∷ 0 ∷ 0 ∷ 0 ∷ []} (omega arith) (c .before .before .put-bytes .ensures))
 
-same-length-2 : tie.Need-same-length-2
-same-length-2 c = search needs
+same-length : tie.Need-same-length
+same-length c = wrote-length (returns c)
 
 returns-2 : tie.Need-returns-2
 returns-2 c = as-text (ap₂ (λ (a b : List ℕ). a ++ b) (c .before .before .before .before .before .before .clock-figure .ensures .2) (c .before .before .before .before .before .clock-figure2 .ensures .2) ∙ sym (ap timeBytes (c .before .before .before .before .before .before .before .before .t .given .1))) (wrote-all (omega arith) (c .before .before .put-bytes2 .ensures))
+
+same-length-2 : tie.Need-same-length-2
+same-length-2 c = wrote-length (returns-2 c)
 
 pub put-time-spec : {M : Type 1} → statement M
 put-time-spec =

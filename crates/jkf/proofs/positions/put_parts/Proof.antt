@@ -1,15 +1,27 @@
 -- The four parts are written one after another in the definition's order; they have 4, 81, 14 and 1 bytes, so there is room for each.
 -- Assumes nothing.
 use native.Mathlib.Omega.{arith}
-use mathlib.Core.Path.{_≡_}
-use mathlib.Core.List.{[], _∷_}
+use mathlib.Core.Path.{_≡_, refl}
+use Prim.Native.Nat.{ℕ, _+_, _≤_}
+use mathlib.Core.List.{List, [], _∷_, _++_}
 use lib.ListN.{length, length-append}
 use borrow.Author.Needs.{needs}
-use Rattle.jkf.proofs.Filling.{then-all}
+use Rattle.lent.specs.Bytes.{Wrote, fitting}
+use Rattle.lent.proofs.Room.{left, filled, room-front, then-piece, three-of}
 use Rattle.jkf.specs.Positions.{positionBytes}
-use Rattle.lent.proofs.Writes.{wrote-all}
+use Rattle.lent.proofs.Writes.{wrote-length}
 use Rattle.jkf.proofs.positions.put_parts.Statement.{statement}
 use Rattle.jkf.proofs.positions.put_parts.Tie as tie
+
+-- four parts of 4, 81, 14 and 1 bytes have room in 100
+four : (t u v w : List ℕ) {o o₁ p q r : List ℕ} {n m k l : ℕ} → length t ≡ 4 → length u ≡ 81 → length v ≡ 14 → length w ≡ 1 → 100 ≤ length o
+    → Wrote (fitting t o) o o₁ n → Wrote (fitting u (left n o₁)) (left n o₁) p m
+    → Wrote (fitting v (left (n + m) (filled n o₁ p))) (left (n + m) (filled n o₁ p)) q k
+    → Wrote (fitting w (left (n + m + k) (filled (n + m) (filled n o₁ p) q))) (left (n + m + k) (filled (n + m) (filled n o₁ p) q)) r l
+    → Wrote (((t ++ u) ++ v) ++ w) o (filled (n + m + k) (filled (n + m) (filled n o₁ p) q) r) (n + m + k + l)
+four t u v w {o} e₁ e₂ e₃ e₄ h a b c d =
+    let h₄ : length (((t ++ u) ++ v) ++ w) ≤ length o = omega (arith, length-append ((t ++ u) ++ v) w, length-append (t ++ u) v, length-append t u) in
+    then-piece w (three-of t u v (room-front ((t ++ u) ++ v) w h₄) a b c) h₄ d
 
 slice-aggregate-put-bytes : tie.Need-slice-aggregate-put-bytes
 slice-aggregate-put-bytes c = search needs
@@ -71,20 +83,15 @@ put-bytes-requires-4 c κs = search needs
 add-result : tie.Need-add-result
 add-result c = search needs
 
-same-length : tie.Need-same-length
-same-length c = search needs
-
 returns : tie.Need-returns
 unfolding positionBytes
 returns c =
     let p = c .before .before .before .before .before .before .before .before .before .before .before .before .before .before .before .before .before .before .before .before .before .before .before .args .p in
-    let h : length (p .cells) ≡ 81 = search needs in
-    let g : length (p .hands) ≡ 14 = search needs in
-    let k = length-append (p .cells) (p .hands) in
-    let w₁ = wrote-all {t = p .preset ∷ p .board ∷ p .turn ∷ 0 ∷ []} (omega arith) (c .before .before .before .before .before .before .before .before .before .before .before .before .before .before .before .before .before .put-bytes .ensures) in
-    let w₂ = then-all (p .cells) w₁ (omega (arith, w₁ .count)) (c .before .before .before .before .before .before .before .before .before .before .before .before .put-bytes2 .ensures) in
-    let w₃ = then-all (p .hands) w₂ (omega (arith, w₂ .count)) (c .before .before .before .before .before .before .before .put-bytes3 .ensures) in
-    then-all (0 ∷ []) w₃ (omega (arith, w₃ .count)) (c .before .before .put-bytes4 .ensures)
+    four (p .preset ∷ p .board ∷ p .turn ∷ 0 ∷ []) (p .cells) (p .hands) (0 ∷ []) refl (search needs) (search needs) refl (c .before .before .before .before .before .before .before .before .before .before .before .before .before .before .before .before .before .before .before .before .before .before .before .pre)
+    (c .before .before .before .before .before .before .before .before .before .before .before .before .before .before .before .before .before .put-bytes .ensures) (c .before .before .before .before .before .before .before .before .before .before .before .before .put-bytes2 .ensures) (c .before .before .before .before .before .before .before .put-bytes3 .ensures) (c .before .before .put-bytes4 .ensures)
+
+same-length : tie.Need-same-length
+same-length c = wrote-length (returns c)
 
 pub put-parts-spec : {M : Type 1} → statement M
 put-parts-spec =

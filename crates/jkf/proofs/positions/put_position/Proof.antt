@@ -5,7 +5,7 @@ use mathlib.Core.Path.{_≡_}
 use lib.ListN.{length}
 use borrow.Author.Needs.{needs}
 use Rattle.jkf.proofs.PositionsBack.{position-length}
-use Rattle.lent.proofs.Writes.{unwritten, written}
+use Rattle.lent.proofs.Writes.{unwritten, written, wrote-length}
 use Rattle.jkf.proofs.positions.put_position.Statement.{statement}
 use Rattle.jkf.proofs.positions.put_position.Tie as tie
 
@@ -19,11 +19,11 @@ returns c =
 put-parts-requires : tie.Need-put-parts-requires
 put-parts-requires c κs = search needs
 
-same-length : tie.Need-same-length
-same-length c = search needs
-
 returns-2 : tie.Need-returns-2
 returns-2 c = written (c .before .before .put-parts .ensures)
+
+same-length : tie.Need-same-length
+same-length c = wrote-length (returns-2 c)
 
 pub put-position-spec : {M : Type 1} → statement M
 put-position-spec = tie.close (tie.spec returns put-parts-requires same-length returns-2)

@@ -3,7 +3,7 @@
 use denote.Ref.{now}
 use borrow.Author.Needs.{needs}
 use Rattle.lent.specs.Numbers.{decimal}
-use Rattle.lent.proofs.Writes.{wrote-all}
+use Rattle.lent.proofs.Writes.{wrote-all, wrote-length}
 use Rattle.lent.proofs.Room.{room-front, then-piece}
 use Rattle.shown.proofs.rows.put_field.Statement.{statement}
 use Rattle.shown.proofs.rows.put_field.Tie as tie
@@ -26,13 +26,13 @@ put-decimal-requires c κs = search needs
 add-result : tie.Need-add-result
 add-result c = search needs
 
-same-length : tie.Need-same-length
-same-length c = search needs
-
 returns : tie.Need-returns
 returns c =
     let a = c .before .before .before .before .before .before .before .before .before .before .args in
     then-piece (decimal (a .v)) (wrote-all {t = now (a .word)} (room-front (now (a .word)) (decimal (a .v)) (c .before .before .before .before .before .before .before .before .before .before .pre)) (c .before .before .before .before .before .before .put-bytes .ensures)) (c .before .before .before .before .before .before .before .before .before .before .pre) (c .before .before .put-decimal .ensures)
+
+same-length : tie.Need-same-length
+same-length c = wrote-length (returns c)
 
 pub put-field-spec : {M : Type 1} → statement M
 put-field-spec =

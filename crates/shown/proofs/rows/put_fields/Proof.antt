@@ -2,7 +2,7 @@
 -- Assumes nothing.
 use denote.Ref.{now}
 use borrow.Author.Needs.{needs}
-use Rattle.lent.proofs.Writes.{then}
+use Rattle.lent.proofs.Writes.{then, wrote-length}
 use Rattle.shown.specs.Listing.{field}
 use Rattle.lent.proofs.Room.{room-front, room-after}
 use Rattle.shown.proofs.rows.put_fields.Statement.{statement}
@@ -30,11 +30,11 @@ put-field-requires-2 c κs =
 add-result : tie.Need-add-result
 add-result c = search needs
 
-same-length : tie.Need-same-length
-same-length c = search needs
-
 returns : tie.Need-returns
 returns c = then (c .before .before .before .before .before .before .put-field .ensures) (c .before .before .put-field2 .ensures)
+
+same-length : tie.Need-same-length
+same-length c = wrote-length (returns c)
 
 pub put-fields-spec : {M : Type 1} → statement M
 put-fields-spec =

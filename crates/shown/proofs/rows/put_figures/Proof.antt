@@ -1,7 +1,7 @@
 -- The number has room where all three have, and both figures have what is left.
 -- Assumes nothing.
 use borrow.Author.Needs.{needs}
-use Rattle.lent.proofs.Writes.{then}
+use Rattle.lent.proofs.Writes.{then, wrote-length}
 use Rattle.shown.specs.Listing.{field, lastFields, refusedTag, spaceTag, refusalText}
 use Rattle.lent.proofs.Room.{room-front, room-after}
 use Rattle.shown.proofs.rows.put_figures.Statement.{statement}
@@ -40,12 +40,12 @@ put-last-requires c κs =
 add-result : tie.Need-add-result
 add-result c = search needs
 
-same-length : tie.Need-same-length
-same-length c = search needs
-
 returns : tie.Need-returns
 unfolding refusalText
 returns c = then (c .before .before .before .before .before .before .before .before .put-field .ensures) (c .before .before .put-last .ensures)
+
+same-length : tie.Need-same-length
+same-length c = wrote-length (returns c)
 
 pub put-figures-spec : {M : Type 1} → statement M
 put-figures-spec =

@@ -1,5 +1,6 @@
 -- Both fields have room where the line has, and its end has what is left.
 -- Assumes nothing.
+use Rattle.lent.proofs.Writes.{wrote-length}
 use mathlib.Core.List.{[], _∷_}
 use denote.Ref.{now}
 use borrow.Author.Needs.{needs}
@@ -31,11 +32,11 @@ put-bytes-requires c κs = search needs
 add-result : tie.Need-add-result
 add-result c = search needs
 
-same-length : tie.Need-same-length
-same-length c = search needs
-
 returns : tie.Need-returns
 returns c = then-piece (10 ∷ []) (c .before .before .before .before .before .before .before .put-fields .ensures) (c .before .before .before .before .before .before .before .before .before .before .before .before .pre) (c .before .before .put-bytes .ensures)
+
+same-length : tie.Need-same-length
+same-length c = wrote-length (returns c)
 
 pub put-last-spec : {M : Type 1} → statement M
 put-last-spec =

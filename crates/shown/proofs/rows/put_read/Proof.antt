@@ -2,7 +2,7 @@
 -- Assumes nothing.
 use native.Mathlib.Omega.{arith}
 use borrow.Author.Needs.{needs}
-use Rattle.lent.proofs.Writes.{unwritten}
+use Rattle.lent.proofs.Writes.{unwritten, wrote-length}
 use Rattle.lent.proofs.Digits.{digits-twenty}
 use Rattle.shown.proofs.Texts.{read-length, read-room, read-wrote}
 use Rattle.shown.proofs.rows.put_read.Statement.{statement}
@@ -32,11 +32,11 @@ slice-aggregate-put-last-2 c = search needs
 put-last-requires : tie.Need-put-last-requires
 put-last-requires c κs = read-room (c .before .before .before .before .before .before .before .args .taken) (c .before .before .before .before .before .before .before .args .len) (omega arith)
 
-same-length : tie.Need-same-length
-same-length c = search needs
-
 returns-2 : tie.Need-returns-2
 returns-2 c = read-wrote (c .before .before .before .before .before .before .before .before .before .before .args .taken) (c .before .before .before .before .before .before .before .before .before .before .args .len) (c .before .before .put-last .ensures)
+
+same-length : tie.Need-same-length
+same-length c = wrote-length (returns-2 c)
 
 pub put-read-spec : {M : Type 1} → statement M
 put-read-spec =

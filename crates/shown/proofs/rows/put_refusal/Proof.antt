@@ -2,7 +2,7 @@
 -- Assumes nothing.
 use native.Mathlib.Omega.{arith}
 use borrow.Author.Needs.{needs}
-use Rattle.lent.proofs.Writes.{unwritten, written}
+use Rattle.lent.proofs.Writes.{unwritten, written, wrote-length}
 use Rattle.lent.proofs.Digits.{digits-twenty}
 use Rattle.shown.proofs.Texts.{refusal-length}
 use Rattle.shown.proofs.rows.put_refusal.Statement.{statement}
@@ -42,11 +42,11 @@ put-figures-requires c κs =
     let a = c .before .before .before .before .before .before .args in
     omega (arith, refusal-length (a .number) (a .first) (a .second))
 
-same-length : tie.Need-same-length
-same-length c = search needs
-
 returns-2 : tie.Need-returns-2
 returns-2 c = written (c .before .before .put-figures .ensures)
+
+same-length : tie.Need-same-length
+same-length c = wrote-length (returns-2 c)
 
 pub put-refusal-spec : {M : Type 1} → statement M
 put-refusal-spec =

@@ -1,7 +1,7 @@
 -- The first two fields have room where the line has, and the last two have what is left.
 -- Assumes nothing.
 use borrow.Author.Needs.{needs}
-use Rattle.lent.proofs.Writes.{then}
+use Rattle.lent.proofs.Writes.{then, wrote-length}
 use Rattle.shown.specs.Listing.{fields, lastFields, lineTag, startTag, movesTag, parentTag, rowText}
 use Rattle.lent.proofs.Room.{room-front, room-after}
 use Rattle.shown.proofs.rows.put_row.Statement.{statement}
@@ -43,12 +43,12 @@ put-last-requires c κs =
 add-result : tie.Need-add-result
 add-result c = search needs
 
-same-length : tie.Need-same-length
-same-length c = search needs
-
 returns : tie.Need-returns
 unfolding rowText
 returns c = then (c .before .before .before .before .before .before .before .before .put-fields .ensures) (c .before .before .put-last .ensures)
+
+same-length : tie.Need-same-length
+same-length c = wrote-length (returns c)
 
 pub put-row-spec : {M : Type 1} → statement M
 put-row-spec =

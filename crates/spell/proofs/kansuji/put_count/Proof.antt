@@ -9,7 +9,7 @@ use denote.Ref.{now}
 use borrow.Author.Needs.{needs}
 use Rattle.lent.specs.Bytes.{fitting}
 use Rattle.spell.proofs.Counts.{count-above}
-use Rattle.lent.proofs.Writes.{as-text, nothing, fitting-nothing, wrote-front}
+use Rattle.lent.proofs.Writes.{as-text, nothing, fitting-nothing, wrote-front, wrote-length}
 use Rattle.spell.proofs.kansuji.put_count.Statement.{statement}
 use Rattle.spell.proofs.kansuji.put_count.Tie as tie
 
@@ -33,11 +33,11 @@ slice-aggregate-put-bytes c =
 put-bytes-requires : tie.Need-put-bytes-requires
 put-bytes-requires c κs = search needs
 
-same-length : tie.Need-same-length
-same-length c = search needs
-
 returns-2 : tie.Need-returns-2
 returns-2 c = as-text (ap (λ (t : List ℕ). fitting t (now (c .before .before .before .before .before .before .before .before .before .before .args .out))) (wrote-front (c .before .before .before .before .before .before .put-parts .ensures))) (c .before .before .put-bytes .ensures)
+
+same-length : tie.Need-same-length
+same-length c = wrote-length (returns-2 c)
 
 pub put-count-spec : {M : Type 1} → statement M
 put-count-spec =

@@ -29,9 +29,6 @@ put-numeral-requires c κs = search needs
 add-result : tie.Need-add-result
 add-result c = search needs
 
-same-length : tie.Need-same-length
-same-length c = search needs
-
 returns : tie.Need-returns
 returns c =
     let a = c .before .before .before .before .before .before .before .before .before .args in
@@ -42,6 +39,9 @@ returns c =
     let l = wrote-length t in
     let k = t .count in
     as-text (sym (count-parts (a .n) (omega arith))) (then t (wrote-all {t = spelled numerals (a .n % 10)} (omega arith) (c .before .before .put-numeral .ensures)))
+
+same-length : tie.Need-same-length
+same-length c = wrote-length (returns c)
 
 pub put-parts-spec : {M : Type 1} → statement M
 put-parts-spec =

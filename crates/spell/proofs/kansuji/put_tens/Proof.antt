@@ -20,11 +20,11 @@ slice-aggregate-put-bytes c = search needs
 put-bytes-requires : tie.Need-put-bytes-requires
 put-bytes-requires c κs = search needs
 
-same-length : tie.Need-same-length
-same-length c = search needs
-
 returns-2 : tie.Need-returns-2
 returns-2 c = as-text (sym (tens-one (c .before .before .before .before .before .before .before .before .args .t) (c .before .before .before .before .before .before .if1 .left) (c .before .before .before .before .before .if2 .taken))) (wrote-all (omega arith) (c .before .before .put-bytes .ensures))
+
+same-length : tie.Need-same-length
+same-length c = wrote-length (returns-2 c)
 
 put-numeral-requires : tie.Need-put-numeral-requires
 put-numeral-requires c κs = search needs
@@ -47,9 +47,6 @@ put-bytes-requires-2 c κs = search needs
 add-result : tie.Need-add-result
 add-result c = search needs
 
-same-length-2 : tie.Need-same-length-2
-same-length-2 c = search needs
-
 returns-3 : tie.Need-returns-3
 returns-3 c =
     let a = c .before .before .before .before .before .before .before .before .before .before .before .before .args in
@@ -59,6 +56,9 @@ returns-3 c =
     let l = wrote-length w in
     let k = w .count in
     as-text (sym (tens-more (a .t) (c .before .before .before .before .before .before .before .before .before .if2 .left))) (then w (wrote-all {t = ten} (omega arith) (c .before .before .put-bytes2 .ensures)))
+
+same-length-2 : tie.Need-same-length-2
+same-length-2 c = wrote-length (returns-3 c)
 
 pub put-tens-spec : {M : Type 1} → statement M
 put-tens-spec =
