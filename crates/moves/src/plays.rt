@@ -51,21 +51,21 @@ fn move_to(c: Cursor, s: &[u8]) -> Aim
 fn promote(c: Cursor, s: &[u8]) -> Mark
     ensures { λ r. ⌜ r ≡ promoteAt (now (s .entry)) (c .at) ⌝ }
 {
-    match c.tag(s, b"\xe6\x88\x90") {
-        Place::Past(end) => Mark {
-            promote: 2,
-            next: end,
-        },
-        Place::Absent => match c.tag(s, b"\xe4\xb8\x8d\xe6\x88\x90") {
-            Place::Past(end) => Mark {
-                promote: 1,
-                next: end,
-            },
-            Place::Absent => Mark {
+    let Place::Past(end) = c.tag(s, b"\xe6\x88\x90") else {
+        let Place::Past(past) = c.tag(s, b"\xe4\xb8\x8d\xe6\x88\x90") else {
+            return Mark {
                 promote: 0,
                 next: c,
-            },
-        },
+            };
+        };
+        return Mark {
+            promote: 1,
+            next: past,
+        };
+    };
+    Mark {
+        promote: 2,
+        next: end,
     }
 }
 

@@ -23,23 +23,23 @@ slice-aggregate-tag-2 c = search needs
 tag-requires-2 : tie.Need-tag-requires-2
 tag-requires-2 c κs = search needs
 
-enum-known-end-2 : tie.Need-enum-known-end-2
-enum-known-end-2 c = search needs
+enum-known-past : tie.Need-enum-known-past
+enum-known-past c = search needs
 
 enum-told-2 : tie.Need-enum-told-2
 enum-told-2 c = search needs
 
 returns : tie.Need-returns
 unfolding promoteAt
-returns c = rw (← c .before .before .before .tag .ensures, c .before .end .given .1)
+returns c = rw (← c .before .before .before .before .before .before .tag .ensures, c .before .before .before .before .enum-told .given .1, ← c .before .before .tag2 .ensures, c .enum-told2 .given .1)
 
 returns-2 : tie.Need-returns-2
 unfolding promoteAt
-returns-2 c = rw (← c .before .before .before .before .before .before .before .tag .ensures, c .before .before .before .before .before .enum-told .given .1, ← c .before .before .before .tag2 .ensures, c .before .end2 .given .1)
+returns-2 c = rw (← c .before .before .before .before .before .before .before .tag .ensures, c .before .before .before .before .before .enum-told .given .1, ← c .before .before .before .tag2 .ensures, c .before .past .given .1)
 
 returns-3 : tie.Need-returns-3
 unfolding promoteAt
-returns-3 c = rw (← c .before .before .before .before .before .before .tag .ensures, c .before .before .before .before .enum-told .given .1, ← c .before .before .tag2 .ensures, c .enum-told2 .given .1)
+returns-3 c = rw (← c .before .before .before .tag .ensures, c .before .end .given .1)
 
 pub promote-spec : {M : Type 1} → statement M
 promote-spec =
@@ -51,7 +51,7 @@ promote-spec =
     enum-told
     slice-aggregate-tag-2
     tag-requires-2
-    enum-known-end-2
+    enum-known-past
     enum-told-2
     returns
     returns-2
