@@ -25,7 +25,7 @@ void kif_read(const uint8_t *text, size_t text_len, uint8_t *out, size_t out_len
  * in this order,
  *   7, 0, 0               where the slice is not just a sound block;
  *   8, side, kind         where a hand count is over 99: side 0 Black, 1 White, kind 0 to 6;
- *   9, line, entry        where a move cannot be written: a file or rank outside 1 to 9, or a time after a width of 14;
+ *   9, line, entry        where a move cannot be written: a file or rank outside 1 to 9 without 同, or a time after a width of 14;
  *   5, length, 0          where out is shorter than the length needed, which may be over 65,535.
  * Success changes only the text's bytes, and a refusal nothing. */
 void kif_write(const uint8_t *block, size_t block_len, uint8_t *out, size_t out_len, uint64_t *number, uint64_t *first, uint64_t *second);
