@@ -1,4 +1,4 @@
-// Nothing is read past the end of a text, and nothing is written where there is no room: each leaf, tried and proved.
+// Nothing is read past the end of a text, and nothing is written where there is no room: leaves of `text` and `spell`, tried and proved.
 use spell::Spelled;
 use text::Cursor;
 use text::Number;

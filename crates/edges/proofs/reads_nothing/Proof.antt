@@ -6,9 +6,7 @@ use mathlib.Core.Path.{refl, _∙_}
 use denote.Ref.{now}
 use borrow.Author.Tests.{eq-eqb}
 use borrow.Author.Needs.{needs}
-use Rattle.text.proofs.Ends.{character-end, padding-end, tail-end, break-end, tag-end, digits-end}
-use Rattle.text.proofs.Laws.{span-end}
-use Rattle.text.specs.Text.{isBlank}
+use Rattle.text.proofs.Ends.{character-end, blanks-end, padding-end, tail-end, break-end, tag-end, digits-end}
 use Rattle.edges.proofs.reads_nothing.Statement.{statement}
 use Rattle.edges.proofs.reads_nothing.Tie as tie
 
@@ -16,7 +14,7 @@ blanks-requires : tie.Need-blanks-requires
 blanks-requires c κs = search needs
 
 expect-requires : tie.Need-expect-requires
-expect-requires c κs = eq-eqb (c .before .blanks .result .at) (c .before .before .before .args .at) (c .before .blanks .ensures ∙ span-end isBlank (now (c .before .before .before .args .s)) (c .before .before .before .args .at) (c .before .before .before .pre))
+expect-requires c κs = eq-eqb (c .before .blanks .result .at) (c .before .before .before .args .at) (c .before .blanks .ensures ∙ blanks-end (now (c .before .before .before .args .s)) (c .before .before .before .args .at) (c .before .before .before .pre))
 
 padding-requires : tie.Need-padding-requires
 padding-requires c κs = search needs
