@@ -1,50 +1,23 @@
--- Which leading key a text is: by the keys one after the other, and by its first byte. A number above 0 says the text.
---     number-none, number-here, number-more   a search over the keys, from the j-th on
---     one-key                                 two texts with one number above 0 are the same
+-- Which leading key a text is: a number above 0 says the text, and the text's first character the only number that it can have.
+--     one-key   two texts with one number above 0 are the same
+--     only      a text whose first character differs from those of all other keys is that one or none
 -- Assumes nothing.
 use Prim.Native.Nat.{ℕ, suc, _+_, _*_, _-_, _≤_, _<_}
-use native.Mathlib.Numerals.{add-one}
+use native.Mathlib.Decide.{decLt}
 use native.Mathlib.Omega.{arith}
-use mathlib.Core.Path.{_≡_, refl, sym, _∙_}
+use mathlib.Core.Path.{_≡_, refl, sym, ap, _∙_}
 use mathlib.Core.List.{List, [], _∷_, _++_}
-use mathlib.Core.Bool.{Bool, true, false}
-use lib.ListN.{length, getD, take, drop, replicate, drop-of-length-le}
-use lib.Seq.{drop-cons}
-use lib.Dec.{leb}
-use borrow.Author.Tests.{leb-true, ne-eqb}
+use mathlib.Core.Bool.{Bool, true, false, false≢true}
+use lib.ListN.{length, getD, take, drop, replicate}
+use lib.Dec.{eqb, leb}
+use borrow.Author.Tests.{leb-true, eqb-true, eq-eqb}
 use Rattle.lists.specs.Pick.{pick}
 use Rattle.lists.proofs.Laws.{pick-both, range, range-at}
 use Rattle.block.specs.Sound.{same}
 use Rattle.converter.specs.Headers.{leadingKeys, numberFrom, leadingNumber}
-use Rattle.block.proofs.Deciding.{same-is}
+use Rattle.block.proofs.Deciding.{same-is, same-refl}
 
--- ---- the same bytes
-
--- texts whose first bytes differ are not
-same-first : (a b : List ℕ) → getD a 0 0 < getD b 0 0 → same a b ≡ false
-unfolding same
-same-first [] [] h = absurd (omega arith)
-same-first [] (y ∷ b) h = refl
-same-first (x ∷ a) [] h = refl
-same-first (x ∷ a) (y ∷ b) h = rw (ne-eqb x y (λ e. omega arith))
-
--- ---- a search over the keys
-
-module _ (t : List ℕ) (ks : List (List ℕ)) (i j : ℕ) where
-  -- no keys are left
-  pub number-none : length ks ≤ j → numberFrom i (drop j ks) t ≡ 0
-  unfolding numberFrom
-  number-none h = rw (drop-of-length-le ks h)
-
-  -- the text is the next key
-  pub number-here : j < length ks → same t (getD ks j []) ≡ true → numberFrom i (drop j ks) t ≡ i
-  unfolding numberFrom
-  number-here h e = rw (drop-cons ks j [] h, e)
-
-  -- it is not
-  pub number-more : j < length ks → same t (getD ks j []) ≡ false → numberFrom i (drop j ks) t ≡ numberFrom (i + 1) (drop (j + 1) ks) t
-  unfolding numberFrom
-  number-more h e = rw (drop-cons ks j [] h, e, add-one j)
+-- ---- a number among some keys
 
 -- a number is that of a key
 number-most : (i : ℕ) (ks : List (List ℕ)) (t : List ℕ) → 0 < i → numberFrom i ks t < i + length ks
@@ -85,24 +58,59 @@ one-key t u e h =
     number-key 1 leadingKeys t (numberFrom 1 leadingKeys u) e h .1
     ∙ sym (number-key 1 leadingKeys u (numberFrom 1 leadingKeys u) refl h .1)
 
--- every key begins with a byte that is not of ASCII
-abbrev high : List (List ℕ) → Bool
-high [] = true
-high (k ∷ ks) = pick (leb 128 (getD k 0 0)) (high ks) false
+-- a key has its own number: antt computes it for the 12
+key-number : (j : ℕ) → j < 12 → leadingNumber (getD leadingKeys j []) ≡ j + 1
+unfolding leadingNumber numberFrom same
+key-number j h = eqb-true _ _ (range-at (λ k. eqb (leadingNumber (getD leadingKeys k [])) (k + 1)) 12 0 j refl (omega arith) (omega arith))
 
--- a text that begins with a lower one is none of some such keys
-number-ascii : (i : ℕ) (ks : List (List ℕ)) (t : List ℕ) → getD t 0 0 < 128 → high ks ≡ true → numberFrom i ks t ≡ 0
-unfolding numberFrom
-number-ascii i [] t h a = refl
-number-ascii i (k ∷ ks) t h a =
-    let (p, q) = pick-both (leb 128 (getD k 0 0)) (high ks) a in
-    let l : 128 ≤ getD k 0 0 = leb-true 128 (getD k 0 0) p in
-    rw (same-first t k (omega arith), number-ascii (i + 1) ks t h q)
+-- key j is number v, or its first character ends in other bytes than b and c
+abbrev other : ℕ → ℕ → ℕ → ℕ → Bool
+other b c v j = pick (eqb (j + 1) v) true (pick (eqb b (getD (getD leadingKeys j []) 1 0)) (pick (eqb c (getD (getD leadingKeys j []) 2 0)) false true) true)
 
--- so a text that begins with one of ASCII, or is empty, is no leading key
-pub leading-ascii : (t : List ℕ) → getD t 0 0 < 128 → leadingNumber t ≡ 0
-unfolding leadingNumber
-leading-ascii t h = number-ascii 1 leadingKeys t h refl
+-- so are all keys
+abbrev pub others : ℕ → ℕ → ℕ → Bool
+others b c v = range (other b c v) 0 12
+
+-- a key with these bytes is number v
+the-other : (b c v j : ℕ) → j < 12 → others b c v ≡ true → b ≡ getD (getD leadingKeys j []) 1 0 → c ≡ getD (getD leadingKeys j []) 2 0 → j + 1 ≡ v
+the-other b c v j h o d e = go (eqb (j + 1) v) refl (range-at (other b c v) 12 0 j o (omega arith) (omega arith))
+  where
+    go : (u : Bool) → eqb (j + 1) v ≡ u → pick u true (pick (eqb b (getD (getD leadingKeys j []) 1 0)) (pick (eqb c (getD (getD leadingKeys j []) 2 0)) false true) true) ≡ true → j + 1 ≡ v
+    go true q w = eqb-true _ _ q
+    go false q w = absurd (false≢true (rw (eq-eqb b _ d, eq-eqb c _ e) at w))
+
+module _ (t : List ℕ) (b c v : ℕ) (p : getD t 1 0 ≡ b) (q : getD t 2 0 ≡ c) (l : v ≤ 12) (o : others b c v ≡ true) where
+  -- a text that is a leading key is key v
+  only-key : 0 < leadingNumber t → leadingNumber t ≡ pick (same t (getD leadingKeys (v - 1) [])) v 0
+  unfolding leadingNumber
+  only-key h =
+      let n = leadingNumber t in
+      let k : t ≡ getD leadingKeys (n - 1) [] = number-key 1 leadingKeys t n refl h .1 in
+      let m = leading-most t in
+      let z : n - 1 + 1 ≡ v = the-other b c v (n - 1) (omega arith) o (sym p ∙ ap (λ (s : List ℕ). getD s 1 0) k) (sym q ∙ ap (λ (s : List ℕ). getD s 2 0) k) in
+      let y : n ≡ v = omega arith in
+      let same-key : same t (getD leadingKeys (v - 1) []) ≡ true = rw (← y, ← k) (same-refl t) in
+      rw same-key y
+
+  -- and one that is key v has its number
+  only-number : same t (getD leadingKeys (v - 1) []) ≡ true → 0 < v → leadingNumber t ≡ v
+  only-number e h = let z : v - 1 + 1 ≡ v = omega arith in ap leadingNumber (same-is t _ e) ∙ key-number (v - 1) (omega arith) ∙ z
+
+  -- so it is key v or none
+  pub only : leadingNumber t ≡ pick (same t (getD leadingKeys (v - 1) [])) v 0
+  only = go (decLt 0 (leadingNumber t))
+    where
+      none : (u : Bool) → same t (getD leadingKeys (v - 1) []) ≡ u → leadingNumber t ≡ 0 → 0 ≡ pick u v 0
+      none true e z = out (decLt 0 v)
+        where
+          out : Dec (0 < v) → 0 ≡ v
+          out (yes h) = let q = only-number e h in omega arith
+          out (no h) = omega arith
+      none false e z = refl
+
+      go : Dec (0 < leadingNumber t) → leadingNumber t ≡ pick (same t (getD leadingKeys (v - 1) [])) v 0
+      go (yes h) = only-key h
+      go (no h) = let z : leadingNumber t ≡ 0 = omega arith in z ∙ none _ refl z
 
 -- ---- how the code holds the keys
 
@@ -124,24 +132,27 @@ keyed-all = refl
 key-row : (j : ℕ) → j < 12 → keyed (keyRows leadingKeys) j ≡ true
 key-row j h = range-at (keyed (keyRows leadingKeys)) 12 0 j keyed-all (omega arith) (omega arith)
 
--- the row at i, which is that of key n
-module _ (s : List ℕ) (i n : ℕ) (e : s ≡ keyRows leadingKeys) (a : i + 13 ≡ 13 * n) (h : i < 156) where
+-- the row of key n, whose bytes begin at b
+module _ (s : List ℕ) (b n : ℕ) (e : s ≡ keyRows leadingKeys) (a : b + 12 ≡ 13 * n) (l : 1 ≤ n) (m : n ≤ 12) where
   -- is such a row
   row-keyed : keyed s (n - 1) ≡ true
   row-keyed = rw e (key-row (n - 1) (omega arith))
 
   -- it ends in the table
-  pub row-size : (w : ℕ) → w ≡ getD s i 0 → i + 1 + w ≤ 156
+  pub row-size : (w : ℕ) → w ≡ getD s (b - 1) 0 → b + w ≤ 156
   row-size w q =
-      let z : 13 * (n - 1) ≡ i = omega arith in
+      let z : 13 * (n - 1) ≡ b - 1 = omega arith in
       let (p, _) = pick-both (leb (13 * (n - 1) + 1 + getD s (13 * (n - 1)) 0) 156) _ row-keyed in
-      let l = leb-true (13 * (n - 1) + 1 + getD s (13 * (n - 1)) 0) 156 p in
-      rw (q, ← z) l
+      let h = leb-true (13 * (n - 1) + 1 + getD s (13 * (n - 1)) 0) 156 p in
+      let v : w ≡ getD s (13 * (n - 1)) 0 = q ∙ ap (λ (i : ℕ). getD s i 0) (sym z) in
+      omega arith
 
   -- and holds the key
-  pub row-word : (w : ℕ) → w ≡ getD s i 0 → take (i + 1 + w - (i + 1)) (drop (i + 1) s) ≡ getD leadingKeys (n - 1) []
+  pub row-word : (w : ℕ) → w ≡ getD s (b - 1) 0 → take (b + w - b) (drop b s) ≡ getD leadingKeys (n - 1) []
   row-word w q =
-      let z : 13 * (n - 1) ≡ i = omega arith in
-      let y : i + 1 + w - (i + 1) ≡ w = omega arith in
+      let z : 13 * (n - 1) ≡ b - 1 = omega arith in
+      let x : b ≡ 13 * (n - 1) + 1 = omega arith in
+      let y : b + w - b ≡ w = omega arith in
       let (_, p) = pick-both (leb (13 * (n - 1) + 1 + getD s (13 * (n - 1)) 0) 156) _ row-keyed in
-      rw (y, q, ← z) (same-is _ _ p)
+      let v : w ≡ getD s (13 * (n - 1)) 0 = q ∙ ap (λ (i : ℕ). getD s i 0) (sym z) in
+      rw (y, v, x) (same-is _ _ p)
