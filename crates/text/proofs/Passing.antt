@@ -1,6 +1,6 @@
 -- Laws of bytes that are passed many at a time.
 -- Assumes nothing.
-use Prim.Native.Nat.{ℕ, zero, suc, _+_, _≤_, _<_}
+use Prim.Native.Nat.{ℕ, zero, suc, _+_, _*_, _≤_, _<_}
 use native.Mathlib.Nat.{add-zero}
 use native.Mathlib.Omega.{arith}
 use mathlib.Core.Path.{_≡_, refl, sym, ap, subst, _∙_}
@@ -10,7 +10,7 @@ use lib.ListN.{length, getD}
 use borrow.Author.Tests.{lt-ltb, le-ltb, ne-eqb}
 use Rattle.text.specs.Runs.{Run, Count}
 use Rattle.text.specs.Text.{isText, textAt, pastAll}
-use Rattle.text.specs.Utf8.{sizeOf, lowestOf, highestOf, secondOf, isNext, charWidth}
+use Rattle.text.specs.Utf8.{sizeOf, lowestOf, highestOf, secondOf, isNext, Three, charWidth}
 use Rattle.text.proofs.Laws.{span-on}
 use Rattle.text.proofs.Widths.{past-more, char-within}
 
@@ -54,15 +54,16 @@ four-run f P s on at r h c = record {
       };
 }
 
-run-to : {f : ℕ → ℕ} {s : List ℕ} {a b c : ℕ} → b ≡ c → Run f s a b → Run f s a c
-run-to {f} {s} {a} e r = subst (λ (i : ℕ). Run f s a i) e r
+-- a run to the same place
+pub run-at : {f : ℕ → ℕ} {s : List ℕ} {a b c : ℕ} → b ≡ c → Run f s a b → Run f s a c
+run-at {f} {s} {a} e r = subst (λ (i : ℕ). Run f s a i) e r
 
 -- four times four
 pub sixteen-run : (f : ℕ → ℕ) (s : List ℕ) (at : ℕ) {p q v w : ℕ} → Count 4 p (Run f s at (at + 4)) → Count 4 q (Run f s (at + 4) (at + 4 + 4))
     → Count 4 v (Run f s (at + 8) (at + 8 + 4)) → Count 4 w (Run f s (at + 12) (at + 12 + 4)) → p + q + v + w ≡ 16 → Run f s at (at + 16)
 sixteen-run f s at a b c d e =
     let (((k, l), m), n) = count-on (count-on (count-on a b) c) d .all e in
-    run-on k (run-on (run-to (omega arith) l) (run-on (run-to (omega arith) m) (run-to (omega arith) n)))
+    run-on k (run-on (run-at (omega arith) l) (run-on (run-at (omega arith) m) (run-at (omega arith) n)))
 
 -- ---- characters
 
@@ -87,16 +88,22 @@ second : (b d : ℕ) → 225 ≤ b → b ≤ 239 → (b ≡ 237 → ⊥) → sec
 unfolding secondOf lowestOf highestOf isNext
 second b d l u n = rw (ne-eqb b 224 (λ e. omega arith), ne-eqb b 240 (λ e. omega arith), ne-eqb b 237 n, ne-eqb b 244 (λ e. omega arith))
 
--- the same of three bytes, of which the first is neither E0 nor ED
-pub three-width : (s : List ℕ) (at : ℕ) → at < length s → 225 ≤ getD s at 0 → getD s at 0 ≤ 239 → (getD s at 0 ≡ 237 → ⊥)
-    → isNext (getD s (at + 1) 0) ≡ true → isNext (getD s (at + 2) 0) ≡ true → charWidth s at ≡ 3
+-- so such three bytes are a character
+pub three-width : (s : List ℕ) (at : ℕ) → at < length s → Three (getD s at 0) (getD s (at + 1) 0) (getD s (at + 2) 0) → charWidth s at ≡ 3
 unfolding charWidth sizeOf
-three-width s at h l u n e f =
-    rw (lt-ltb at (length s) h, le-ltb (getD s at 0) 128 (omega arith), le-ltb (getD s at 0) 194 (omega arith), le-ltb (getD s at 0) 224 (omega arith), lt-ltb (getD s at 0) 240 (omega arith), second (getD s at 0) (getD s (at + 1) 0) l u n, e, f)
+three-width s at h t =
+    let l = t .low in
+    let u = t .high in
+    rw (lt-ltb at (length s) h, le-ltb (getD s at 0) 128 (omega arith), le-ltb (getD s at 0) 194 (omega arith), le-ltb (getD s at 0) 224 (omega arith), lt-ltb (getD s at 0) 240 (omega arith), second (getD s at 0) (getD s (at + 1) 0) l u (t .plain), t .second, t .third)
 
 -- a character of three bytes is passed
 pub three-run : (s : List ℕ) (at : ℕ) → charWidth s at ≡ 3 → Run (pastAll charWidth s) s at (at + 3)
 three-run s at e = record { from = omega arith; within = omega (arith, char-within s at); same = width-on s at 3 (omega arith) e }
+
+-- n of i such characters are counted so far; one more, or none
+pub threes-on : {f : ℕ → ℕ} {s : List ℕ} {at n i r : ℕ} → n ≤ i → (n ≡ i → Run f s at (at + 3 * i)) → r ≤ 1 → (r ≡ 1 → Run f s (at + 3 * i) (at + 3 * i + 3))
+    → n + r ≡ i + 1 → Run f s at (at + 3 * (i + 1))
+threes-on h p l q e = run-at (omega arith) (run-on (p (omega arith)) (q (omega arith)))
 
 -- one character or none: n is the width that the code measured
 pub char-run : (s : List ℕ) (at n : ℕ) → n ≡ charWidth s at → Run (pastAll charWidth s) s at (at + n) × (at + n ≡ at → charWidth s at ≡ 0)

@@ -5,7 +5,7 @@ ghost use Prim.Native.Nat.{_+_, _≤_, _<_};
 ghost use lib.ListN.{length};
 ghost use Rattle.text.specs.Runs.{Run, Count};
 ghost use Rattle.text.specs.Text.{pastAll};
-ghost use Rattle.text.specs.Utf8.{sizeOf, lowestOf, highestOf, secondOf, isNext, charWidth, wellFormed};
+ghost use Rattle.text.specs.Utf8.{sizeOf, lowestOf, highestOf, secondOf, isNext, Three, charWidth, wellFormed};
 
 // How many bytes a character that starts with b has; 0 where none does.
 fn size(b: u8) -> usize
@@ -179,14 +179,18 @@ fn ascii_sixteens(s: &[u8], from: usize) -> usize
     at
 }
 
-// Past ASCII, sixteen bytes at a time and then eight.
+// Past ASCII: eight bytes, and where all are, sixteen at a time and then eight.
 fn ascii(s: &[u8], from: usize) -> usize
     ensures { λ r. ⌜ Run (pastAll charWidth (now (s .entry))) (now (s .entry)) from r ⌝ }
 {
     if s.len() < from {
         return from;
     }
-    let mut at = ascii_sixteens(s, from);
+    let first = ascii_of_eight(s, from);
+    if first < from + 8 {
+        return first;
+    }
+    let mut at = ascii_sixteens(s, first);
     loop {
         let e = ascii_of_eight(s, at);
         if e < at + 8 {
@@ -196,7 +200,26 @@ fn ascii(s: &[u8], from: usize) -> usize
     }
 }
 
-// Whether a character of three bytes surely stands at a place: those after E0 and ED are left to char_width.
+// 1 for three bytes that surely are a character, 0 for any other three: those after E0 and ED are left to char_width.
+fn three_one(a: u8, b: u8, c: u8) -> u8
+    ensures { λ r. ⌜ Count 1 r (Three a b c) ⌝ }
+{
+    if a < 225 {
+        return 0;
+    }
+    if 239 < a {
+        return 0;
+    }
+    if a == 237 {
+        return 0;
+    }
+    if !is_next(b) {
+        return 0;
+    }
+    if is_next(c) { 1 } else { 0 }
+}
+
+// Whether such a character stands at a place.
 fn is_three(s: &[u8], at: usize) -> bool
     ensures { λ r. ⌜ (r ≡ true → charWidth (now (s .entry)) at ≡ 3) ⌝ }
 {
@@ -206,27 +229,48 @@ fn is_three(s: &[u8], at: usize) -> bool
     if s.len() - 3 < at {
         return false;
     }
-    let b = s[at];
-    if b < 225 {
+    three_one(s[at], s[at + 1], s[at + 2]) == 1
+}
+
+// Whether sixteen of them stand there: they are counted, which is one test of vectors. The last is looked at first.
+fn are_threes(s: &[u8], at: usize) -> bool
+    ensures { λ r. ⌜ (r ≡ true → Run (pastAll charWidth (now (s .entry))) (now (s .entry)) at (at + 48)) ⌝ }
+{
+    if s.len() < 48 {
         return false;
     }
-    if 239 < b {
+    if s.len() - 48 < at {
         return false;
     }
-    if b == 237 {
+    if s[at + 45] < 225 {
         return false;
     }
-    if !is_next(s[at + 1]) {
-        return false;
+    let mut n = 0;
+    let mut i = 0;
+    while i < 16 {
+        let k = at + 3 * i;
+        n += three_one(s[k], s[k + 1], s[k + 2]);
+        i += 1;
     }
-    is_next(s[at + 2])
+    n == 16
+}
+
+// Past characters of three bytes, sixteen at a time.
+fn many_threes(s: &[u8], from: usize) -> usize
+    ensures { λ r. ⌜ Run (pastAll charWidth (now (s .entry))) (now (s .entry)) from r ⌝ }
+{
+    let mut at = from;
+    while are_threes(s, at) {
+        at += 48;
+    }
+    at
 }
 
 // Past characters of three bytes.
 fn threes(s: &[u8], from: usize) -> usize
     ensures { λ r. ⌜ Run (pastAll charWidth (now (s .entry))) (now (s .entry)) from r ⌝ }
 {
-    let mut at = from;
+    let mut at = many_threes(s, from);
     while is_three(s, at) {
         at += 3;
     }
