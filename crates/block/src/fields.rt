@@ -3,7 +3,7 @@ ghost use mathlib.Core.Path.{_≡_};
 ghost use Prim.Native.Nat.{_+_, _*_, _≤_, _<_};
 ghost use lib.ListN.{length};
 ghost use Rattle.lent.specs.Bytes.{le16};
-ghost use Rattle.block.specs.Decode.{headersIn, linesIn, movesIn, commentsIn, linePlace, movePlace, commentPlace, textPlace, keyOffset, keyLength, valueOffset, valueLength, startOf, firstEntry, entryCount, parentOf, commentCount, commentOffset, commentLength};
+ghost use Rattle.block.specs.Decode.{headersIn, linesIn, movesIn, commentsIn, linePlace, movePlace, commentPlace, textPlace, keyOffset, keyLength, valueOffset, valueLength, startOf, firstEntry, entryCount, parentOf, commentCount};
 ghost use Rattle.block.specs.Sound.{sum, entriesBefore, commentsBefore, headerBytes, commentBytes};
 
 // The number of two bytes at a place that has both.
@@ -66,11 +66,31 @@ pub(crate) fn text_place(b: &[u8]) -> usize
     128 + 8 * headers(b) + 8 * lines(b) + 20 * moves(b) + 4 * comments(b)
 }
 
-// The numbers of two bytes at a place and n - 1 more, each w bytes further, added up.
-pub(crate) fn sum_of(b: &[u8], place: usize, w: usize, n: usize) -> usize
-    requires { ⌜ (place < 5000000) × (w ≤ 20) × (n < 65536) ⌝ }
+// The numbers of two bytes at a place and n - 1 more, each w bytes further, added up, where the whole table is there: none is looked for
+// by itself, so that many are added at once.
+fn sum_in(b: &[u8], place: usize, w: usize, n: usize) -> usize
+    requires { ⌜ (place + w * n ≤ length (now b)) × (2 ≤ w) × (w ≤ 20) × (n < 65536) ⌝ }
     ensures { λ r. ⌜ (r ≡ sum (λ k. le16 (now (b .entry)) (place + w * k)) n) × (r ≤ 65535 * n) ⌝ }
 {
+    let mut total = 0;
+    let mut at = place;
+    let mut k = 0;
+    while k < n {
+        total += pair(b, at);
+        at += w;
+        k += 1;
+    }
+    total
+}
+
+// The same in any slice.
+pub(crate) fn sum_of(b: &[u8], place: usize, w: usize, n: usize) -> usize
+    requires { ⌜ (place < 5000000) × (2 ≤ w) × (w ≤ 20) × (n < 65536) ⌝ }
+    ensures { λ r. ⌜ (r ≡ sum (λ k. le16 (now (b .entry)) (place + w * k)) n) × (r ≤ 65535 * n) ⌝ }
+{
+    if place + w * n <= b.len() {
+        return sum_in(b, place, w, n);
+    }
     let mut total = 0;
     let mut at = place;
     let mut k = 0;
@@ -172,18 +192,4 @@ pub(crate) fn comment_count(b: &[u8], k: usize) -> usize
     ensures { λ r. ⌜ (r ≡ commentCount (now (b .entry)) k) × (r < 65536) ⌝ }
 {
     lent::get16(b, move_place(b, k) + 18)
-}
-
-pub(crate) fn comment_offset(b: &[u8], k: usize) -> usize
-    requires { ⌜ k < 65536 ⌝ }
-    ensures { λ r. ⌜ (r ≡ commentOffset (now (b .entry)) k) × (r < 65536) ⌝ }
-{
-    lent::get16(b, comment_place(b, k))
-}
-
-pub(crate) fn comment_length(b: &[u8], k: usize) -> usize
-    requires { ⌜ k < 65536 ⌝ }
-    ensures { λ r. ⌜ (r ≡ commentLength (now (b .entry)) k) × (r < 65536) ⌝ }
-{
-    lent::get16(b, comment_place(b, k) + 2)
 }

@@ -7,7 +7,7 @@ ghost use Prim.Native.Nat.{_+_, _*_, _≤_, _<_};
 ghost use lib.ListN.{length, getD};
 ghost use Rattle.lists.specs.Test.{equals, holds, both, each, flag};
 ghost use Rattle.text.specs.Utf8.{isNext};
-ghost use Rattle.block.specs.Decode.{headersIn, commentsIn, textPlace, keyOffset, keyLength, valueOffset, commentOffset};
+ghost use Rattle.block.specs.Decode.{headersIn, commentsIn, commentPlace, textPlace, keyOffset, keyLength, valueOffset, commentOffset};
 ghost use Rattle.block.specs.Sound.{headTest, partsTest, totalsTest, headerBytes, commentBytes, ascends, headerTest, commentTest};
 
 pub(crate) fn head_sound(b: &[u8]) -> bool
@@ -145,12 +145,12 @@ fn keys_ascend(b: &[u8], t: usize) -> bool
     true
 }
 
-// Comment k, whose text begins at a place of the text part, which begins at t.
-fn comment_stands(b: &[u8], t: usize, k: usize, at: usize) -> bool
-    requires { ⌜ (k < 65535) × (at ≡ headerBytes (now b) (headersIn (now b)) + commentBytes (now b) k) × (at < 1000000000000) × (t < 4000000) ⌝ }
+// Comment k of those whose rows begin at a place; its text begins at a place of the text part, which begins at t.
+fn comment_stands(b: &[u8], t: usize, rows: usize, k: usize, at: usize) -> bool
+    requires { ⌜ (rows ≡ commentPlace (now b) 0) × (rows + 4 * k + 4 ≤ length (now b)) × (at ≡ headerBytes (now b) (headersIn (now b)) + commentBytes (now b) k) × (at < 1000000000000) × (t < 4000000) ⌝ }
     ensures { λ r. ⌜ r ≡ flag (both (equals (commentOffset (now (b .entry)) k) (headerBytes (now (b .entry)) (headersIn (now (b .entry))) + commentBytes (now (b .entry)) k)) (holds (not (isNext (getD (now (b .entry)) (t + (headerBytes (now (b .entry)) (headersIn (now (b .entry))) + commentBytes (now (b .entry)) k)) 0))))) ⌝ }
 {
-    if fields::comment_offset(b, k) != at {
+    if fields::pair(b, rows + 4 * k) != at {
         return false;
     }
     starts(b, t + at)
@@ -158,17 +158,18 @@ fn comment_stands(b: &[u8], t: usize, k: usize, at: usize) -> bool
 
 // The comments, whose texts begin after those of the header entries.
 fn comments_stand(b: &[u8], t: usize, headers: usize) -> bool
-    requires { ⌜ (headers ≡ headerBytes (now b) (headersIn (now b))) × (headers < 8600000000) × (t < 4000000) ⌝ }
+    requires { ⌜ (headers ≡ headerBytes (now b) (headersIn (now b))) × (headers < 8600000000) × (t < 4000000) × (textPlace (now b) ≤ length (now b)) ⌝ }
     ensures { λ r. ⌜ r ≡ flag (each (commentsIn (now (b .entry))) (λ k. both (equals (commentOffset (now (b .entry)) k) (headerBytes (now (b .entry)) (headersIn (now (b .entry))) + commentBytes (now (b .entry)) k)) (holds (not (isNext (getD (now (b .entry)) (t + (headerBytes (now (b .entry)) (headersIn (now (b .entry))) + commentBytes (now (b .entry)) k)) 0)))))) ⌝ }
 {
     let n = fields::comments(b);
+    let rows = fields::comment_place(b, 0);
     let mut at = headers;
     let mut k = 0;
     while k < n {
-        if !comment_stands(b, t, k, at) {
+        if !comment_stands(b, t, rows, k, at) {
             return false;
         }
-        at += fields::comment_length(b, k);
+        at += fields::pair(b, rows + 4 * k + 2);
         k += 1;
     }
     true

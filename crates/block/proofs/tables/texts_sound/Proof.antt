@@ -67,7 +67,7 @@ returns-3 c =
     ))
 
 comments-stand-requires : tie.Need-comments-stand-requires
-comments-stand-requires c κs = (c .before .before .before .before .before .before .before .before .before .pre .0, c .before .before .before .before .before .before .before .before .before .pre .1, c .before .before .before .before .before .before .before .text-place .ensures .1)
+comments-stand-requires c κs = (c .before .before .before .before .before .before .before .before .before .pre .0, c .before .before .before .before .before .before .before .before .before .pre .1, c .before .before .before .before .before .before .before .text-place .ensures .1, omega (arith, c .before .before .before .before .before .before .before .before .before .pre .2))
 
 returns-4 : tie.Need-returns-4
 returns-4 c =

@@ -1,53 +1,41 @@
--- Texts that agree in their first i bytes are in the order of what is left of them (`Orders`).
+-- Texts that agree in their first i bytes are in the order of what is left of them, and four bytes of each in that of their numbers (`Orders`).
 -- Assumes nothing.
-use Prim.Native.Nat.{_-_}
+use Prim.Native.Nat.{_-_, _≤_}
 use native.Mathlib.Omega.{arith}
 use mathlib.Core.Path.{_≡_, refl, sym, _∙_}
-use lib.ListN.{length, drop}
+use lib.ListN.{drop}
 use denote.Ref.{now}
 use Rattle.block.specs.Sound.{before}
-use Rattle.block.proofs.Orders.{before-end, before-short, before-less, before-more, before-on}
+use Rattle.block.proofs.Orders.{four-same, four-order}
+use borrow.Author.Needs.{needs}
 use Rattle.block.proofs.texts.is_before.Statement.{statement}
 use Rattle.block.proofs.texts.is_before.Tie as tie
 
 abbrev Inv-loop : tie.InvT-loop
-Inv-loop a b i₀ i = before a b ≡ before (drop i a) (drop i b)
+Inv-loop a b n i₀ i = (i ≤ n) × (before a b ≡ before (drop i a) (drop i b))
 
 abbrev μ-loop : tie.MeasureT-loop
-μ-loop a b i₀ i = length b - i
+μ-loop a b n i₀ i = n - i
+
+smaller-requires : tie.Need-smaller-requires Inv-loop μ-loop
+smaller-requires c κs = search needs
 
 loop-holds : tie.Need-loop-holds Inv-loop μ-loop
-loop-holds c = refl
+loop-holds c = (omega arith, refl)
+
+add-loop : tie.Need-add-loop Inv-loop μ-loop
+add-loop c = omega arith
+
+four-requires : tie.Need-four-requires Inv-loop μ-loop
+four-requires c κs = omega arith
+
+four-requires-2 : tie.Need-four-requires-2 Inv-loop μ-loop
+four-requires-2 c κs = omega arith
 
 returns : tie.Need-returns Inv-loop μ-loop
 returns c =
-    let l = c .before .before in
-    let a = l .before .args in
-    sym (l .loop .inv ∙ before-short (now (a .a)) (now (a .b)) (l .loop .i) (omega arith) (omega arith))
-
-shared-slice-read-if2 : tie.Need-shared-slice-read-if2 Inv-loop μ-loop
-shared-slice-read-if2 c = omega arith
-
-shared-slice-read-if2-2 : tie.Need-shared-slice-read-if2-2 Inv-loop μ-loop
-shared-slice-read-if2-2 c = omega arith
-
-returns-2 : tie.Need-returns-2 Inv-loop μ-loop
-returns-2 c =
-    let l = c .before .before .before .before .before in
-    let a = l .before .args in
-    sym (l .loop .inv ∙ before-less (now (a .a)) (now (a .b)) (l .loop .i) (omega arith) (omega arith) (c .if2 .taken))
-
-shared-slice-read-if3 : tie.Need-shared-slice-read-if3 Inv-loop μ-loop
-shared-slice-read-if3 c = omega arith
-
-shared-slice-read-if3-2 : tie.Need-shared-slice-read-if3-2 Inv-loop μ-loop
-shared-slice-read-if3-2 c = omega arith
-
-returns-3 : tie.Need-returns-3 Inv-loop μ-loop
-returns-3 c =
-    let l = c .before .before .before .before .before .before .before .before in
-    let a = l .before .args in
-    sym (l .loop .inv ∙ before-more (now (a .a)) (now (a .b)) (l .loop .i) (omega arith) (omega arith) (c .if3 .taken))
+    let l = c .before .before .before .before .loop in
+    sym (l .inv .1 ∙ four-order (now (c .before .before .before .before .before .before .before .before .args .a)) (now (c .before .before .before .before .before .before .before .before .args .b)) (l .i) (c .before .before .four .result) (c .before .four2 .result) (omega arith) (omega arith) (λ j. omega (arith, c .before .before .before .before .before .before .before .shared-slice-known .given j)) (λ j. omega (arith, c .before .before .before .before .before .before .shared-slice-known2 .given j)) (c .before .before .four .ensures) (c .before .four2 .ensures) (c .if1 .taken))
 
 add-i : tie.Need-add-i Inv-loop μ-loop
 add-i c = omega arith
@@ -57,15 +45,14 @@ loop-less c = omega arith
 
 loop-again : tie.Need-loop-again Inv-loop μ-loop
 loop-again c =
-    let l = c .before .before .before .before .before .before .before .before in
-    let a = l .before .args in
-    l .loop .inv ∙ before-on (now (a .a)) (now (a .b)) (l .loop .i) (omega arith) (omega arith) (omega arith)
+    let l = c .before .before .before .before .loop in
+    (omega arith, l .inv .1 ∙ four-same (now (c .before .before .before .before .before .before .before .before .args .a)) (now (c .before .before .before .before .before .before .before .before .args .b)) (l .i) (c .before .before .four .result) (c .before .four2 .result) (omega arith) (omega arith) (λ j. omega (arith, c .before .before .before .before .before .before .before .shared-slice-known .given j)) (λ j. omega (arith, c .before .before .before .before .before .before .shared-slice-known2 .given j)) (c .before .before .four .ensures) (c .before .four2 .ensures) (c .if1 .left))
 
-returns-4 : tie.Need-returns-4 Inv-loop μ-loop
-returns-4 c =
-    let l = c .before in
-    let a = l .before .args in
-    sym (l .loop .inv ∙ before-end (now (a .a)) (now (a .b)) (l .loop .i) (omega arith))
+rest-before-requires : tie.Need-rest-before-requires Inv-loop μ-loop
+rest-before-requires c κs = search needs
+
+returns-2 : tie.Need-returns-2 Inv-loop μ-loop
+returns-2 c = c .rest-before .ensures ∙ sym (c .before .before .loop .inv .1)
 
 pub is-before-spec : {M : Type 1} → statement M
 is-before-spec =
@@ -73,15 +60,14 @@ is-before-spec =
     (tie.spec
     Inv-loop
     μ-loop
+    smaller-requires
     loop-holds
+    add-loop
+    four-requires
+    four-requires-2
     returns
-    shared-slice-read-if2
-    shared-slice-read-if2-2
-    returns-2
-    shared-slice-read-if3
-    shared-slice-read-if3-2
-    returns-3
     add-i
     loop-less
     loop-again
-    returns-4)
+    rest-before-requires
+    returns-2)
