@@ -16,6 +16,8 @@ use std::time::{Duration, Instant};
 
 /// How often each side does each work, in turns; the best time counts.
 const ROUNDS: usize = 300;
+/// And how often it does what is too short to be timed once.
+const REPEATS: u32 = 20;
 /// And how often the port does what is made to be slow.
 const SLOW_ROUNDS: usize = 20;
 
@@ -23,6 +25,9 @@ const SLOW_ROUNDS: usize = 20;
 pub fn bench() {
     println!("Best of {ROUNDS} rounds. The port is lent one buffer, which is not cleared between calls; what the");
     println!("original makes (a JsonKifuFormat, a String) is freed outside the time. MB are 1,000,000 bytes.");
+    println!(
+        "Last in a line: how many times as long the port takes as std::str::from_utf8 of the same text, and as a copy."
+    );
     reading::bench();
     #[cfg(feature = "kif_write")]
     writing::bench();
@@ -87,16 +92,33 @@ fn millis(time: Duration) -> f64 {
     time.as_secs_f64() * 1e3
 }
 
-/// A line of the table: both times, both speeds, and how many times as fast the port is.
-fn row(name: &str, bytes: usize, [rust, port]: [Duration; 2]) {
+/// How long it takes to check that a text is UTF-8, and to copy it into the front of a lent buffer.
+fn least_times(text: &[u8], out: &mut [u8]) -> [Duration; 2] {
+    let out = &mut out[..text.len()];
+    let checked = repeated(|| std::str::from_utf8(black_box(text)).is_ok());
+    let copied = repeated(|| black_box(&mut *out).copy_from_slice(black_box(text)));
+    [checked, copied]
+}
+
+/// How long something takes that is too short to be timed once.
+fn repeated<T>(mut run: impl FnMut() -> T) -> Duration {
+    timed(|| (0..REPEATS).for_each(|_| drop(black_box(run())))) / REPEATS
+}
+
+/// A line of the table: both times, both speeds, how many times as fast the port is, and how many times as long as a
+/// check and as a copy it takes.
+fn row(name: &str, bytes: usize, [rust, port]: [Duration; 2], [checked, copied]: [Duration; 2]) {
     let micros = |time: Duration| millis(time) * 1e3;
     let speed = |time: Duration| bytes as f64 / micros(time);
     println!(
-        "{name:8} {bytes:6} bytes  Rust {:9.1} us {:7.1} MB/s  port {:9.1} us {:7.1} MB/s  {:5.1} times",
+        "{name:8} {bytes:6} bytes  Rust {:9.1} us {:7.1} MB/s  port {:9.1} us {:7.1} MB/s  {:5.1} times  \
+         {:5.1} x from_utf8 {:7.1} x copy",
         micros(rust),
         speed(rust),
         micros(port),
         speed(port),
         micros(rust) / micros(port),
+        micros(port) / micros(checked),
+        micros(port) / micros(copied),
     );
 }

@@ -1,6 +1,6 @@
 //! Reading: the original's `parse` and the port's `kif_read`.
 
-use super::{best, confirmed, made_slow, port_time, row, slow, timed, usual, ROUNDS};
+use super::{best, confirmed, least_times, made_slow, port_time, row, slow, timed, usual, ROUNDS};
 use crate::call::Call;
 use crate::original::parser::kif::parse;
 use crate::record::LIMIT;
@@ -10,7 +10,8 @@ pub fn bench() {
     println!("\nreading, {LIMIT} bytes lent");
     for (name, text) in usual::texts() {
         let call = confirmed(reading(&text), &mut out);
-        row(name, text.len(), best(ROUNDS, || [timed(|| parse(&text)), port_time(&call, &mut out)]));
+        let times = best(ROUNDS, || [timed(|| parse(&text)), port_time(&call, &mut out)]);
+        row(name, text.len(), times, best(ROUNDS, || least_times(text.as_bytes(), &mut out)));
     }
     println!("\nreading texts made to be slow, {LIMIT} bytes lent; the port's answer and time");
     let slow = slow::texts().into_iter().map(|(name, text)| (name, text.len(), reading(&text)));

@@ -1,4 +1,4 @@
-//! Texts as they are met: a game, a lesson, a study; and a file of header lines.
+//! Texts as they are met: a game, a lesson, a lesson full of remarks, a study; and files of header lines.
 
 use crate::rng::Rng;
 
@@ -24,9 +24,21 @@ const REMARKS: [&str; 4] = [
     "以下は変化。後手は受けても一手一手である。",
 ];
 
+/// Where remarks of any length are taken from.
+const COMMENTARY: &str = "\
+序盤は角換わりの出だしから、後手が早めに端を突いて工夫を見せた。先手は銀を繰り出して飛車先の交換を急いだが、この手が\
+疑問で、後手に反撃の機会を与えている。本譜のように金を上がって受けるのが冷静な手で、以下は一手一手の寄せになった。";
+
 /// Each text with its name.
-pub fn texts() -> [(&'static str, String); 4] {
-    [("game", game()), ("lesson", lesson()), ("study", study()), ("headers", headers())]
+pub fn texts() -> [(&'static str, String); 6] {
+    [
+        ("game", game()),
+        ("lesson", lesson()),
+        ("remarks", remarks()),
+        ("study", study()),
+        ("headers", headers()),
+        ("keys", keys()),
+    ]
 }
 
 fn game() -> String {
@@ -42,6 +54,18 @@ fn lesson() -> String {
     maker.moves(1, 84, 4);
     for k in 0..12 {
         maker.variation(72 - 6 * k, 12, 3);
+    }
+    maker.text
+}
+
+/// A lesson with twelve variations and a remark at every second move.
+fn remarks() -> String {
+    let mut maker = Maker::new();
+    maker.remarked(1, 70);
+    for k in 0..12 {
+        let start = 66 - 5 * k;
+        maker.heading(start);
+        maker.remarked(start, 8);
     }
     maker.text
 }
@@ -62,11 +86,22 @@ fn study() -> String {
 /// 3,600 distinct keys in no order. With CR LF: with LF alone a text of this length has a block over the limit.
 fn headers() -> String {
     let r = &mut Rng::new(SEED);
-    let mut numbers: Vec<usize> = (0..3_600).map(|k| 10_000 + 23 * k).collect();
+    let numbers = shuffled(r, 3_600);
+    numbers.iter().map(|number| format!("{number}：{}\r\n", 10_000 + r.below(90_000))).collect()
+}
+
+/// 3,200 distinct Japanese keys in no order.
+fn keys() -> String {
+    shuffled(&mut Rng::new(SEED), 3_200).iter().map(|number| format!("鍵{number}：値\n")).collect()
+}
+
+/// So many distinct numbers of five digits.
+fn shuffled(r: &mut Rng, count: usize) -> Vec<usize> {
+    let mut numbers: Vec<usize> = (0..count).map(|k| 10_000 + 23 * k).collect();
     for end in (1..numbers.len()).rev() {
         numbers.swap(end, r.below(end + 1));
     }
-    numbers.iter().map(|number| format!("{number}：{}\r\n", 10_000 + r.below(90_000))).collect()
+    numbers
 }
 
 /// A text while it grows.
@@ -87,8 +122,21 @@ impl Maker {
         self.text += "\n";
     }
 
-    fn variation(&mut self, start: u64, count: u64, commented: usize) {
+    /// A comment of 8 to 40 characters.
+    fn remark(&mut self) {
+        let count = 8 + self.r.below(33);
+        let from = self.r.below(COMMENTARY.chars().count() - count);
+        self.text += "*";
+        self.text.extend(COMMENTARY.chars().skip(from).take(count));
+        self.text += "\n";
+    }
+
+    fn heading(&mut self, start: u64) {
         self.text += &format!("\n変化：{start}手\n");
+    }
+
+    fn variation(&mut self, start: u64, count: u64, commented: usize) {
+        self.heading(start);
         self.moves(start, count, commented);
     }
 
@@ -98,6 +146,16 @@ impl Maker {
             self.play(ply);
             if self.r.one_in(commented) {
                 self.comment();
+            }
+        }
+    }
+
+    /// Move lines from this ply on, with a remark at every even one.
+    fn remarked(&mut self, start: u64, count: u64) {
+        for ply in start..start + count {
+            self.play(ply);
+            if ply % 2 == 0 {
+                self.remark();
             }
         }
     }

@@ -1,6 +1,6 @@
 //! Writing: the original's `to_kif_owned` and the port's `kif_write`, on what reading made of the same texts.
 
-use super::{best, block, confirmed, made_slow, port_time, row, slow, timed, usual, ROUNDS};
+use super::{best, block, confirmed, least_times, made_slow, port_time, row, slow, timed, usual, ROUNDS};
 use crate::call::Call;
 use crate::judge::{self, LONGEST};
 use crate::original::converter::kif::ToKif;
@@ -14,8 +14,10 @@ pub fn bench() {
         let written = judge::write(&block).needed().expect("and written");
         let (_, read) = parse(&text).expect("by the original too");
         let call = confirmed(Call::Write { block }, &mut out);
-        assert!(read.to_kif_owned().as_bytes() == &out[..written], "not what the original writes");
-        row(name, written, best(ROUNDS, || [timed(|| read.to_kif_owned()), port_time(&call, &mut out)]));
+        let shown = read.to_kif_owned();
+        assert!(shown.as_bytes() == &out[..written], "not what the original writes");
+        let times = best(ROUNDS, || [timed(|| read.to_kif_owned()), port_time(&call, &mut out)]);
+        row(name, written, times, best(ROUNDS, || least_times(shown.as_bytes(), &mut out)));
     }
     println!("\nwriting the long blocks of texts made to be slow, {LONGEST} bytes lent; the port's answer and time");
     let blocks = slow::blocks().into_iter();
