@@ -52,7 +52,7 @@ fn put_from(out: &mut [u8], x: u8, y: u8) -> usize
     let n = lent::put_bytes(out, b"(");
     let m = n + lent::put_decimal(&mut out[n..], x as u64);
     let e = m + lent::put_decimal(&mut out[m..], y as u64);
-    e + lent::put_bytes(&mut out[e..], b")")
+    lent::put_at(out, e, b")")
 }
 
 fn put_origin(out: &mut [u8], from: Origin) -> usize
@@ -153,7 +153,7 @@ fn put_figure(out: &mut [u8], fill: u8, after: u8, v: u8) -> usize
     ensures { λ r. ⌜ Wrote (figureText fill after v) (now (out .entry)) (now (out .exit)) r ⌝ }
 {
     let n = lent::put_padded(out, v as u64, 2, fill);
-    n + lent::put_bytes(&mut out[n..], &[after])
+    lent::put_at(out, n, &[after])
 }
 
 pub(crate) fn hour(c: Clock) -> u8
@@ -233,7 +233,7 @@ fn put_ply(out: &mut [u8], ply: usize) -> usize
     ensures { λ r. ⌜ Wrote (padded 4 32 ply ++ (32 ∷ [])) (now (out .entry)) (now (out .exit)) r ⌝ }
 {
     let n = lent::put_padded(out, ply as u64, 4, b' ');
-    n + lent::put_bytes(&mut out[n..], b" ")
+    lent::put_at(out, n, b" ")
 }
 
 // The line of an entry.
@@ -244,7 +244,7 @@ fn put_entry_line(out: &mut [u8], ply: usize, e: Entry) -> usize
     let a = put_ply(out, ply);
     let b = a + put_play(&mut out[a..], e);
     let c = b + put_time(&mut out[b..], width_of(e), jkf::time_of(e));
-    c + lent::put_bytes(&mut out[c..], b"\n")
+    lent::put_at(out, c, b"\n")
 }
 
 // The line of a row's entry.
@@ -344,7 +344,7 @@ fn put_variation_head(out: &mut [u8], start: usize) -> usize
 {
     let n = lent::put_bytes(out, b"\n\xe5\xa4\x89\xe5\x8c\x96\xef\xbc\x9a");
     let m = n + lent::put_decimal(&mut out[n..], start as u64);
-    m + lent::put_bytes(&mut out[m..], b"\xe6\x89\x8b\n")
+    lent::put_at(out, m, b"\xe6\x89\x8b\n")
 }
 
 // Line k, which is a variation.

@@ -21,9 +21,9 @@ fn put_header(out: &mut [u8], key: &[u8], value: &[u8]) -> usize
     ensures { λ r. ⌜ Wrote (headerLine (record { key = now (key .entry); value = now (value .entry) })) (now (out .entry)) (now (out .exit)) r ⌝ }
 {
     let n = lent::put_bytes(out, key);
-    let m = n + lent::put_bytes(&mut out[n..], b"\xef\xbc\x9a");
-    let e = m + lent::put_bytes(&mut out[m..], value);
-    e + lent::put_bytes(&mut out[e..], b"\n")
+    let m = lent::put_at(out, n, b"\xef\xbc\x9a");
+    let e = lent::put_at(out, m, value);
+    lent::put_at(out, e, b"\n")
 }
 
 // Where the leading keys stand: one more than the header entry's number, 0 for none.
@@ -105,7 +105,7 @@ fn put_preset_line(out: &mut [u8], preset: u8) -> usize
 {
     let n = lent::put_bytes(out, b"\xe6\x89\x8b\xe5\x90\x88\xe5\x89\xb2\xef\xbc\x9a");
     let m = n + spell::put_preset(&mut out[n..], preset);
-    m + lent::put_bytes(&mut out[m..], b"\n")
+    lent::put_at(out, m, b"\n")
 }
 
 // A count above 1.
@@ -129,7 +129,7 @@ fn put_held(out: &mut [u8], kind: u8, count: u8) -> usize
     }
     let n = spell::put_board_kind(out, kind);
     let m = n + put_more(&mut out[n..], count);
-    m + lent::put_bytes(&mut out[m..], b"\xe3\x80\x80")
+    lent::put_at(out, m, b"\xe3\x80\x80")
 }
 
 // What a side holds.   (the Rust's write_hand)
@@ -166,13 +166,9 @@ fn put_hand_line(out: &mut [u8], hands: &[u8], side: usize) -> usize
     ensures { λ r. ⌜ Wrote (handLine (now (hands .entry)) side) (now (out .entry)) (now (out .exit)) r ⌝ }
 {
     let n = spell::put_side(out, side as u8);
-    let m = n
-        + lent::put_bytes(
-            &mut out[n..],
-            b"\xe3\x81\xae\xe6\x8c\x81\xe9\xa7\x92\xef\xbc\x9a",
-        );
+    let m = lent::put_at(out, n, b"\xe3\x81\xae\xe6\x8c\x81\xe9\xa7\x92\xef\xbc\x9a");
     let e = m + put_hand(&mut out[m..], hands, side);
-    e + lent::put_bytes(&mut out[e..], b"\n")
+    lent::put_at(out, e, b"\n")
 }
 
 // A piece after a space or v.
@@ -222,7 +218,7 @@ fn put_row_end(out: &mut [u8], rank: usize) -> usize
 {
     let n = lent::put_bytes(out, b"|");
     let m = n + spell::put_numeral(&mut out[n..], (rank + 1) as u8);
-    m + lent::put_bytes(&mut out[m..], b"\n")
+    lent::put_at(out, m, b"\n")
 }
 
 // A row of the diagram.
@@ -258,7 +254,7 @@ fn put_board(out: &mut [u8], cells: &[u8]) -> usize
         b"  \xef\xbc\x99 \xef\xbc\x98 \xef\xbc\x97 \xef\xbc\x96 \xef\xbc\x95 \xef\xbc\x94 \xef\xbc\x93 \xef\xbc\x92 \xef\xbc\x91\n+---------------------------+\n",
     );
     let m = n + put_rows(&mut out[n..], cells);
-    m + lent::put_bytes(&mut out[m..], b"+---------------------------+\n")
+    lent::put_at(out, m, b"+---------------------------+\n")
 }
 
 // White to move; nothing where Black is.
@@ -270,8 +266,7 @@ fn put_turn(out: &mut [u8], turn: u8) -> usize
         return 0;
     }
     let n = spell::put_side(out, 1);
-    let m = n + lent::put_bytes(&mut out[n..], b"\xe7\x95\xaa");
-    m + lent::put_bytes(&mut out[m..], b"\n")
+    lent::put_at(out, n, b"\xe7\x95\xaa\n")
 }
 
 // White's hand and the board.

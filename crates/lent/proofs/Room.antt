@@ -3,11 +3,14 @@
 use Prim.Native.Nat.{ℕ, _+_, _-_, _≤_}
 use native.Mathlib.Omega.{arith}
 use mathlib.Core.Path.{_≡_, refl, sym, ap, _∙_}
-use mathlib.Core.List.{List, [], _∷_, _++_}
+use mathlib.Core.List.{List, [], _∷_, _++_, append-assoc}
 use lib.ListN.{length, drop, length-append}
+use lib.Seq.{drop-at, drop-drop}
 use borrow.Rule.Slice.PartMut.{midOf, putMid}
 use Rattle.lent.specs.Bytes.{Wrote, fitting}
-use Rattle.lent.proofs.Writes.{as-text, wrote-all, wrote-length, rest-length, then}
+use Rattle.lent.specs.Regions.{Stored}
+use Rattle.lent.proofs.Writes.{as-text, wrote-all, wrote-length, wrote-front, rest-length, then}
+use Rattle.lent.proofs.Regions.{put-eq, stored-all}
 
 -- the front of a text that has room has room
 pub room-front : (t u : List ℕ) {n : ℕ} → length (t ++ u) ≤ n → length t ≤ n
@@ -60,6 +63,35 @@ pub three-of : (t u v : List ℕ) {o o₁ p q : List ℕ} {n m k : ℕ} → leng
     → Wrote (fitting v (left (n + m) (filled n o₁ p))) (left (n + m) (filled n o₁ p)) q k
     → Wrote ((t ++ u) ++ v) o (filled (n + m) (filled n o₁ p) q) (n + m + k)
 three-of t u v h a b c = then-piece v (two-of t u (room-front (t ++ u) v h) a b) h c
+
+-- ---- pieces that are stored at the end of what was written
+
+-- a text stored at the end of what was written
+pub then-stored : {u o o₁ o₂ : List ℕ} {n r : ℕ} (t : List ℕ) → Wrote u o o₁ n → length (u ++ t) ≤ length o
+    → Stored (fitting t (drop n o₁)) o₁ o₂ n r → Wrote (u ++ t) o o₂ r
+then-stored {u} {o} {o₁} {o₂} {n} {r} t w h s =
+    let k : n + length t ≤ length o₁ = omega (arith, length-append u t, w .count, wrote-length w) in
+    let v : Stored t o₁ o₂ n r = stored-all k s in
+    let e : drop n o₁ ≡ drop n o = rw (w .bytes) (drop-at u (drop n o) n (sym (w .count))) in
+    record {
+      count = omega (arith, v .end, length-append u t, w .count);
+      bytes =
+          v .bytes ∙ put-eq o₁ n t k ∙ ap (λ (l : List ℕ). l ++ (t ++ drop (n + length t) o₁)) (wrote-front w)
+          ∙ ap (λ (l : List ℕ). u ++ (t ++ l)) (sym (drop-drop (length t) n o₁) ∙ ap (drop (length t)) e ∙ drop-drop (length t) n o)
+          ∙ sym (append-assoc u t (drop (n + length t) o)) ∙ ap (λ (m : ℕ). (u ++ t) ++ drop m o) (sym (v .end));
+      fits = omega (arith, v .end, wrote-length w);
+    }
+
+-- two pieces, the second stored
+pub two-stored : (t u : List ℕ) {o o₁ o₂ : List ℕ} {n r : ℕ} → length (t ++ u) ≤ length o → Wrote (fitting t o) o o₁ n
+    → Stored (fitting u (drop n o₁)) o₁ o₂ n r → Wrote (t ++ u) o o₂ r
+two-stored t u h a b = then-stored u (first-of t u h a) h b
+
+-- three pieces, the third stored
+pub three-stored : (t u v : List ℕ) {o o₁ p q : List ℕ} {n m r : ℕ} → length ((t ++ u) ++ v) ≤ length o
+    → Wrote (fitting t o) o o₁ n → Wrote (fitting u (left n o₁)) (left n o₁) p m
+    → Stored (fitting v (drop (n + m) (filled n o₁ p))) (filled n o₁ p) q (n + m) r → Wrote ((t ++ u) ++ v) o q r
+three-stored t u v h a b c = then-stored v (two-of t u (room-front (t ++ u) v h) a b) h c
 
 -- ---- nothing was written
 

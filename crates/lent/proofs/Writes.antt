@@ -1,14 +1,18 @@
 -- Laws of `Wrote` and `fitting`, by which every writer's promise is met.
 --     then        a second text, written from the first one's end on
+--     within, sum-fits    where a text ends, for the start of the rest and for the sum
 --     unwritten   nothing was written since it did not fit
 --     written     it was written since it did
 -- Assumes nothing.
-use Prim.Native.Nat.{ℕ, zero-le, _+_, _-_, _≤_, _<_}
+use Prim.Native.Nat.{ℕ, zero-le, _+_, _-_, _%_, _≤_, _<_, _^_}
+use native.Mathlib.Nat.{lt-of-le-of-lt}
 use native.Mathlib.Omega.{arith}
 use mathlib.Core.Path.{_≡_, refl, sym, ap, _∙_}
 use mathlib.Core.List.{List, [], _∷_, _++_, append-assoc, append-nil}
 use lib.ListN.{length, getD, take, drop, set, replicate, length-append, length-drop, drop-of-length-le, replicate-append-replicate}
 use lib.Seq.{take-all, take-length, take-at, drop-at, drop-drop, set-at}
+use mir.Syntax.{w8, w64}
+use mir.Val.{Fits}
 use borrow.Rule.Slice.PartMut.{midOf, putMid}
 use borrow.Author.Tests.{le-leb, lt-leb}
 use Rattle.lists.proofs.Laws.{drop-step}
@@ -65,6 +69,14 @@ pub wrote-length : {t o o′ : List ℕ} {n : ℕ} → Wrote t o o′ n → leng
 wrote-length {t} {o} {o′} {n} w =
     omega (arith, ap length (w .bytes), length-append t (drop n o), length-drop n o, w .count, w .fits)
 
+-- what was written ends within it
+pub within : {t o o′ : List ℕ} {n : ℕ} → Wrote t o o′ n → n ≤ length o′
+within w = omega (arith, wrote-length w, w .fits)
+
+-- its length is a number of the machine, since the buffer's is
+pub sum-fits : {t o o′ : List ℕ} {n : ℕ} → Wrote t o o′ n → length o < 2 ^ 64 → Fits w64 n
+sum-fits w h = record { fits = lt-of-le-of-lt (w .fits) h }
+
 -- the text stands at the front
 pub wrote-front : {t o o′ : List ℕ} {n : ℕ} → Wrote t o o′ n → take n o′ ≡ t
 wrote-front {t} {o} {n = n} w = rw (w .bytes) (take-at t (drop n o) n (sym (w .count)))
@@ -116,6 +128,10 @@ pub run-more : (i b : ℕ) → replicate i b ++ (b ∷ []) ≡ replicate (i + 1)
 run-more i b = replicate-append-replicate i 1 b
 
 -- ---- numbers of two bytes
+
+-- the low byte of a number is a byte
+pub low-byte : (v : ℕ) → Fits w8 (v % 256)
+low-byte v = record { fits = omega arith }
 
 -- what is read where a number was written
 pub read16 : (v : ℕ) (r : List ℕ) → v < 65536 → le16 (bytes16 v ++ r) 0 ≡ v

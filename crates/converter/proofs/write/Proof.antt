@@ -11,7 +11,7 @@ use Rattle.converter.proofs.write.Statement.{statement}
 use Rattle.converter.proofs.write.Tie as tie
 
 sound-requires : tie.Need-sound-requires
-sound-requires c κs = search needs
+sound-requires c κs = tt
 
 returns : tie.Need-returns
 returns c = told (not-sound (now (c .before .before .before .before .args .block)) (now (c .before .before .before .before .args .out)) (sym (c .before .sound .ensures) ∙ not-true _ (c .if1 .taken))) (refl, refl)

@@ -12,10 +12,10 @@ use Rattle.converter.proofs.write_sound.Statement.{statement}
 use Rattle.converter.proofs.write_sound.Tie as tie
 
 position-of-requires : tie.Need-position-of-requires
-position-of-requires c κs = search needs
+position-of-requires c κs = tt
 
 hands-obstacle-requires : tie.Need-hands-obstacle-requires
-hands-obstacle-requires c κs = search needs
+hands-obstacle-requires c κs = tt
 
 enum-known-side : tie.Need-enum-known-side
 enum-known-side c = search needs

@@ -1,5 +1,6 @@
 -- The rest of the buffer from the place on is lent to `put_bytes`; past the end nothing is stored.
 -- Assumes nothing.
+use native.Mathlib.Nat.{le-refl}
 use denote.Ref.{now}
 use borrow.Author.Needs.{needs}
 use Rattle.lent.proofs.Regions.{stored-none, stored-part}
@@ -15,13 +16,13 @@ sub-put-bytes : tie.Need-sub-put-bytes
 sub-put-bytes c = search needs
 
 part-put-bytes-start : tie.Need-part-put-bytes-start
-part-put-bytes-start c = search needs
+part-put-bytes-start c = sub-put-bytes c
 
 part-put-bytes-end : tie.Need-part-put-bytes-end
-part-put-bytes-end c = search needs
+part-put-bytes-end c = le-refl _
 
 put-bytes-requires : tie.Need-put-bytes-requires
-put-bytes-requires c κs = search needs
+put-bytes-requires c κs = tt
 
 add-result : tie.Need-add-result
 add-result c = search needs

@@ -7,7 +7,7 @@ use Rattle.lent.proofs.put_decimal.Statement.{statement}
 use Rattle.lent.proofs.put_decimal.Tie as tie
 
 decimal-len-requires : tie.Need-decimal-len-requires
-decimal-len-requires c κs = search needs
+decimal-len-requires c κs = tt
 
 returns : tie.Need-returns
 returns c = unwritten _ _ (omega arith)

@@ -1,5 +1,6 @@
 -- A number as wide as asked stands alone; else the run that is missing is written, and the digits after it.
 -- Assumes nothing.
+use native.Mathlib.Nat.{le-refl}
 use Prim.Native.Nat.{ℕ, _-_}
 use native.Mathlib.Omega.{arith}
 use mathlib.Core.List.{List, _++_}
@@ -15,10 +16,10 @@ use Rattle.lent.proofs.put_padded.Statement.{statement}
 use Rattle.lent.proofs.put_padded.Tie as tie
 
 decimal-len-requires : tie.Need-decimal-len-requires
-decimal-len-requires c κs = search needs
+decimal-len-requires c κs = tt
 
 put-decimal-requires : tie.Need-put-decimal-requires
-put-decimal-requires c κs = search needs
+put-decimal-requires c κs = tt
 
 returns : tie.Need-returns
 returns c =
@@ -37,16 +38,16 @@ sub-put-run : tie.Need-sub-put-run
 sub-put-run c = search needs
 
 put-run-requires : tie.Need-put-run-requires
-put-run-requires c κs = search needs
+put-run-requires c κs = tt
 
 sub-put-digits : tie.Need-sub-put-digits
 sub-put-digits c = search needs
 
 part-put-digits-start : tie.Need-part-put-digits-start
-part-put-digits-start c = search needs
+part-put-digits-start c = sub-put-digits c
 
 part-put-digits-end : tie.Need-part-put-digits-end
-part-put-digits-end c = search needs
+part-put-digits-end c = le-refl _
 
 put-digits-requires : tie.Need-put-digits-requires
 put-digits-requires c κs =

@@ -5,7 +5,6 @@ use native.Mathlib.Omega.{arith}
 use mathlib.Core.Path.{_≡_, sym, ap, _∙_}
 use mathlib.Core.Bool.{true, false}
 use denote.Ref.{now}
-use borrow.Author.Needs.{needs}
 use borrow.Author.Tests.{not-true, not-false}
 use Rattle.jkf.specs.Entries.{entryIn}
 use Rattle.block.specs.Decode.{run, notedIn}
@@ -31,10 +30,10 @@ cast-row-of : tie.Need-cast-row-of Inv-loop μ-loop
 cast-row-of c = omega (arith, c .before .before .before .pre)
 
 row-of-requires : tie.Need-row-of-requires Inv-loop μ-loop
-row-of-requires c κs = search needs
+row-of-requires c κs = tt
 
 row-fits-requires : tie.Need-row-fits-requires Inv-loop μ-loop
-row-fits-requires c κs = search needs
+row-fits-requires c κs = tt
 
 returns : tie.Need-returns Inv-loop μ-loop
 returns c =

@@ -5,7 +5,6 @@ use native.Mathlib.Omega.{arith}
 use mathlib.Core.Path.{_≡_, refl, sym, _∙_}
 use denote.Ref.{now}
 use lib.ListN.{getD}
-use borrow.Author.Needs.{needs}
 use borrow.Author.Tests.{lt-ltb, le-ltb}
 use Rattle.converter.specs.Show.{handObstacle}
 use Rattle.converter.proofs.Blocked.{hand-more, hand-none}
@@ -22,7 +21,7 @@ loop-holds : tie.Need-loop-holds Inv-loop μ-loop
 loop-holds c = (omega arith, refl)
 
 peek-requires : tie.Need-peek-requires Inv-loop μ-loop
-peek-requires c κs = search needs
+peek-requires c κs = tt
 
 returns : tie.Need-returns Inv-loop μ-loop
 returns c =

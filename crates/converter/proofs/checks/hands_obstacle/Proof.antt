@@ -1,8 +1,8 @@
 -- Counts are looked at where there is a diagram, as the definition says.
 -- Assumes nothing.
+use borrow.Author.Needs.{needs}
 use borrow.Author.Tests.{eq-eqb, ne-eqb}
 use Rattle.converter.specs.Show.{handsObstacle}
-use borrow.Author.Needs.{needs}
 use Rattle.converter.proofs.checks.hands_obstacle.Statement.{statement}
 use Rattle.converter.proofs.checks.hands_obstacle.Tie as tie
 
@@ -14,7 +14,7 @@ slice-aggregate-hand-obstacle : tie.Need-slice-aggregate-hand-obstacle
 slice-aggregate-hand-obstacle c = search needs
 
 hand-obstacle-requires : tie.Need-hand-obstacle-requires
-hand-obstacle-requires c κs = search needs
+hand-obstacle-requires c κs = tt
 
 returns-2 : tie.Need-returns-2
 unfolding handsObstacle

@@ -9,7 +9,7 @@ target-fits-requires : tie.Need-target-fits-requires
 target-fits-requires c κs = search needs
 
 move-width-requires : tie.Need-move-width-requires
-move-width-requires c κs = search needs
+move-width-requires c κs = tt
 
 time-fits-requires : tie.Need-time-fits-requires
 time-fits-requires c κs = search needs

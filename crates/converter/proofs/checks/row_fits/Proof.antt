@@ -1,7 +1,6 @@
 -- An entry of the usual form can be written (`usual-fits`); any other is asked.
 -- Assumes nothing.
 use denote.Ref.{now}
-use borrow.Author.Needs.{needs}
 use Rattle.converter.specs.Entries.{canWrite}
 use Rattle.converter.proofs.Usually.{usual-fits}
 use mathlib.Core.Path.{_∙_, ap}
@@ -9,16 +8,16 @@ use Rattle.converter.proofs.checks.row_fits.Statement.{statement}
 use Rattle.converter.proofs.checks.row_fits.Tie as tie
 
 is-usual-requires : tie.Need-is-usual-requires
-is-usual-requires c κs = search needs
+is-usual-requires c κs = tt
 
 returns : tie.Need-returns
 returns c = usual-fits (now (c .before .before .before .args .row)) (c .before .is-usual .ensures (c .if1 .taken))
 
 entry-in-requires : tie.Need-entry-in-requires
-entry-in-requires c κs = search needs
+entry-in-requires c κs = tt
 
 can-write-requires : tie.Need-can-write-requires
-can-write-requires c κs = search needs
+can-write-requires c κs = tt
 
 returns-2 : tie.Need-returns-2
 returns-2 c = c .can-write .ensures ∙ ap canWrite (c .before .entry-in .ensures)

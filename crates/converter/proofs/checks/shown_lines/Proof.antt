@@ -19,7 +19,7 @@ abbrev μ-loop : tie.MeasureT-loop
 μ-loop b count k₀ k = count - k
 
 lines-in-requires : tie.Need-lines-in-requires Inv-loop μ-loop
-lines-in-requires c κs = search needs
+lines-in-requires c κs = tt
 
 loop-holds : tie.Need-loop-holds Inv-loop μ-loop
 loop-holds c = (omega arith, omega (arith, c .lines-in .ensures .0, c .before .before .pre .totals .0), shown-first (lineIn (now (c .before .before .args .b))) (c .lines-in .result))

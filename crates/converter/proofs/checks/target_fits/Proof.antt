@@ -11,10 +11,10 @@ enum-known-to : tie.Need-enum-known-to
 enum-known-to c = search needs
 
 within-requires : tie.Need-within-requires
-within-requires c κs = search needs
+within-requires c κs = tt
 
 within-requires-2 : tie.Need-within-requires-2
-within-requires-2 c κs = search needs
+within-requires-2 c κs = tt
 
 returns : tie.Need-returns
 returns c = rw (c .before .before .before .before .to .given .1, ← c .before .before .within .ensures, c .before .if1 .taken, ← c .within2 .ensures)

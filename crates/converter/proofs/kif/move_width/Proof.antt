@@ -1,14 +1,13 @@
 -- The sum is that of `moveWidth`, and its parts are at most 4, 4, 2 and 4.
 -- Assumes nothing.
 use native.Mathlib.Omega.{arith}
-use borrow.Author.Needs.{needs}
 use Rattle.converter.specs.Entries.{moveWidth}
 use Rattle.converter.proofs.Worded.{kind-narrow, promote-narrow, origin-narrow}
 use Rattle.converter.proofs.kif.move_width.Statement.{statement}
 use Rattle.converter.proofs.kif.move_width.Tie as tie
 
 kind-width-requires : tie.Need-kind-width-requires
-kind-width-requires c κs = search needs
+kind-width-requires c κs = tt
 
 add-result : tie.Need-add-result
 add-result c =
@@ -16,7 +15,7 @@ add-result c =
     omega arith
 
 promote-width-requires : tie.Need-promote-width-requires
-promote-width-requires c κs = search needs
+promote-width-requires c κs = tt
 
 add-result-2 : tie.Need-add-result-2
 add-result-2 c =
@@ -25,7 +24,7 @@ add-result-2 c =
     omega arith
 
 origin-width-requires : tie.Need-origin-width-requires
-origin-width-requires c κs = search needs
+origin-width-requires c κs = tt
 
 add-result-3 : tie.Need-add-result-3
 add-result-3 c =

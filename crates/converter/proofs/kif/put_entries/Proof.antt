@@ -1,12 +1,13 @@
 -- The loop has written the entries passed; one more is the text so far with one entry more, and a front of the whole fits where the whole does.
 -- Assumes nothing.
+use native.Mathlib.Nat.{le-refl}
 use Prim.Native.Nat.{_+_, _-_, _≤_, zero-le}
 use native.Mathlib.Omega.{arith}
 use mathlib.Core.Path.{_≡_, sym}
 use lib.ListN.{length}
 use denote.Ref.{now}
 use borrow.Author.Needs.{needs}
-use Rattle.lent.proofs.Writes.{as-text, nothing, wrote-length, rest-length}
+use Rattle.lent.proofs.Writes.{as-text, nothing, wrote-length, within, sum-fits, then}
 use Rattle.lent.specs.Bytes.{Wrote}
 use Rattle.block.specs.Decode.{run, notedIn}
 use Rattle.converter.specs.Entries.{notedText, entriesText}
@@ -27,16 +28,13 @@ loop-holds c =
     (zero-le, as-text (sym (entries-none (a .ply) (notedIn (now (a .b))) (a .first))) (nothing _))
 
 sub-put-noted : tie.Need-sub-put-noted Inv-loop μ-loop
-sub-put-noted c =
-    omega (arith, wrote-length (c .before .loop .inv .1))
+sub-put-noted c = within (c .before .loop .inv .1)
 
 part-put-noted-start : tie.Need-part-put-noted-start Inv-loop μ-loop
-part-put-noted-start c =
-    let h = wrote-length (c .before .loop .inv .1) in
-    search needs
+part-put-noted-start c = sub-put-noted c
 
 part-put-noted-end : tie.Need-part-put-noted-end Inv-loop μ-loop
-part-put-noted-end c = search needs
+part-put-noted-end c = le-refl _
 
 add-put-noted : tie.Need-add-put-noted Inv-loop μ-loop
 add-put-noted c = search needs
@@ -52,9 +50,7 @@ put-noted-requires c κs =
     (c .before .before .before .before .before .pre .0, omega arith, room-left (length (notedText (a .ply + l .i) (notedIn (now (a .b)) (a .first + l .i)))) (l .inv .1) (omega (arith, l .inv .1 .count, c .before .before .before .before .before .pre .3)))
 
 add-at : tie.Need-add-at Inv-loop μ-loop
-add-at c =
-    let l = c .before .before .before .before .before .loop in
-    omega (arith, wrote-length (l .inv .1), rest-length (l .out) (l .at))
+add-at c = sum-fits (then (c .before .before .before .before .before .loop .inv .1) (c .before .before .put-noted .ensures)) (c .before .before .before .before .before .before .before .before .good .0 .0)
 
 add-i : tie.Need-add-i Inv-loop μ-loop
 add-i c = search needs

@@ -1,12 +1,13 @@
 -- A sound block's line 0 begins with entry 0, so its slot's comments are those of entry 0, and its other entries are those from 1 on.
 -- Assumes nothing.
+use native.Mathlib.Nat.{le-refl}
 use Prim.Native.Nat.{_-_}
 use native.Mathlib.Omega.{arith}
 use mathlib.Core.Path.{refl}
 use denote.Ref.{now}
 use borrow.Author.Needs.{needs}
 use Rattle.block.specs.Decode.{run, notedIn, entryCount}
-use Rattle.lent.proofs.Writes.{as-text, then, wrote-length}
+use Rattle.lent.proofs.Writes.{as-text, then, wrote-length, sum-fits, within}
 use Rattle.block.proofs.Within.{entries-within, some-line, some-entry}
 use Rattle.converter.specs.Entries.{remarksText, entriesText}
 use Rattle.converter.proofs.Playing.{main-text}
@@ -26,13 +27,13 @@ put-comments-requires c κs =
     )
 
 sub-put-entries : tie.Need-sub-put-entries
-sub-put-entries c = search needs
+sub-put-entries c = within (c .before .before .put-comments .ensures)
 
 part-put-entries-start : tie.Need-part-put-entries-start
-part-put-entries-start c = search needs
+part-put-entries-start c = sub-put-entries c
 
 part-put-entries-end : tie.Need-part-put-entries-end
-part-put-entries-end c = search needs
+part-put-entries-end c = le-refl _
 
 entry-count-requires : tie.Need-entry-count-requires
 entry-count-requires c κs = search needs
@@ -55,12 +56,12 @@ put-entries-requires c κs =
       room-after (entriesText 1 (run (notedIn b) 1 (c .entry-count .result - 1))) (c .before .before .before .before .put-comments .ensures) h,
     )
 
-add-result : tie.Need-add-result
-add-result c = search needs
-
 returns : tie.Need-returns
 returns c =
     as-text (main-text (now (c .before .before .before .before .before .before .before .before .before .before .before .args .b)) (c .before .before .before .before .before .before .before .before .before .before .before .pre .0) (c .before .before .before .entry-count .ensures .0)) (then (c .before .before .before .before .before .before .before .put-comments .ensures) (c .before .before .put-entries .ensures))
+
+add-result : tie.Need-add-result
+add-result c = sum-fits (returns c) (c .before .before .before .before .before .before .before .before .before .before .before .good .0 .0)
 
 same-length : tie.Need-same-length
 same-length c = wrote-length (returns c)

@@ -1,9 +1,9 @@
 -- Four pieces one after another, each with its room.
 -- Assumes nothing.
-use borrow.Author.Needs.{needs}
+use native.Mathlib.Nat.{le-refl}
 use Rattle.spell.specs.Tables.{moveKinds}
 use Rattle.spell.specs.Spell.{spelled}
-use Rattle.lent.proofs.Writes.{then, wrote-length}
+use Rattle.lent.proofs.Writes.{then, wrote-length, sum-fits, within}
 use Rattle.converter.specs.Entries.{promoteText, originText, moveText}
 use Rattle.converter.proofs.Worded.{move-room}
 use Rattle.converter.proofs.kif.put_move.Statement.{statement}
@@ -14,28 +14,28 @@ put-target-requires : tie.Need-put-target-requires
 put-target-requires c κs = move-room (c .before .before .args .m) (c .before .before .pre) .0
 
 sub-put-kind : tie.Need-sub-put-kind
-sub-put-kind c = search needs
+sub-put-kind c = within (c .before .before .put-target .ensures)
 
 part-put-kind-start : tie.Need-part-put-kind-start
-part-put-kind-start c = search needs
+part-put-kind-start c = sub-put-kind c
 
 part-put-kind-end : tie.Need-part-put-kind-end
-part-put-kind-end c = search needs
+part-put-kind-end c = le-refl _
 
 put-kind-requires : tie.Need-put-kind-requires
-put-kind-requires c κs = search needs
+put-kind-requires c κs = tt
 
 add-b : tie.Need-add-b
-add-b c = search needs
+add-b c = sum-fits (then (c .before .before .before .before .before .before .put-target .ensures) (c .before .before .put-kind .ensures)) (c .before .before .before .before .before .before .before .before .before .good .0 .0)
 
 sub-put-promote : tie.Need-sub-put-promote
-sub-put-promote c = search needs
+sub-put-promote c = within (then (c .before .before .before .before .before .before .put-target .ensures) (c .before .before .put-kind .ensures))
 
 part-put-promote-start : tie.Need-part-put-promote-start
-part-put-promote-start c = search needs
+part-put-promote-start c = sub-put-promote c
 
 part-put-promote-end : tie.Need-part-put-promote-end
-part-put-promote-end c = search needs
+part-put-promote-end c = le-refl _
 
 put-promote-requires : tie.Need-put-promote-requires
 put-promote-requires c κs =
@@ -44,16 +44,16 @@ put-promote-requires c κs =
     room-after (promoteText (m .promote)) (then-piece (spelled moveKinds (m .piece)) (c .before .before .before .before .before .before .before .put-target .ensures) (r .1) (c .before .before .before .put-kind .ensures)) (r .2)
 
 add-c : tie.Need-add-c
-add-c c = search needs
+add-c c = sum-fits (then (then (c .before .before .before .before .before .before .before .before .before .before .put-target .ensures) (c .before .before .before .before .before .before .put-kind .ensures)) (c .before .before .put-promote .ensures)) (c .before .before .before .before .before .before .before .before .before .before .before .before .before .good .0 .0)
 
 sub-put-origin : tie.Need-sub-put-origin
-sub-put-origin c = search needs
+sub-put-origin c = within (then (then (c .before .before .before .before .before .before .before .before .before .before .put-target .ensures) (c .before .before .before .before .before .before .put-kind .ensures)) (c .before .before .put-promote .ensures))
 
 part-put-origin-start : tie.Need-part-put-origin-start
-part-put-origin-start c = search needs
+part-put-origin-start c = sub-put-origin c
 
 part-put-origin-end : tie.Need-part-put-origin-end
-part-put-origin-end c = search needs
+part-put-origin-end c = le-refl _
 
 put-origin-requires : tie.Need-put-origin-requires
 unfolding moveText
@@ -64,9 +64,6 @@ put-origin-requires c κs =
     (then (then-piece (spelled moveKinds (m .piece)) (c .before .before .before .before .before .before .before .before .before .before .before .put-target .ensures) (r .1) (c .before .before .before .before .before .before .before .put-kind .ensures)) (c .before .before .before .put-promote .ensures))
     (c .before .before .before .before .before .before .before .before .before .before .before .before .before .before .pre)
 
-add-result : tie.Need-add-result
-add-result c = search needs
-
 returns : tie.Need-returns
 unfolding moveText
 returns c =
@@ -74,6 +71,9 @@ returns c =
     let r = move-room m (c .before .before .before .before .before .before .before .before .before .before .before .before .before .before .before .before .before .pre) in
     then (then (then-piece (spelled moveKinds (m .piece)) (c .before .before .before .before .before .before .before .before .before .before .before .before .before .before .put-target .ensures) (r .1) (c .before .before .before .before .before .before .before .before .before .before .put-kind .ensures)) (c .before .before .before .before .before .before .put-promote .ensures))
     (c .before .before .put-origin .ensures)
+
+add-result : tie.Need-add-result
+add-result c = sum-fits (returns c) (c .before .before .before .before .before .before .before .before .before .before .before .before .before .before .before .before .before .good .0 .0)
 
 same-length : tie.Need-same-length
 same-length c = wrote-length (returns c)

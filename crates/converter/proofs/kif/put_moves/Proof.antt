@@ -1,13 +1,15 @@
 -- The line of headings, line 0 and the lines that are shown after it are written one after another; which lines are shown, the caller says.
 -- Assumes nothing.
+use borrow.Author.Needs.{needs}
+use native.Mathlib.Nat.{le-refl}
+use mathlib.Core.Path.{refl}
 use Prim.Native.Nat.{_-_}
 use native.Mathlib.Omega.{arith}
 use mathlib.Core.List.{_++_}
 use denote.Ref.{now}
-use borrow.Author.Needs.{needs}
 use Rattle.block.specs.Decode.{run, lineIn}
 use Rattle.block.specs.Encode.{concat}
-use Rattle.lent.proofs.Writes.{as-text, wrote-all, then, wrote-length}
+use Rattle.lent.proofs.Writes.{as-text, wrote-all, then, wrote-length, sum-fits, within}
 use Rattle.converter.specs.Show.{numberLine, mainText, variationText}
 use Rattle.converter.proofs.Playing.{lines-text}
 use Rattle.lent.proofs.Room.{room-after, room-as, room-front}
@@ -15,19 +17,19 @@ use Rattle.converter.proofs.kif.put_moves.Statement.{statement}
 use Rattle.converter.proofs.kif.put_moves.Tie as tie
 
 slice-aggregate-put-bytes : tie.Need-slice-aggregate-put-bytes
-slice-aggregate-put-bytes c = search needs
+slice-aggregate-put-bytes c = refl
 
 put-bytes-requires : tie.Need-put-bytes-requires
-put-bytes-requires c κs = search needs
+put-bytes-requires c κs = tt
 
 sub-put-main : tie.Need-sub-put-main
-sub-put-main c = search needs
+sub-put-main c = within (c .before .before .put-bytes .ensures)
 
 part-put-main-start : tie.Need-part-put-main-start
-part-put-main-start c = search needs
+part-put-main-start c = sub-put-main c
 
 part-put-main-end : tie.Need-part-put-main-end
-part-put-main-end c = search needs
+part-put-main-end c = le-refl _
 
 put-main-requires : tie.Need-put-main-requires
 put-main-requires c κs =
@@ -40,16 +42,16 @@ put-main-requires c κs =
     (p .0 .sound, room-after t (wrote-all {t = numberLine} (room-front numberLine t h) (c .before .before .before .put-bytes .ensures)) h)
 
 add-m : tie.Need-add-m
-add-m c = search needs
+add-m c = sum-fits (then (c .before .before .before .before .before .before .put-bytes .ensures) (c .before .before .put-main .ensures)) (c .before .before .before .before .before .before .before .before .before .before .before .good .0 .0)
 
 sub-put-variations : tie.Need-sub-put-variations
-sub-put-variations c = search needs
+sub-put-variations c = within (then (c .before .before .before .before .before .before .put-bytes .ensures) (c .before .before .put-main .ensures))
 
 part-put-variations-start : tie.Need-part-put-variations-start
-part-put-variations-start c = search needs
+part-put-variations-start c = sub-put-variations c
 
 part-put-variations-end : tie.Need-part-put-variations-end
-part-put-variations-end c = search needs
+part-put-variations-end c = le-refl _
 
 sub-put-variations-2 : tie.Need-sub-put-variations-2
 sub-put-variations-2 c = search needs
@@ -66,9 +68,6 @@ put-variations-requires c κs =
     let w = then (wrote-all {t = numberLine} h (c .before .before .before .before .before .before .before .put-bytes .ensures)) (c .before .before .before .put-main .ensures) in
     (p .0 .sound, omega (arith, p .0 .some, p .0 .most), room-after v w r)
 
-add-result : tie.Need-add-result
-add-result c = search needs
-
 returns : tie.Need-returns
 returns c =
     let a = c .before .before .before .before .before .before .before .before .before .before .before .before .before .before .before .args in
@@ -79,6 +78,9 @@ returns c =
     let e = lines-text b (a .lines) (p .0) in
     let h = room-front numberLine t (room-front (numberLine ++ t) v (room-as e (p .1))) in
     as-text e (then (then (wrote-all {t = numberLine} h (c .before .before .before .before .before .before .before .before .before .before .put-bytes .ensures)) (c .before .before .before .before .before .before .put-main .ensures)) (c .before .before .put-variations .ensures))
+
+add-result : tie.Need-add-result
+add-result c = sum-fits (returns c) (c .before .before .before .before .before .before .before .before .before .before .before .before .before .before .before .good .0 .0)
 
 same-length : tie.Need-same-length
 same-length c = wrote-length (returns c)

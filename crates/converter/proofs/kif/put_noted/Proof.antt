@@ -1,11 +1,12 @@
 -- The line of the entry and the comments that its row says are the two pieces of its text; where it says none, the line is all.
 -- Assumes nothing.
+use native.Mathlib.Nat.{le-refl}
 use native.Mathlib.Omega.{arith}
 use mathlib.Core.Path.{refl}
 use denote.Ref.{now}
 use Rattle.jkf.specs.Entries.{entryIn}
 use Rattle.block.specs.Decode.{run, commentOf, notedIn}
-use Rattle.lent.proofs.Writes.{as-text, then, wrote-length}
+use Rattle.lent.proofs.Writes.{as-text, then, wrote-length, sum-fits, within}
 use Rattle.converter.specs.Entries.{entryLine, remarksText}
 use Rattle.converter.proofs.Playing.{row-number, noted-text, noted-bare}
 use Rattle.lent.proofs.Room.{room-after, room-as, room-front}
@@ -18,7 +19,7 @@ cast-row-of : tie.Need-cast-row-of
 cast-row-of c = search needs
 
 row-of-requires : tie.Need-row-of-requires
-row-of-requires c κs = search needs
+row-of-requires c κs = tt
 
 put-row-requires : tie.Need-put-row-requires
 put-row-requires c κs =
@@ -28,7 +29,7 @@ put-row-requires c κs =
     room-front (entryLine (s .args .ply) (entryIn (now (c .before .row-of .result)))) (remarksText (notedIn b (s .args .k) .comments)) h
 
 get16-requires : tie.Need-get16-requires
-get16-requires c κs = search needs
+get16-requires c κs = tt
 
 returns : tie.Need-returns
 returns c =
@@ -41,16 +42,16 @@ same-length : tie.Need-same-length
 same-length c = wrote-length (returns c)
 
 sub-put-remarks : tie.Need-sub-put-remarks
-sub-put-remarks c = search needs
+sub-put-remarks c = within (c .before .before .before .before .put-row .ensures)
 
 part-put-remarks-start : tie.Need-part-put-remarks-start
-part-put-remarks-start c = search needs
+part-put-remarks-start c = sub-put-remarks c
 
 part-put-remarks-end : tie.Need-part-put-remarks-end
-part-put-remarks-end c = search needs
+part-put-remarks-end c = le-refl _
 
 get16-requires-2 : tie.Need-get16-requires-2
-get16-requires-2 c κs = search needs
+get16-requires-2 c κs = tt
 
 put-remarks-requires : tie.Need-put-remarks-requires
 put-remarks-requires c κs =
@@ -64,9 +65,6 @@ put-remarks-requires c κs =
       room-after (remarksText (run (commentOf b) (c .get162 .result) (c .before .before .before .get16 .result))) (c .before .before .before .before .before .before .put-row .ensures) (room-as (noted-text b (s .args .ply) k r e f) (s .pre .2)),
     )
 
-add-result : tie.Need-add-result
-add-result c = search needs
-
 returns-2 : tie.Need-returns-2
 returns-2 c =
     let s = c .before .before .before .before .before .before .before .before .before .before .before .before .before .before in
@@ -76,6 +74,9 @@ returns-2 c =
     let e = row-number b k 16 r (c .before .before .before .get162 .ensures .0) in
     let f = row-number b k 18 r (c .before .before .before .before .before .before .get16 .ensures .0) in
     as-text (noted-text b (s .args .ply) k r e f) (then (c .before .before .before .before .before .before .before .before .before .put-row .ensures) (c .before .before .put-remarks .ensures))
+
+add-result : tie.Need-add-result
+add-result c = sum-fits (returns-2 c) (c .before .before .before .before .before .before .before .before .before .before .before .before .before .before .good .0 .0)
 
 same-length-2 : tie.Need-same-length-2
 same-length-2 c = wrote-length (returns-2 c)

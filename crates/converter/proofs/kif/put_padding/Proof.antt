@@ -18,7 +18,7 @@ sub-put-run : tie.Need-sub-put-run
 sub-put-run c = search needs
 
 put-run-requires : tie.Need-put-run-requires
-put-run-requires c κs = search needs
+put-run-requires c κs = tt
 
 returns-2 : tie.Need-returns-2
 returns-2 c =

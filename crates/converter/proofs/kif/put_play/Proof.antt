@@ -24,10 +24,10 @@ enum-known-e-2 : tie.Need-enum-known-e-2
 enum-known-e-2 c = search needs
 
 number-of-requires : tie.Need-number-of-requires
-number-of-requires c κs = search needs
+number-of-requires c κs = tt
 
 put-special-requires : tie.Need-put-special-requires
-put-special-requires c κs = search needs
+put-special-requires c κs = tt
 
 returns : tie.Need-returns
 unfolding playText

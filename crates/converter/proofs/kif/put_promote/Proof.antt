@@ -1,8 +1,7 @@
 -- Nothing is written unless the mark is 2, and then 成, for which there is room.
 -- Assumes nothing.
-use mathlib.Core.Path.{sym}
+use mathlib.Core.Path.{sym, refl}
 use borrow.Author.Tests.{eq-eqb, ne-eqb}
-use borrow.Author.Needs.{needs}
 use Rattle.lent.proofs.Writes.{as-text, nothing, wrote-length}
 use Rattle.converter.specs.Entries.{promoteText}
 use Rattle.converter.proofs.Worded.{arm}
@@ -14,10 +13,10 @@ unfolding promoteText
 returns c = as-text (sym (simp (ne-eqb _ _ (c .if1 .taken)))) (nothing _)
 
 slice-aggregate-put-bytes : tie.Need-slice-aggregate-put-bytes
-slice-aggregate-put-bytes c = search needs
+slice-aggregate-put-bytes c = refl
 
 put-bytes-requires : tie.Need-put-bytes-requires
-put-bytes-requires c κs = search needs
+put-bytes-requires c κs = tt
 
 returns-2 : tie.Need-returns-2
 unfolding promoteText

@@ -9,7 +9,7 @@ use Rattle.converter.proofs.kif.put_row.Statement.{statement}
 use Rattle.converter.proofs.kif.put_row.Tie as tie
 
 is-usual-requires : tie.Need-is-usual-requires
-is-usual-requires c κs = search needs
+is-usual-requires c κs = tt
 
 put-usual-requires : tie.Need-put-usual-requires
 put-usual-requires c κs = (c .before .before .is-usual .ensures (c .before .if2 .taken), c .before .before .before .if1 .taken, c .before .before .before .before .before .before .pre)
@@ -21,7 +21,7 @@ same-length : tie.Need-same-length
 same-length c = wrote-length (returns c)
 
 entry-in-requires : tie.Need-entry-in-requires
-entry-in-requires c κs = search needs
+entry-in-requires c κs = tt
 
 put-entry-line-requires : tie.Need-put-entry-line-requires
 put-entry-line-requires c κs = room-as (ap (entryLine (c .before .before .before .before .before .args .ply)) (c .entry-in .ensures)) (c .before .before .before .before .before .pre)

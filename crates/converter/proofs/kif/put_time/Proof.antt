@@ -1,8 +1,9 @@
 -- Nothing, or the padding and two clocks one after another, each with its room.
 -- Assumes nothing.
+use native.Mathlib.Nat.{le-refl}
 use mathlib.Core.Path.{sym, ap}
 use borrow.Author.Needs.{needs}
-use Rattle.lent.proofs.Writes.{as-text, nothing, then, wrote-length}
+use Rattle.lent.proofs.Writes.{as-text, nothing, then, wrote-length, sum-fits, within}
 use Rattle.converter.specs.Entries.{nowText, totalText, padding, timeText}
 use Rattle.converter.proofs.Worded.{three, room-of}
 use Rattle.converter.proofs.kif.put_time.Statement.{statement}
@@ -24,13 +25,13 @@ put-padding-requires c κs =
     three (padding w) (nowText (t .0 .0)) (totalText (t .0 .1 .0)) h .0
 
 sub-put-now : tie.Need-sub-put-now
-sub-put-now c = search needs
+sub-put-now c = within (c .before .before .put-padding .ensures)
 
 part-put-now-start : tie.Need-part-put-now-start
-part-put-now-start c = search needs
+part-put-now-start c = sub-put-now c
 
 part-put-now-end : tie.Need-part-put-now-end
-part-put-now-end c = search needs
+part-put-now-end c = le-refl _
 
 put-now-requires : tie.Need-put-now-requires
 unfolding timeText
@@ -41,16 +42,16 @@ put-now-requires c κs =
     room-after (nowText (t .0 .0)) (c .before .before .before .put-padding .ensures) (three (padding w) (nowText (t .0 .0)) (totalText (t .0 .1 .0)) h .1)
 
 add-m : tie.Need-add-m
-add-m c = search needs
+add-m c = sum-fits (then (c .before .before .before .before .before .before .put-padding .ensures) (c .before .before .put-now .ensures)) (c .before .before .before .before .before .before .before .before .before .before .before .before .good .0 .0)
 
 sub-put-total : tie.Need-sub-put-total
-sub-put-total c = search needs
+sub-put-total c = within (then (c .before .before .before .before .before .before .put-padding .ensures) (c .before .before .put-now .ensures))
 
 part-put-total-start : tie.Need-part-put-total-start
-part-put-total-start c = search needs
+part-put-total-start c = sub-put-total c
 
 part-put-total-end : tie.Need-part-put-total-end
-part-put-total-end c = search needs
+part-put-total-end c = le-refl _
 
 put-total-requires : tie.Need-put-total-requires
 unfolding timeText
@@ -59,9 +60,6 @@ put-total-requires c κs =
     let w = c .before .before .before .before .before .before .before .before .before .before .before .before .before .args .width in
     let h = room-of (timeText w) (t .1) (c .before .before .before .before .before .before .before .before .before .before .before .before .before .pre .1) in
     room-after (totalText (t .0 .1 .0)) (then (c .before .before .before .before .before .before .before .put-padding .ensures) (c .before .before .before .put-now .ensures)) h
-
-add-result : tie.Need-add-result
-add-result c = search needs
 
 returns : tie.Need-returns
 unfolding timeText
@@ -72,6 +70,9 @@ returns-2 : tie.Need-returns-2
 unfolding timeText
 returns-2 c =
     as-text (ap (timeText (c .before .before .before .before .before .before .before .before .before .before .before .before .before .before .before .before .args .width)) (sym (c .before .before .before .before .before .before .before .before .before .before .before .before .before .time .given .1))) (then (then (c .before .before .before .before .before .before .before .before .before .before .put-padding .ensures) (c .before .before .before .before .before .before .put-now .ensures)) (c .before .before .put-total .ensures))
+
+add-result : tie.Need-add-result
+add-result c = sum-fits (returns-2 c) (c .before .before .before .before .before .before .before .before .before .before .before .before .before .before .before .before .good .0 .0)
 
 same-length : tie.Need-same-length
 same-length c = wrote-length (returns-2 c)

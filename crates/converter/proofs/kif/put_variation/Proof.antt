@@ -1,11 +1,12 @@
 -- The head and the line's entries, at the fields that were read, are the two pieces of its text; a sound block's lines lie among its entries.
 -- Assumes nothing.
+use native.Mathlib.Nat.{le-refl}
 use native.Mathlib.Omega.{arith}
 use mathlib.Core.Path.{refl}
 use denote.Ref.{now}
 use borrow.Author.Needs.{needs}
 use Rattle.block.specs.Decode.{run, notedIn, firstEntry, entryCount}
-use Rattle.lent.proofs.Writes.{as-text, then, wrote-length}
+use Rattle.lent.proofs.Writes.{as-text, then, wrote-length, sum-fits, within}
 use Rattle.block.proofs.Within.{entries-within}
 use Rattle.converter.specs.Show.{variationHead}
 use Rattle.converter.specs.Entries.{entriesText}
@@ -29,13 +30,13 @@ put-variation-head-requires c κs =
     room-front (variationHead start) (entriesText start (run (notedIn b) (firstEntry b (a .k)) (entryCount b (a .k)))) h
 
 sub-put-entries : tie.Need-sub-put-entries
-sub-put-entries c = search needs
+sub-put-entries c = within (c .before .before .put-variation-head .ensures)
 
 part-put-entries-start : tie.Need-part-put-entries-start
-part-put-entries-start c = search needs
+part-put-entries-start c = sub-put-entries c
 
 part-put-entries-end : tie.Need-part-put-entries-end
-part-put-entries-end c = search needs
+part-put-entries-end c = le-refl _
 
 first-entry-requires : tie.Need-first-entry-requires
 first-entry-requires c κs = search needs
@@ -55,14 +56,14 @@ put-entries-requires c κs =
       room-after (entriesText (start .result) (run (notedIn b) (c .before .first-entry .result) (c .entry-count .result))) (c .before .before .before .before .before .put-variation-head .ensures) h,
     )
 
-add-result : tie.Need-add-result
-add-result c = search needs
-
 returns : tie.Need-returns
 returns c =
     let a = c .before .before .before .before .before .before .before .before .before .before .before .before .before .args in
     as-text (variation-text (now (a .b)) (a .k) (c .before .before .before .before .before .before .before .before .before .before .start-of .ensures .0) (c .before .before .before .before .first-entry .ensures .0) (c .before .before .before .entry-count .ensures .0))
     (then (c .before .before .before .before .before .before .before .before .put-variation-head .ensures) (c .before .before .put-entries .ensures))
+
+add-result : tie.Need-add-result
+add-result c = sum-fits (returns c) (c .before .before .before .before .before .before .before .before .before .before .before .before .before .good .0 .0)
 
 same-length : tie.Need-same-length
 same-length c = wrote-length (returns c)

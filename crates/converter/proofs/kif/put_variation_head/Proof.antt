@@ -1,62 +1,46 @@
 -- The tag, the ply and the tag after it are written one after another; the whole fits, so each piece does.
 -- Assumes nothing.
-use Prim.Native.Nat.{ℕ}
-use mathlib.Core.List.{List, _∷_, _++_}
-use borrow.Author.Needs.{needs}
-use Rattle.lent.proofs.Writes.{wrote-all, wrote-length}
+use Rattle.lent.proofs.Room.{three-stored}
+use mathlib.Core.Path.{refl}
+use native.Mathlib.Nat.{le-refl}
+use mathlib.Core.List.{_∷_}
 use Rattle.lent.specs.Numbers.{decimal}
 use Rattle.converter.specs.Show.{variationHead, variationTag, plyTag}
-use Rattle.lent.proofs.Room.{then-piece, room-front}
+use Rattle.lent.proofs.Writes.{wrote-length, then, sum-fits, within}
 use Rattle.converter.proofs.kif.put_variation_head.Statement.{statement}
 use Rattle.converter.proofs.kif.put_variation_head.Tie as tie
 
 slice-aggregate-put-bytes : tie.Need-slice-aggregate-put-bytes
-slice-aggregate-put-bytes c = search needs
+slice-aggregate-put-bytes c = refl
 
 put-bytes-requires : tie.Need-put-bytes-requires
-put-bytes-requires c κs = search needs
+put-bytes-requires c κs = tt
 
 sub-put-decimal : tie.Need-sub-put-decimal
-sub-put-decimal c = search needs
+sub-put-decimal c = within (c .before .before .put-bytes .ensures)
 
 part-put-decimal-start : tie.Need-part-put-decimal-start
-part-put-decimal-start c = search needs
+part-put-decimal-start c = sub-put-decimal c
 
 part-put-decimal-end : tie.Need-part-put-decimal-end
-part-put-decimal-end c = search needs
+part-put-decimal-end c = le-refl _
 
 put-decimal-requires : tie.Need-put-decimal-requires
-put-decimal-requires c κs = search needs
+put-decimal-requires c κs = tt
 
 add-m : tie.Need-add-m
-add-m c = search needs
+add-m c = sum-fits (then (c .before .before .before .before .before .before .put-bytes .ensures) (c .before .before .put-decimal .ensures)) (c .before .before .before .before .before .before .before .before .before .before .good .0 .0)
 
-sub-put-bytes : tie.Need-sub-put-bytes
-sub-put-bytes c = search needs
+slice-aggregate-put-at : tie.Need-slice-aggregate-put-at
+slice-aggregate-put-at c = refl
 
-part-put-bytes-start : tie.Need-part-put-bytes-start
-part-put-bytes-start c = search needs
-
-part-put-bytes-end : tie.Need-part-put-bytes-end
-part-put-bytes-end c = search needs
-
-slice-aggregate-put-bytes-2 : tie.Need-slice-aggregate-put-bytes-2
-slice-aggregate-put-bytes-2 c = search needs
-
-put-bytes-requires-2 : tie.Need-put-bytes-requires-2
-put-bytes-requires-2 c κs = search needs
-
-add-result : tie.Need-add-result
-add-result c = search needs
+put-at-requires : tie.Need-put-at-requires
+put-at-requires c κs = tt
 
 returns : tie.Need-returns
 unfolding variationHead
 returns c =
-    let d = decimal (c .before .before .before .before .before .before .before .before .before .before .before .before .before .before .before .args .start) in
-    let t : List ℕ = 10 ∷ variationTag in
-    let h = room-front (t ++ d) plyTag (c .before .before .before .before .before .before .before .before .before .before .before .before .before .before .before .pre) in
-    let w = wrote-all {t = t} (room-front t d h) (c .before .before .before .before .before .before .before .before .before .before .before .put-bytes .ensures) in
-    then-piece plyTag (then-piece d w h (c .before .before .before .before .before .before .before .put-decimal .ensures)) (c .before .before .before .before .before .before .before .before .before .before .before .before .before .before .before .pre) (c .before .before .put-bytes2 .ensures)
+    three-stored (10 ∷ variationTag) (decimal (c .before .before .before .before .before .before .before .before .before .before .before .before .before .before .before .args .start)) plyTag (c .before .before .before .before .before .before .before .before .before .before .before .before .before .before .before .pre) (c .before .before .before .before .before .before .before .before .before .before .before .put-bytes .ensures) (c .before .before .before .before .before .before .before .put-decimal .ensures) (c .before .before .put-at .ensures)
 
 same-length : tie.Need-same-length
 same-length c = wrote-length (returns c)
@@ -72,11 +56,7 @@ put-variation-head-spec =
     part-put-decimal-end
     put-decimal-requires
     add-m
-    sub-put-bytes
-    part-put-bytes-start
-    part-put-bytes-end
-    slice-aggregate-put-bytes-2
-    put-bytes-requires-2
-    add-result
+    slice-aggregate-put-at
+    put-at-requires
     same-length
     returns)

@@ -16,16 +16,16 @@ enum-known-e : tie.Need-enum-known-e
 enum-known-e c = search needs
 
 move-width-requires : tie.Need-move-width-requires
-move-width-requires c κs = search needs
+move-width-requires c κs = tt
 
 enum-known-e-2 : tie.Need-enum-known-e-2
 enum-known-e-2 c = search needs
 
 number-of-requires : tie.Need-number-of-requires
-number-of-requires c κs = search needs
+number-of-requires c κs = tt
 
 special-width-requires : tie.Need-special-width-requires
-special-width-requires c κs = search needs
+special-width-requires c κs = tt
 
 returns : tie.Need-returns
 unfolding widthOf

@@ -15,7 +15,7 @@ cast-i : tie.Need-cast-i
 cast-i c = search needs
 
 first-comment-requires : tie.Need-first-comment-requires
-first-comment-requires c κs = search needs
+first-comment-requires c κs = tt
 
 comment-count-requires : tie.Need-comment-count-requires
 comment-count-requires c κs = search needs

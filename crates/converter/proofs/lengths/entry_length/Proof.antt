@@ -16,16 +16,16 @@ add-result : tie.Need-add-result
 add-result c = search needs
 
 play-length-requires : tie.Need-play-length-requires
-play-length-requires c κs = search needs
+play-length-requires c κs = tt
 
 add-result-2 : tie.Need-add-result-2
 add-result-2 c = search needs
 
 width-of-requires : tie.Need-width-of-requires
-width-of-requires c κs = search needs
+width-of-requires c κs = tt
 
 time-of-requires : tie.Need-time-of-requires
-time-of-requires c κs = search needs
+time-of-requires c κs = tt
 
 time-length-requires : tie.Need-time-length-requires
 time-length-requires c κs = search needs

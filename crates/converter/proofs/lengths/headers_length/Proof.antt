@@ -9,10 +9,10 @@ use Rattle.converter.proofs.lengths.headers_length.Statement.{statement
 use Rattle.converter.proofs.lengths.headers_length.Tie as tie
 
 header-bytes-requires : tie.Need-header-bytes-requires
-header-bytes-requires c κs = search needs
+header-bytes-requires c κs = tt
 
 headers-in-requires : tie.Need-headers-in-requires
-headers-in-requires c κs = search needs
+headers-in-requires c κs = tt
 
 mul-result : tie.Need-mul-result
 mul-result c = search needs

@@ -7,22 +7,22 @@ use Rattle.converter.proofs.lengths.move_length.Statement.{statement}
 use Rattle.converter.proofs.lengths.move_length.Tie as tie
 
 target-length-requires : tie.Need-target-length-requires
-target-length-requires c κs = search needs
+target-length-requires c κs = tt
 
 kind-length-requires : tie.Need-kind-length-requires
-kind-length-requires c κs = search needs
+kind-length-requires c κs = tt
 
 add-result : tie.Need-add-result
 add-result c = search needs
 
 promote-length-requires : tie.Need-promote-length-requires
-promote-length-requires c κs = search needs
+promote-length-requires c κs = tt
 
 add-result-2 : tie.Need-add-result-2
 add-result-2 c = search needs
 
 origin-length-requires : tie.Need-origin-length-requires
-origin-length-requires c κs = search needs
+origin-length-requires c κs = tt
 
 add-result-3 : tie.Need-add-result-3
 add-result-3 c = search needs

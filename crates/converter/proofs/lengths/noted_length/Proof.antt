@@ -17,13 +17,13 @@ cast-row-of : tie.Need-cast-row-of
 cast-row-of c = search needs
 
 row-of-requires : tie.Need-row-of-requires
-row-of-requires c κs = search needs
+row-of-requires c κs = tt
 
 row-length-requires : tie.Need-row-length-requires
 row-length-requires c κs = search needs
 
 get16-requires : tie.Need-get16-requires
-get16-requires c κs = search needs
+get16-requires c κs = tt
 
 returns : tie.Need-returns
 returns c =
@@ -34,7 +34,7 @@ returns c =
     (c .before .before .row-length .ensures .0 ∙ ap length e, omega arith)
 
 get16-requires-2 : tie.Need-get16-requires-2
-get16-requires-2 c κs = search needs
+get16-requires-2 c κs = tt
 
 remarks-length-requires : tie.Need-remarks-length-requires
 remarks-length-requires c κs =

@@ -17,7 +17,7 @@ cast-decimal-len : tie.Need-cast-decimal-len
 cast-decimal-len c = search needs
 
 decimal-len-requires : tie.Need-decimal-len-requires
-decimal-len-requires c κs = search needs
+decimal-len-requires c κs = tt
 
 add-result : tie.Need-add-result
 add-result c = omega (arith, digits-three (c .before .before .from .given .0 .0) (omega arith))
@@ -26,7 +26,7 @@ cast-decimal-len-2 : tie.Need-cast-decimal-len-2
 cast-decimal-len-2 c = search needs
 
 decimal-len-requires-2 : tie.Need-decimal-len-requires-2
-decimal-len-requires-2 c κs = search needs
+decimal-len-requires-2 c κs = tt
 
 add-result-2 : tie.Need-add-result-2
 add-result-2 c =

@@ -1,14 +1,13 @@
 -- A padded number is as long as the width, or as its digits where they are more; a number below 131072 has at most six.
 -- Assumes nothing.
 use native.Mathlib.Omega.{arith}
-use borrow.Author.Needs.{needs}
 use Rattle.lent.proofs.Digits.{digits-six}
 use Rattle.converter.proofs.Lengthy.{padded-wide, padded-long}
 use Rattle.converter.proofs.lengths.padded_length.Statement.{statement}
 use Rattle.converter.proofs.lengths.padded_length.Tie as tie
 
 decimal-len-requires : tie.Need-decimal-len-requires
-decimal-len-requires c κs = search needs
+decimal-len-requires c κs = tt
 
 returns : tie.Need-returns
 returns c =

@@ -13,16 +13,16 @@ enum-known-e : tie.Need-enum-known-e
 enum-known-e c = search needs
 
 move-length-requires : tie.Need-move-length-requires
-move-length-requires c κs = search needs
+move-length-requires c κs = tt
 
 enum-known-e-2 : tie.Need-enum-known-e-2
 enum-known-e-2 c = search needs
 
 number-of-requires : tie.Need-number-of-requires
-number-of-requires c κs = search needs
+number-of-requires c κs = tt
 
 special-length-requires : tie.Need-special-length-requires
-special-length-requires c κs = search needs
+special-length-requires c κs = tt
 
 returns : tie.Need-returns
 returns c = (slot-length (c .enum-told .given .1), omega arith)

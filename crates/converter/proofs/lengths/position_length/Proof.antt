@@ -1,12 +1,13 @@
 -- No position is written with more than 2048 bytes, so there is room, and what was written is as long as the text.
 -- Assumes nothing.
+use mathlib.Core.Path.{refl}
 use borrow.Author.Needs.{needs}
 use Rattle.converter.proofs.Bounded.{position-short}
 use Rattle.converter.proofs.lengths.position_length.Statement.{statement}
 use Rattle.converter.proofs.lengths.position_length.Tie as tie
 
 slice-aggregate-put-position : tie.Need-slice-aggregate-put-position
-slice-aggregate-put-position c = search needs
+slice-aggregate-put-position c = refl
 
 put-position-requires : tie.Need-put-position-requires
 put-position-requires c κs = position-short (c .before .args .p)

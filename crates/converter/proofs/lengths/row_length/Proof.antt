@@ -8,7 +8,7 @@ use Rattle.converter.proofs.lengths.row_length.Statement.{statement}
 use Rattle.converter.proofs.lengths.row_length.Tie as tie
 
 is-usual-requires : tie.Need-is-usual-requires
-is-usual-requires c κs = search needs
+is-usual-requires c κs = tt
 
 usual-length-requires : tie.Need-usual-length-requires
 usual-length-requires c κs = c .before .is-usual .ensures (c .if2 .taken)
@@ -17,7 +17,7 @@ returns : tie.Need-returns
 returns c = (c .usual-length .ensures .0 (c .before .before .before .before .before .args .ply) (c .before .before .before .if1 .taken), c .usual-length .ensures .1)
 
 entry-in-requires : tie.Need-entry-in-requires
-entry-in-requires c κs = search needs
+entry-in-requires c κs = tt
 
 entry-length-requires : tie.Need-entry-length-requires
 entry-length-requires c κs = search needs

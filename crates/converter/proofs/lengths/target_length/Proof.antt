@@ -13,10 +13,10 @@ enum-known-to : tie.Need-enum-known-to
 enum-known-to c = search needs
 
 place-length-requires : tie.Need-place-length-requires
-place-length-requires c κs = search needs
+place-length-requires c κs = tt
 
 place-length-requires-2 : tie.Need-place-length-requires-2
-place-length-requires-2 c κs = search needs
+place-length-requires-2 c κs = tt
 
 add-result : tie.Need-add-result
 add-result c = search needs

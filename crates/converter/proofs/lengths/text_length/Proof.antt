@@ -14,10 +14,10 @@ headers-length-requires : tie.Need-headers-length-requires
 headers-length-requires c κs = search needs
 
 position-of-requires : tie.Need-position-of-requires
-position-of-requires c κs = search needs
+position-of-requires c κs = tt
 
 position-length-requires : tie.Need-position-length-requires
-position-length-requires c κs = search needs
+position-length-requires c κs = tt
 
 add-head : tie.Need-add-head
 add-head c = search needs

@@ -13,10 +13,10 @@ enum-known-time : tie.Need-enum-known-time
 enum-known-time c = search needs
 
 now-length-requires : tie.Need-now-length-requires
-now-length-requires c κs = search needs
+now-length-requires c κs = tt
 
 total-length-requires : tie.Need-total-length-requires
-total-length-requires c κs = search needs
+total-length-requires c κs = tt
 
 add-n : tie.Need-add-n
 add-n c = search needs

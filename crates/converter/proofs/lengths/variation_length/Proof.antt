@@ -21,7 +21,7 @@ start-of-requires : tie.Need-start-of-requires
 start-of-requires c κs = search needs
 
 decimal-len-requires : tie.Need-decimal-len-requires
-decimal-len-requires c κs = search needs
+decimal-len-requires c κs = tt
 
 add-result : tie.Need-add-result
 add-result c = omega (arith, digits-five (c .before .start-of .result) (omega arith))

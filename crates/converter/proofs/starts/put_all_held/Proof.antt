@@ -1,11 +1,12 @@
 -- The loop's invariant: what `heldPiece` makes of the numbers below `i` has been written. The measure is what is left of 7.
 -- Assumes nothing.
+use native.Mathlib.Nat.{le-refl}
 use Prim.Native.Nat.{_-_, _≤_}
 use native.Mathlib.Omega.{arith}
 use mathlib.Core.Path.{_≡_, ap}
 use borrow.Author.Needs.{needs}
 use Rattle.lent.specs.Bytes.{Wrote}
-use Rattle.lent.proofs.Writes.{as-text, wrote-length}
+use Rattle.lent.proofs.Writes.{as-text, wrote-length, within, sum-fits, then}
 use Rattle.converter.specs.Diagrams.{heldText, allHeld}
 use Rattle.converter.proofs.Ranged.{upTo, wrote-none, wrote-more, room-more}
 use Rattle.converter.proofs.Cased.{heldPiece}
@@ -34,16 +35,16 @@ sub-peek : tie.Need-sub-peek Inv-loop μ-loop
 sub-peek c = search needs
 
 peek-requires : tie.Need-peek-requires Inv-loop μ-loop
-peek-requires c κs = search needs
+peek-requires c κs = tt
 
 sub-put-held : tie.Need-sub-put-held Inv-loop μ-loop
-sub-put-held c = omega (arith, wrote-length (c .before .before .loop .inv .1))
+sub-put-held c = within (c .before .before .loop .inv .1)
 
 part-put-held-start : tie.Need-part-put-held-start Inv-loop μ-loop
-part-put-held-start c = let l = wrote-length (c .before .before .loop .inv .1) in search needs
+part-put-held-start c = sub-put-held c
 
 part-put-held-end : tie.Need-part-put-held-end Inv-loop μ-loop
-part-put-held-end c = let l = wrote-length (c .before .before .loop .inv .1) in search needs
+part-put-held-end c = le-refl _
 
 cast-put-held : tie.Need-cast-put-held Inv-loop μ-loop
 cast-put-held c = search needs
@@ -56,7 +57,7 @@ put-held-requires c κs =
     rw (c .before .peek .ensures) (room-more (heldPiece (a .hands .now) (a .side)) (l .i) 7 (l .inv .1) (c .before .before .loop-test .taken) (c .before .before .before .before .before .before .pre .1))
 
 add-at : tie.Need-add-at Inv-loop μ-loop
-add-at c = let l = wrote-length (c .before .before .before .before .before .before .loop .inv .1) in search needs
+add-at c = sum-fits (then (c .before .before .before .before .before .before .loop .inv .1) (c .before .before .put-held .ensures)) (c .before .before .before .before .before .before .before .before .before .good .0 .0)
 
 add-i : tie.Need-add-i Inv-loop μ-loop
 add-i c = search needs

@@ -4,17 +4,16 @@ use Prim.Native.Nat.{_-_}
 use native.Mathlib.Omega.{arith}
 use mathlib.Core.Path.{refl, sym, ap}
 use lib.ListN.{length}
-use borrow.Author.Needs.{needs}
 use Rattle.lent.proofs.Writes.{as-text, wrote-all, wrote-length}
 use Rattle.converter.proofs.Cased.{cell-empty, cell-black, cell-white}
 use Rattle.converter.proofs.starts.put_cell.Statement.{statement}
 use Rattle.converter.proofs.starts.put_cell.Tie as tie
 
 slice-aggregate-put-bytes : tie.Need-slice-aggregate-put-bytes
-slice-aggregate-put-bytes c = search needs
+slice-aggregate-put-bytes c = refl
 
 put-bytes-requires : tie.Need-put-bytes-requires
-put-bytes-requires c κs = search needs
+put-bytes-requires c κs = tt
 
 returns : tie.Need-returns
 returns c =

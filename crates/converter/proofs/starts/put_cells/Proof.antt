@@ -1,11 +1,12 @@
 -- The loop's invariant: what `cellPiece` makes of the numbers below `i` has been written. The measure is what is left of 9.
 -- Assumes nothing.
+use native.Mathlib.Nat.{le-refl}
 use Prim.Native.Nat.{_-_, _≤_}
 use native.Mathlib.Omega.{arith}
 use mathlib.Core.Path.{_≡_, ap}
 use borrow.Author.Needs.{needs}
 use Rattle.lent.specs.Bytes.{Wrote}
-use Rattle.lent.proofs.Writes.{as-text, wrote-length}
+use Rattle.lent.proofs.Writes.{as-text, wrote-length, within, sum-fits, then}
 use Rattle.converter.specs.Diagrams.{cellText, cellsText}
 use Rattle.converter.proofs.Ranged.{upTo, wrote-none, wrote-more, room-more}
 use Rattle.converter.proofs.Cased.{cellPiece}
@@ -22,13 +23,13 @@ loop-holds : tie.Need-loop-holds Inv-loop μ-loop
 loop-holds c = (omega arith, wrote-none _ _)
 
 sub-put-cell : tie.Need-sub-put-cell Inv-loop μ-loop
-sub-put-cell c = omega (arith, wrote-length (c .before .loop .inv .1))
+sub-put-cell c = within (c .before .loop .inv .1)
 
 part-put-cell-start : tie.Need-part-put-cell-start Inv-loop μ-loop
-part-put-cell-start c = let l = wrote-length (c .before .loop .inv .1) in search needs
+part-put-cell-start c = sub-put-cell c
 
 part-put-cell-end : tie.Need-part-put-cell-end Inv-loop μ-loop
-part-put-cell-end c = let l = wrote-length (c .before .loop .inv .1) in search needs
+part-put-cell-end c = le-refl _
 
 sub-peek : tie.Need-sub-peek Inv-loop μ-loop
 sub-peek c = search needs
@@ -40,7 +41,7 @@ add-peek : tie.Need-add-peek Inv-loop μ-loop
 add-peek c = search needs
 
 peek-requires : tie.Need-peek-requires Inv-loop μ-loop
-peek-requires c κs = search needs
+peek-requires c κs = tt
 
 put-cell-requires : tie.Need-put-cell-requires Inv-loop μ-loop
 unfolding cellsText
@@ -50,7 +51,7 @@ put-cell-requires c κs =
     rw (c .peek .ensures) (room-more (cellPiece (a .cells .now) (a .rank)) (l .i) 9 (l .inv .1) (c .before .before .loop-test .taken) (c .before .before .before .before .before .before .pre .1))
 
 add-at : tie.Need-add-at Inv-loop μ-loop
-add-at c = let l = wrote-length (c .before .before .before .before .before .before .loop .inv .1) in search needs
+add-at c = sum-fits (then (c .before .before .before .before .before .before .loop .inv .1) (c .before .before .put-cell .ensures)) (c .before .before .before .before .before .before .before .before .before .good .0 .0)
 
 add-i : tie.Need-add-i Inv-loop μ-loop
 add-i c = search needs

@@ -1,9 +1,8 @@
 -- What is held, where that is not empty; else nothing was written, so なし is written into the buffer as it was.
 -- Assumes nothing.
 use native.Mathlib.Omega.{arith}
-use mathlib.Core.Path.{sym, ap, _∙_}
+use mathlib.Core.Path.{sym, ap, _∙_, refl}
 use lib.ListN.{length}
-use borrow.Author.Needs.{needs}
 use Rattle.lent.proofs.Writes.{as-text, wrote-length}
 use Rattle.kakinoki.specs.Informations.{noneTag}
 use Rattle.converter.specs.Diagrams.{allHeld}
@@ -18,10 +17,10 @@ put-all-held-requires c κs =
     (c .before .before .before .pre .0, hand-room (allHeld (a .hands .now) (a .side)) (length (a .out .now)) (c .before .before .before .pre .1))
 
 slice-aggregate-put-bytes : tie.Need-slice-aggregate-put-bytes
-slice-aggregate-put-bytes c = search needs
+slice-aggregate-put-bytes c = refl
 
 put-bytes-requires : tie.Need-put-bytes-requires
-put-bytes-requires c κs = search needs
+put-bytes-requires c κs = tt
 
 returns : tie.Need-returns
 returns c =

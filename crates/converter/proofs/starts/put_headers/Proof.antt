@@ -1,8 +1,9 @@
 -- The leading lines, then the others: these two are the header, so there is room for both.
 -- Assumes nothing.
+use native.Mathlib.Nat.{le-refl}
 use denote.Ref.{now}
 use borrow.Author.Needs.{needs}
-use Rattle.lent.proofs.Writes.{then, wrote-length}
+use Rattle.lent.proofs.Writes.{then, wrote-length, sum-fits, within}
 use Rattle.converter.specs.Headers.{linesOf, headersOf, headersText}
 use Rattle.converter.proofs.Heading.{leads}
 use Rattle.converter.proofs.starts.put_headers.Statement.{statement}
@@ -22,13 +23,13 @@ put-leading-requires c κs =
     (c .before .before .leading-places .ensures, room-front (leads (now (c .before .before .before .before .before .args .b)) 12) (linesOf 0 hs) (c .before .before .before .before .before .pre .1))
 
 sub-put-others : tie.Need-sub-put-others
-sub-put-others c = search needs
+sub-put-others c = within (c .before .before .put-leading .ensures)
 
 part-put-others-start : tie.Need-part-put-others-start
-part-put-others-start c = search needs
+part-put-others-start c = sub-put-others c
 
 part-put-others-end : tie.Need-part-put-others-end
-part-put-others-end c = search needs
+part-put-others-end c = le-refl _
 
 put-others-requires : tie.Need-put-others-requires
 unfolding headersText
@@ -36,13 +37,13 @@ put-others-requires c κs =
     let b = now (c .before .before .before .before .before .before .before .before .before .args .b) in
     room-after (linesOf 0 (headersOf b)) (c .before .before .before .put-leading .ensures) (c .before .before .before .before .before .before .before .before .before .pre .1)
 
-add-result : tie.Need-add-result
-add-result c = search needs
-
 returns : tie.Need-returns
 unfolding headersText
 returns c =
     then (c .before .before .before .before .before .before .put-leading .ensures) (c .before .before .put-others .ensures)
+
+add-result : tie.Need-add-result
+add-result c = sum-fits (returns c) (c .before .before .before .before .before .before .before .before .before .before .before .before .good .0 .0)
 
 same-length : tie.Need-same-length
 same-length c = wrote-length (returns c)

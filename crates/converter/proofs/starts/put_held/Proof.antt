@@ -1,34 +1,34 @@
 -- Nothing for a count of 0; else the kind, its count and U+3000, for each of which there is room.
 -- Assumes nothing.
+use native.Mathlib.Nat.{le-refl}
 use Prim.Native.Nat.{_≤_}
 use native.Mathlib.Omega.{arith}
 use mathlib.Core.List.{_++_}
-use mathlib.Core.Path.{sym, ap}
+use mathlib.Core.Path.{sym, ap, refl}
 use lib.ListN.{length}
-use borrow.Author.Needs.{needs}
 use Rattle.text.specs.Text.{wideSpace}
-use Rattle.lent.proofs.Writes.{as-text, nothing, then, wrote-length}
 use Rattle.spell.specs.Spell.{spelled}
 use Rattle.spell.specs.Tables.{kinds}
 use Rattle.converter.proofs.Cased.{moreText, held-none, held-some}
+use Rattle.lent.proofs.Writes.{as-text, nothing, then, wrote-length, sum-fits, within}
+use Rattle.lent.proofs.Room.{room-front, room-after, first-of, then-stored}
 use Rattle.converter.proofs.starts.put_held.Statement.{statement}
 use Rattle.converter.proofs.starts.put_held.Tie as tie
-use Rattle.lent.proofs.Room.{room-front, room-after, first-of, then-piece}
 
 returns : tie.Need-returns
 returns c = as-text (sym (held-none (c .before .before .args .kind) (c .before .before .args .count) (c .if1 .taken))) (nothing _)
 
 put-board-kind-requires : tie.Need-put-board-kind-requires
-put-board-kind-requires c κs = search needs
+put-board-kind-requires c κs = tt
 
 sub-put-more : tie.Need-sub-put-more
-sub-put-more c = search needs
+sub-put-more c = within (c .before .before .put-board-kind .ensures)
 
 part-put-more-start : tie.Need-part-put-more-start
-part-put-more-start c = search needs
+part-put-more-start c = sub-put-more c
 
 part-put-more-end : tie.Need-part-put-more-end
-part-put-more-end c = search needs
+part-put-more-end c = le-refl _
 
 put-more-requires : tie.Need-put-more-requires
 put-more-requires c κs =
@@ -41,25 +41,13 @@ put-more-requires c κs =
     room-after m (first-of k m g (c .before .before .before .put-board-kind .ensures)) g
 
 add-m : tie.Need-add-m
-add-m c = search needs
+add-m c = sum-fits (then (c .before .before .before .before .before .before .put-board-kind .ensures) (c .before .before .put-more .ensures)) (c .before .before .before .before .before .before .before .before .before .before .good .0 .0)
 
-sub-put-bytes : tie.Need-sub-put-bytes
-sub-put-bytes c = search needs
+slice-aggregate-put-at : tie.Need-slice-aggregate-put-at
+slice-aggregate-put-at c = refl
 
-part-put-bytes-start : tie.Need-part-put-bytes-start
-part-put-bytes-start c = search needs
-
-part-put-bytes-end : tie.Need-part-put-bytes-end
-part-put-bytes-end c = search needs
-
-slice-aggregate-put-bytes : tie.Need-slice-aggregate-put-bytes
-slice-aggregate-put-bytes c = search needs
-
-put-bytes-requires : tie.Need-put-bytes-requires
-put-bytes-requires c κs = search needs
-
-add-result : tie.Need-add-result
-add-result c = search needs
+put-at-requires : tie.Need-put-at-requires
+put-at-requires c κs = tt
 
 returns-2 : tie.Need-returns-2
 returns-2 c =
@@ -69,7 +57,7 @@ returns-2 c =
     let e = held-some (a .kind) (a .count) (c .before .before .before .before .before .before .before .before .before .before .before .before .before .if1 .left) in
     let h : length ((k ++ m) ++ wideSpace) ≤ length (a .out .now) = omega (arith, ap length e, c .before .before .before .before .before .before .before .before .before .before .before .before .before .before .before .pre) in
     let w = first-of k m (room-front (k ++ m) wideSpace h) (c .before .before .before .before .before .before .before .before .before .before .before .put-board-kind .ensures) in
-    as-text (sym e) (then-piece wideSpace (then w (c .before .before .before .before .before .before .before .put-more .ensures)) h (c .before .before .put-bytes .ensures))
+    as-text (sym e) (then-stored wideSpace (then w (c .before .before .before .before .before .before .before .put-more .ensures)) h (c .before .before .put-at .ensures))
 
 same-length : tie.Need-same-length
 same-length c = wrote-length (returns-2 c)
@@ -85,11 +73,7 @@ put-held-spec =
     part-put-more-end
     put-more-requires
     add-m
-    sub-put-bytes
-    part-put-bytes-start
-    part-put-bytes-end
-    slice-aggregate-put-bytes
-    put-bytes-requires
-    add-result
+    slice-aggregate-put-at
+    put-at-requires
     same-length
     returns-2)

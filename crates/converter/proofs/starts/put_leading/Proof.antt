@@ -1,5 +1,6 @@
 -- The invariant: the lines of the first n leading keys are written. The next has a place, and then one line more, or none.
 -- Assumes nothing.
+use native.Mathlib.Nat.{le-refl}
 use Prim.Native.Nat.{_≤_, _-_}
 use native.Mathlib.Omega.{arith}
 use mathlib.Core.Path.{_≡_, sym, ap}
@@ -7,7 +8,7 @@ use mathlib.Core.Logic.{⊎-elim}
 use lib.ListN.{getD}
 use denote.Ref.{now}
 use Rattle.lent.specs.Bytes.{Wrote}
-use Rattle.lent.proofs.Writes.{then, as-text, nothing, wrote-length}
+use Rattle.lent.proofs.Writes.{then, as-text, nothing, wrote-length, within, sum-fits}
 use Rattle.block.specs.Decode.{headerIn}
 use Rattle.block.proofs.Tabling.{concat-none}
 use Rattle.converter.specs.Headers.{headerLine}
@@ -39,16 +40,13 @@ sub-i : tie.Need-sub-i Inv-loop μ-loop
 sub-i c = omega arith
 
 sub-put-header : tie.Need-sub-put-header Inv-loop μ-loop
-sub-put-header c =
-    let w = c .before .before .before .loop .inv .1 in omega (arith, wrote-length w, w .fits)
+sub-put-header c = within (c .before .before .before .loop .inv .1)
 
 part-put-header-start : tie.Need-part-put-header-start Inv-loop μ-loop
-part-put-header-start c =
-    let w = c .before .before .before .loop .inv .1 in omega (arith, wrote-length w, w .fits)
+part-put-header-start c = sub-put-header c
 
 part-put-header-end : tie.Need-part-put-header-end Inv-loop μ-loop
-part-put-header-end c =
-    let w = c .before .before .before .loop .inv .1 in omega (arith, wrote-length w, w .fits)
+part-put-header-end c = le-refl _
 
 key-in-requires : tie.Need-key-in-requires Inv-loop μ-loop
 key-in-requires c κs = tt
@@ -65,8 +63,7 @@ put-header-requires c κs =
     room-as (line-in b k (c .before .before .before .before .before .before .before .texts-of .ensures) (c .before .key-in .ensures) (c .value-in .ensures)) (room-after (headerLine (headerIn b k)) (l .inv .1) (lead-room (p .0) (l .n) (omega arith) (omega arith) (p .1)))
 
 add-at : tie.Need-add-at Inv-loop μ-loop
-add-at c =
-    let w = then (c .before .before .before .before .before .before .before .before .before .loop .inv .1) (c .before .before .put-header .ensures) in omega (arith, w .fits)
+add-at c = sum-fits (then (c .before .before .before .before .before .before .before .before .before .loop .inv .1) (c .before .before .put-header .ensures)) (c .before .before .before .before .before .before .before .before .before .before .before .before .before .before .good .0 .0)
 
 add-n : tie.Need-add-n Inv-loop μ-loop
 add-n c = omega arith

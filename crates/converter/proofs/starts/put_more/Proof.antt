@@ -3,14 +3,13 @@
 use native.Mathlib.Omega.{arith}
 use mathlib.Core.Path.{sym, ap}
 use lib.ListN.{length}
-use borrow.Author.Needs.{needs}
 use Rattle.lent.proofs.Writes.{as-text, nothing, wrote-all, wrote-length}
 use Rattle.converter.proofs.Cased.{more-many, more-one}
 use Rattle.converter.proofs.starts.put_more.Statement.{statement}
 use Rattle.converter.proofs.starts.put_more.Tie as tie
 
 put-count-requires : tie.Need-put-count-requires
-put-count-requires c κs = search needs
+put-count-requires c κs = tt
 
 returns : tie.Need-returns
 returns c =

@@ -1,12 +1,13 @@
 -- The invariant: the lines of the entries passed that have no leading key are written.
 -- Assumes nothing.
+use native.Mathlib.Nat.{le-refl}
 use Prim.Native.Nat.{ℕ, _≤_, _-_}
 use native.Mathlib.Omega.{arith}
 use mathlib.Core.Path.{_≡_, sym, ap, _∙_}
 use mathlib.Core.Logic.{⊎-elim}
 use denote.Ref.{now}
 use Rattle.lent.specs.Bytes.{Wrote}
-use Rattle.lent.proofs.Writes.{then, nothing, as-text, wrote-length}
+use Rattle.lent.proofs.Writes.{then, nothing, as-text, wrote-length, within, sum-fits}
 use Rattle.block.specs.Decode.{run, headerIn, headersIn, keyOf}
 use Rattle.converter.specs.Headers.{leadingNumber, linesOf, headerLine}
 use Rattle.converter.proofs.Heading.{number-in, line-in, lines-none, lines-more, lines-same, lines-room, wrote-as}
@@ -43,16 +44,13 @@ leading-number-requires : tie.Need-leading-number-requires Inv-loop μ-loop
 leading-number-requires c κs = tt
 
 sub-put-header : tie.Need-sub-put-header Inv-loop μ-loop
-sub-put-header c =
-    let w = c .before .before .before .before .loop .inv .1 in omega (arith, wrote-length w, w .fits)
+sub-put-header c = within (c .before .before .before .before .loop .inv .1)
 
 part-put-header-start : tie.Need-part-put-header-start Inv-loop μ-loop
-part-put-header-start c =
-    let w = c .before .before .before .before .loop .inv .1 in omega (arith, wrote-length w, w .fits)
+part-put-header-start c = sub-put-header c
 
 part-put-header-end : tie.Need-part-put-header-end Inv-loop μ-loop
-part-put-header-end c =
-    let w = c .before .before .before .before .loop .inv .1 in omega (arith, wrote-length w, w .fits)
+part-put-header-end c = le-refl _
 
 value-in-requires : tie.Need-value-in-requires Inv-loop μ-loop
 value-in-requires c κs = tt
@@ -65,8 +63,7 @@ put-header-requires c κs =
     room-as (line-in b (l .k) (c .before .before .before .before .before .before .before .texts-of .ensures) (c .before .before .before .before .key-in .ensures) (c .value-in .ensures)) (room-after (headerLine (headerIn b (l .k))) (l .inv .1) r)
 
 add-at : tie.Need-add-at Inv-loop μ-loop
-add-at c =
-    let w = then (c .before .before .before .before .before .before .before .before .before .loop .inv .1) (c .before .before .put-header .ensures) in omega (arith, w .fits)
+add-at c = sum-fits (then (c .before .before .before .before .before .before .before .before .before .loop .inv .1) (c .before .before .put-header .ensures)) (c .before .before .before .before .before .before .before .before .before .before .before .before .before .before .good .0 .0)
 
 add-k : tie.Need-add-k Inv-loop μ-loop
 add-k c = omega arith

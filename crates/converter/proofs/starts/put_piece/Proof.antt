@@ -1,8 +1,9 @@
 -- The mark and the kind: room for both is room for each.
 -- Assumes nothing.
-use Rattle.lent.proofs.Writes.{wrote-length}
+use mathlib.Core.Path.{refl}
+use native.Mathlib.Nat.{le-refl}
+use Rattle.lent.proofs.Writes.{wrote-length, then, sum-fits, within}
 use mathlib.Core.List.{[], _∷_}
-use borrow.Author.Needs.{needs}
 use Rattle.spell.specs.Spell.{spelled}
 use Rattle.spell.specs.Tables.{kinds}
 use Rattle.converter.proofs.starts.put_piece.Statement.{statement}
@@ -10,30 +11,30 @@ use Rattle.converter.proofs.starts.put_piece.Tie as tie
 use Rattle.lent.proofs.Room.{two-of}
 
 slice-aggregate-put-bytes : tie.Need-slice-aggregate-put-bytes
-slice-aggregate-put-bytes c = search needs
+slice-aggregate-put-bytes c = refl
 
 put-bytes-requires : tie.Need-put-bytes-requires
-put-bytes-requires c κs = search needs
+put-bytes-requires c κs = tt
 
 sub-put-board-kind : tie.Need-sub-put-board-kind
-sub-put-board-kind c = search needs
+sub-put-board-kind c = within (c .before .before .put-bytes .ensures)
 
 part-put-board-kind-start : tie.Need-part-put-board-kind-start
-part-put-board-kind-start c = search needs
+part-put-board-kind-start c = sub-put-board-kind c
 
 part-put-board-kind-end : tie.Need-part-put-board-kind-end
-part-put-board-kind-end c = search needs
+part-put-board-kind-end c = le-refl _
 
 put-board-kind-requires : tie.Need-put-board-kind-requires
-put-board-kind-requires c κs = search needs
-
-add-result : tie.Need-add-result
-add-result c = search needs
+put-board-kind-requires c κs = tt
 
 returns : tie.Need-returns
 returns c =
     let a = c .before .before .before .before .before .before .before .before .before .before .args in
     two-of (a .before ∷ []) (spelled kinds (a .kind)) (c .before .before .before .before .before .before .before .before .before .before .pre) (c .before .before .before .before .before .before .put-bytes .ensures) (c .before .before .put-board-kind .ensures)
+
+add-result : tie.Need-add-result
+add-result c = sum-fits (returns c) (c .before .before .before .before .before .before .before .before .before .before .good .0 .0)
 
 same-length : tie.Need-same-length
 same-length c = wrote-length (returns c)

@@ -1,11 +1,12 @@
 -- The loop's invariant: the rows below `rank` have been written. The measure is what is left of 9.
 -- Assumes nothing.
+use native.Mathlib.Nat.{le-refl}
 use Prim.Native.Nat.{_-_, _≤_}
 use native.Mathlib.Omega.{arith}
 use mathlib.Core.Path.{_≡_, ap}
 use borrow.Author.Needs.{needs}
 use Rattle.lent.specs.Bytes.{Wrote}
-use Rattle.lent.proofs.Writes.{as-text, wrote-length}
+use Rattle.lent.proofs.Writes.{as-text, wrote-length, within, sum-fits, then}
 use Rattle.converter.specs.Diagrams.{rowText, rowsText}
 use Rattle.converter.proofs.Ranged.{upTo, wrote-none, wrote-more, room-more}
 use Rattle.converter.proofs.starts.put_rows.Statement.{statement}
@@ -21,13 +22,13 @@ loop-holds : tie.Need-loop-holds Inv-loop μ-loop
 loop-holds c = (omega arith, wrote-none _ _)
 
 sub-put-row : tie.Need-sub-put-row Inv-loop μ-loop
-sub-put-row c = omega (arith, wrote-length (c .before .loop .inv .1))
+sub-put-row c = within (c .before .loop .inv .1)
 
 part-put-row-start : tie.Need-part-put-row-start Inv-loop μ-loop
-part-put-row-start c = let l = wrote-length (c .before .loop .inv .1) in search needs
+part-put-row-start c = sub-put-row c
 
 part-put-row-end : tie.Need-part-put-row-end Inv-loop μ-loop
-part-put-row-end c = let l = wrote-length (c .before .loop .inv .1) in search needs
+part-put-row-end c = le-refl _
 
 put-row-requires : tie.Need-put-row-requires Inv-loop μ-loop
 unfolding rowsText
@@ -36,7 +37,7 @@ put-row-requires c κs =
     (c .before .loop-test .taken, room-more (rowText (c .before .before .before .before .before .args .cells .now)) (l .rank) 9 (l .inv .1) (c .before .loop-test .taken) (c .before .before .before .before .before .pre))
 
 add-at : tie.Need-add-at Inv-loop μ-loop
-add-at c = let l = wrote-length (c .before .before .before .before .before .loop .inv .1) in search needs
+add-at c = sum-fits (then (c .before .before .before .before .before .loop .inv .1) (c .before .before .put-row .ensures)) (c .before .before .before .before .before .before .before .before .good .0 .0)
 
 add-rank : tie.Need-add-rank Inv-loop μ-loop
 add-rank c = search needs

@@ -25,7 +25,7 @@ shared-slice-read-within : tie.Need-shared-slice-read-within
 shared-slice-read-within c = search needs
 
 within-requires : tie.Need-within-requires
-within-requires c κs = search needs
+within-requires c κs = tt
 
 returns-3 : tie.Need-returns-3
 returns-3 c = λ e. absurd (false≢true e)
@@ -34,7 +34,7 @@ shared-slice-read-within-2 : tie.Need-shared-slice-read-within-2
 shared-slice-read-within-2 c = search needs
 
 within-requires-2 : tie.Need-within-requires-2
-within-requires-2 c κs = search needs
+within-requires-2 c κs = tt
 
 returns-4 : tie.Need-returns-4
 returns-4 c =

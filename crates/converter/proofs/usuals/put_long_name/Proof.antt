@@ -1,7 +1,7 @@
 -- The bytes are those of the name (`long-text`): the first character is the kind's, and the second is chosen.
 -- Assumes nothing.
-use Rattle.lent.proofs.Writes.{wrote-length}
-use mathlib.Core.Path.{_∙_}
+use Rattle.lent.proofs.Writes.{wrote-length, low-byte}
+use mathlib.Core.Path.{_∙_, refl}
 use mathlib.Core.Logic.{⊎-elim}
 use denote.Ref.{now}
 use Rattle.lent.proofs.Room.{bytes-of}
@@ -14,7 +14,7 @@ shared-slice-read-kind-key : tie.Need-shared-slice-read-kind-key
 shared-slice-read-kind-key c = search needs
 
 kind-key-requires : tie.Need-kind-key-requires
-kind-key-requires c κs = search needs
+kind-key-requires c κs = tt
 
 shared-slice-read-if1 : tie.Need-shared-slice-read-if1
 shared-slice-read-if1 c = search needs
@@ -26,25 +26,25 @@ sub-kind-key : tie.Need-sub-kind-key
 sub-kind-key c = search needs
 
 kind-key-requires-2 : tie.Need-kind-key-requires-2
-kind-key-requires-2 c κs = search needs
+kind-key-requires-2 c κs = tt
 
 cast-t6 : tie.Need-cast-t6
-cast-t6 c = search needs
+cast-t6 c = low-byte _
 
 cast-t20 : tie.Need-cast-t20
-cast-t20 c = search needs
+cast-t20 c = low-byte _
 
 cast-t22 : tie.Need-cast-t22
-cast-t22 c = search needs
+cast-t22 c = low-byte _
 
 cast-t25 : tie.Need-cast-t25
-cast-t25 c = search needs
+cast-t25 c = low-byte _
 
 cast-t28 : tie.Need-cast-t28
-cast-t28 c = search needs
+cast-t28 c = low-byte _
 
 cast-t30 : tie.Need-cast-t30
-cast-t30 c = search needs
+cast-t30 c = low-byte _
 
 shared-slice-read-t32 : tie.Need-shared-slice-read-t32
 shared-slice-read-t32 c = search needs
@@ -59,10 +59,10 @@ add-t36 : tie.Need-add-t36
 add-t36 c = search needs
 
 slice-aggregate-put-bytes : tie.Need-slice-aggregate-put-bytes
-slice-aggregate-put-bytes c = search needs
+slice-aggregate-put-bytes c = refl
 
 put-bytes-requires : tie.Need-put-bytes-requires
-put-bytes-requires c κs = search needs
+put-bytes-requires c κs = tt
 
 returns : tie.Need-returns
 returns c =

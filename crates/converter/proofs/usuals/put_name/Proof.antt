@@ -1,7 +1,7 @@
 -- A name of two characters is put by itself; the bytes of any other are its kind, its origin and spaces (`short-text`).
 -- Assumes nothing.
-use Rattle.lent.proofs.Writes.{wrote-length}
-use mathlib.Core.Path.{sym, _∙_}
+use Rattle.lent.proofs.Writes.{wrote-length, low-byte}
+use mathlib.Core.Path.{sym, _∙_, refl}
 use denote.Ref.{now}
 use Rattle.lent.proofs.Room.{bytes-of}
 use Rattle.converter.proofs.Usually.{short-text}
@@ -25,16 +25,16 @@ shared-slice-read-kind-key : tie.Need-shared-slice-read-kind-key
 shared-slice-read-kind-key c = search needs
 
 kind-key-requires : tie.Need-kind-key-requires
-kind-key-requires c κs = search needs
+kind-key-requires c κs = tt
 
 cast-t8 : tie.Need-cast-t8
-cast-t8 c = search needs
+cast-t8 c = low-byte _
 
 cast-t16 : tie.Need-cast-t16
-cast-t16 c = search needs
+cast-t16 c = low-byte _
 
 cast-t18 : tie.Need-cast-t18
-cast-t18 c = search needs
+cast-t18 c = low-byte _
 
 shared-slice-read-t20 : tie.Need-shared-slice-read-t20
 shared-slice-read-t20 c = search needs
@@ -49,10 +49,10 @@ add-t24 : tie.Need-add-t24
 add-t24 c = search needs
 
 slice-aggregate-put-bytes : tie.Need-slice-aggregate-put-bytes
-slice-aggregate-put-bytes c = search needs
+slice-aggregate-put-bytes c = refl
 
 put-bytes-requires : tie.Need-put-bytes-requires
-put-bytes-requires c κs = search needs
+put-bytes-requires c κs = tt
 
 returns-2 : tie.Need-returns-2
 returns-2 c =

@@ -1,9 +1,9 @@
 -- The bytes are those of the ply and of the target (`start-text`); the two characters of the target are chosen alike.
 -- Assumes nothing.
-use Rattle.lent.proofs.Writes.{wrote-length}
+use Rattle.lent.proofs.Writes.{wrote-length, low-byte}
 use native.Mathlib.Omega.{arith}
 use mathlib.Core.Logic.{⊎-elim}
-use mathlib.Core.Path.{_∙_}
+use mathlib.Core.Path.{_∙_, refl}
 use denote.Ref.{now}
 use Rattle.lent.proofs.Room.{bytes-of}
 use Rattle.converter.proofs.Usually.{file-same, file-square, rank-same, rank-square, start-text}
@@ -30,7 +30,7 @@ shared-slice-read-numeral-key : tie.Need-shared-slice-read-numeral-key
 shared-slice-read-numeral-key c = search needs
 
 numeral-key-requires : tie.Need-numeral-key-requires
-numeral-key-requires c κs = search needs
+numeral-key-requires c κs = tt
 
 spaced-requires : tie.Need-spaced-requires
 spaced-requires c κs = search needs
@@ -45,28 +45,28 @@ cast-t23 : tie.Need-cast-t23
 cast-t23 c = search needs
 
 cast-t26 : tie.Need-cast-t26
-cast-t26 c = search needs
+cast-t26 c = low-byte _
 
 cast-t29 : tie.Need-cast-t29
-cast-t29 c = search needs
+cast-t29 c = low-byte _
 
 cast-t31 : tie.Need-cast-t31
-cast-t31 c = search needs
+cast-t31 c = low-byte _
 
 cast-t34 : tie.Need-cast-t34
-cast-t34 c = search needs
+cast-t34 c = low-byte _
 
 cast-t37 : tie.Need-cast-t37
-cast-t37 c = search needs
+cast-t37 c = low-byte _
 
 cast-t39 : tie.Need-cast-t39
-cast-t39 c = search needs
+cast-t39 c = low-byte _
 
 slice-aggregate-put-bytes : tie.Need-slice-aggregate-put-bytes
-slice-aggregate-put-bytes c = search needs
+slice-aggregate-put-bytes c = refl
 
 put-bytes-requires : tie.Need-put-bytes-requires
-put-bytes-requires c κs = search needs
+put-bytes-requires c κs = tt
 
 returns : tie.Need-returns
 returns c =

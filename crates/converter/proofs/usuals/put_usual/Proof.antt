@@ -1,12 +1,12 @@
 -- The three pieces, one after another, are the line (`usual-line`), and where it fits they do.
 -- Assumes nothing.
+use native.Mathlib.Nat.{le-refl}
 use mathlib.Core.Path.{sym}
 use denote.Ref.{now}
-use Rattle.lent.proofs.Writes.{as-text, then, wrote-length}
+use Rattle.lent.proofs.Writes.{as-text, then, wrote-length, sum-fits, within}
 use Rattle.converter.specs.Usuals.{nameText, clocksText}
 use Rattle.lent.proofs.Room.{room-after}
 use Rattle.converter.proofs.Usually.{usual-line, usual-room}
-use borrow.Author.Needs.{needs}
 use Rattle.converter.proofs.usuals.put_usual.Statement.{statement}
 use Rattle.converter.proofs.usuals.put_usual.Tie as tie
 
@@ -16,13 +16,13 @@ put-start-requires c κs =
     (s .pre .0, s .pre .1, usual-room (now (s .args .row)) (s .pre .0) (s .args .ply) (s .pre .2) .0)
 
 sub-put-name : tie.Need-sub-put-name
-sub-put-name c = search needs
+sub-put-name c = within (c .before .before .put-start .ensures)
 
 part-put-name-start : tie.Need-part-put-name-start
-part-put-name-start c = search needs
+part-put-name-start c = sub-put-name c
 
 part-put-name-end : tie.Need-part-put-name-end
-part-put-name-end c = search needs
+part-put-name-end c = le-refl _
 
 put-name-requires : tie.Need-put-name-requires
 put-name-requires c κs =
@@ -31,16 +31,16 @@ put-name-requires c κs =
     (s .pre .0, room-after (nameText row) (c .before .before .before .put-start .ensures) (usual-room row (s .pre .0) (s .args .ply) (s .pre .2) .1))
 
 add-b : tie.Need-add-b
-add-b c = search needs
+add-b c = sum-fits (then (c .before .before .before .before .before .before .put-start .ensures) (c .before .before .put-name .ensures)) (c .before .before .before .before .before .before .before .before .before .before .good .0 .0)
 
 sub-put-clocks : tie.Need-sub-put-clocks
-sub-put-clocks c = search needs
+sub-put-clocks c = within (then (c .before .before .before .before .before .before .put-start .ensures) (c .before .before .put-name .ensures))
 
 part-put-clocks-start : tie.Need-part-put-clocks-start
-part-put-clocks-start c = search needs
+part-put-clocks-start c = sub-put-clocks c
 
 part-put-clocks-end : tie.Need-part-put-clocks-end
-part-put-clocks-end c = search needs
+part-put-clocks-end c = le-refl _
 
 put-clocks-requires : tie.Need-put-clocks-requires
 put-clocks-requires c κs =
@@ -48,13 +48,13 @@ put-clocks-requires c κs =
     let row = now (s .args .row) in
     (s .pre .0, room-after (clocksText row) (then (c .before .before .before .before .before .before .before .put-start .ensures) (c .before .before .before .put-name .ensures)) (usual-room row (s .pre .0) (s .args .ply) (s .pre .2) .2))
 
-add-result : tie.Need-add-result
-add-result c = search needs
-
 returns : tie.Need-returns
 returns c =
     let s = c .before .before .before .before .before .before .before .before .before .before .before .before .before .before in
     as-text (sym (usual-line (now (s .args .row)) (s .pre .0) (s .args .ply))) (then (then (c .before .before .before .before .before .before .before .before .before .before .put-start .ensures) (c .before .before .before .before .before .before .put-name .ensures)) (c .before .before .put-clocks .ensures))
+
+add-result : tie.Need-add-result
+add-result c = sum-fits (returns c) (c .before .before .before .before .before .before .before .before .before .before .before .before .before .before .good .0 .0)
 
 same-length : tie.Need-same-length
 same-length c = wrote-length (returns c)
