@@ -1,99 +1,98 @@
 -- Each arm hands its own number and figures to `figured`, and `figures` gives that answer the same three.
 -- Assumes nothing.
-use borrow.Author.Needs.{needs}
 use Rattle.jkf.specs.Answers.{figures}
 use Rattle.jkf.proofs.figures_of.Statement.{statement}
 use Rattle.jkf.proofs.figures_of.Tie as tie
 
 enum-known-a : tie.Need-enum-known-a
-enum-known-a c = search needs
+enum-known-a c = c .match .keys1
 
 figured-requires : tie.Need-figured-requires
-figured-requires c κs = search needs
+figured-requires c κs = tt
 
 enum-known-a-2 : tie.Need-enum-known-a-2
-enum-known-a-2 c = search needs
+enum-known-a-2 c = c .match .keys2
 
 figured-requires-2 : tie.Need-figured-requires-2
-figured-requires-2 c κs = search needs
+figured-requires-2 c κs = tt
 
 enum-known-a-3 : tie.Need-enum-known-a-3
-enum-known-a-3 c = search needs
+enum-known-a-3 c = c .match .keys3
 
 figured-requires-3 : tie.Need-figured-requires-3
-figured-requires-3 c κs = search needs
+figured-requires-3 c κs = tt
 
 enum-known-a-4 : tie.Need-enum-known-a-4
-enum-known-a-4 c = search needs
+enum-known-a-4 c = c .match .keys4
 
 figured-requires-4 : tie.Need-figured-requires-4
-figured-requires-4 c κs = search needs
+figured-requires-4 c κs = tt
 
 enum-known-a-5 : tie.Need-enum-known-a-5
-enum-known-a-5 c = search needs
+enum-known-a-5 c = c .match .keys5
 
 figured-requires-5 : tie.Need-figured-requires-5
-figured-requires-5 c κs = search needs
+figured-requires-5 c κs = tt
 
 enum-known-a-6 : tie.Need-enum-known-a-6
-enum-known-a-6 c = search needs
+enum-known-a-6 c = c .match .keys6
 
 figured-requires-6 : tie.Need-figured-requires-6
-figured-requires-6 c κs = search needs
+figured-requires-6 c κs = tt
 
 enum-known-a-7 : tie.Need-enum-known-a-7
-enum-known-a-7 c = search needs
+enum-known-a-7 c = c .match .keys7
 
 figured-requires-7 : tie.Need-figured-requires-7
-figured-requires-7 c κs = search needs
+figured-requires-7 c κs = tt
 
 enum-told : tie.Need-enum-told
-enum-told c = search needs
+enum-told c = c .match .keys8
 
 figured-requires-8 : tie.Need-figured-requires-8
-figured-requires-8 c κs = search needs
+figured-requires-8 c κs = tt
 
 enum-known-a-8 : tie.Need-enum-known-a-8
-enum-known-a-8 c = search needs
+enum-known-a-8 c = c .match .keys9
 
 figured-requires-9 : tie.Need-figured-requires-9
-figured-requires-9 c κs = search needs
+figured-requires-9 c κs = tt
 
 enum-known-a-9 : tie.Need-enum-known-a-9
-enum-known-a-9 c = search needs
+enum-known-a-9 c = c .match .keys10
 
 figured-requires-10 : tie.Need-figured-requires-10
-figured-requires-10 c κs = search needs
+figured-requires-10 c κs = tt
 
 enum-known-a-10 : tie.Need-enum-known-a-10
-enum-known-a-10 c = search needs
+enum-known-a-10 c = c .match .keys11
 
 figured-requires-11 : tie.Need-figured-requires-11
-figured-requires-11 c κs = search needs
+figured-requires-11 c κs = tt
 
 enum-told-2 : tie.Need-enum-told-2
-enum-told-2 c = search needs
+enum-told-2 c = c .match .keys12
 
 figured-requires-12 : tie.Need-figured-requires-12
-figured-requires-12 c κs = search needs
+figured-requires-12 c κs = tt
 
 enum-known-a-11 : tie.Need-enum-known-a-11
-enum-known-a-11 c = search needs
+enum-known-a-11 c = c .match .keys13
 
 figured-requires-13 : tie.Need-figured-requires-13
-figured-requires-13 c κs = search needs
+figured-requires-13 c κs = tt
 
 enum-known-a-12 : tie.Need-enum-known-a-12
-enum-known-a-12 c = search needs
+enum-known-a-12 c = c .match .keys14
 
 figured-requires-14 : tie.Need-figured-requires-14
-figured-requires-14 c κs = search needs
+figured-requires-14 c κs = tt
 
 enum-known-a-13 : tie.Need-enum-known-a-13
-enum-known-a-13 c = search needs
+enum-known-a-13 c = c .match .keys15
 
 figured-requires-15 : tie.Need-figured-requires-15
-figured-requires-15 c κs = search needs
+figured-requires-15 c κs = tt
 
 returns : tie.Need-returns
 unfolding figures

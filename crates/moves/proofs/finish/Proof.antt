@@ -1,18 +1,17 @@
 -- The three cases of the definition.
 -- Assumes nothing.
-use borrow.Author.Needs.{needs}
 use Rattle.moves.specs.Moves.{finished}
 use Rattle.moves.proofs.finish.Statement.{statement}
 use Rattle.moves.proofs.finish.Tie as tie
 
 enum-told : tie.Need-enum-told
-enum-told c = search needs
+enum-told c = c .match .keys1
 
 enum-known-entry : tie.Need-enum-known-entry
-enum-known-entry c = search needs
+enum-known-entry c = c .match .keys2
 
 enum-known-entry-2 : tie.Need-enum-known-entry-2
-enum-known-entry-2 c = search needs
+enum-known-entry-2 c = c .match .keys3
 
 returns : tie.Need-returns
 unfolding finished

@@ -9,13 +9,13 @@ add-t9 : tie.Need-add-t9
 add-t9 c = search needs
 
 line-end-requires : tie.Need-line-end-requires
-line-end-requires c κs = search needs
+line-end-requires c κs = tt
 
 enum-known-end : tie.Need-enum-known-end
-enum-known-end c = search needs
+enum-known-end c = c .match .keys1
 
 enum-told : tie.Need-enum-told
-enum-told c = search needs
+enum-told c = c .match .keys2
 
 returns : tie.Need-returns
 returns c = rw (usual-played _ _ _ _ _ (c .before .before .before .before .pre .0) (c .before .before .before .before .pre .1) (c .before .before .before .before .pre .2), ← c .before .before .line-end .ensures, c .enum-told .given .1)
@@ -24,7 +24,7 @@ usual-requires : tie.Need-usual-requires
 usual-requires c κs = search needs
 
 color-requires : tie.Need-color-requires
-color-requires c κs = search needs
+color-requires c κs = tt
 
 usual-requires-2 : tie.Need-usual-requires-2
 usual-requires-2 c κs = search needs

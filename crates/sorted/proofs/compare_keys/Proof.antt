@@ -18,10 +18,10 @@ abbrev μ-loop : tie.MeasureT-loop
 μ-loop s p q m left₀ i₀ j₀ left i j = left
 
 larger-requires : tie.Need-larger-requires Inv-loop μ-loop
-larger-requires c κs = search needs
+larger-requires c κs = tt
 
 compare-slowly-requires : tie.Need-compare-slowly-requires Inv-loop μ-loop
-compare-slowly-requires c κs = search needs
+compare-slowly-requires c κs = tt
 
 returns : tie.Need-returns Inv-loop μ-loop
 returns c = c .compare-slowly .ensures
@@ -36,7 +36,7 @@ four-requires : tie.Need-four-requires Inv-loop μ-loop
 four-requires c κs = search needs
 
 compare-slowly-requires-2 : tie.Need-compare-slowly-requires-2 Inv-loop μ-loop
-compare-slowly-requires-2 c κs = search needs
+compare-slowly-requires-2 c κs = tt
 
 returns-2 : tie.Need-returns-2 Inv-loop μ-loop
 returns-2 c = c .compare-slowly2 .ensures ∙ sym (c .before .before .before .before .loop .inv .2)
@@ -45,7 +45,7 @@ four-requires-2 : tie.Need-four-requires-2 Inv-loop μ-loop
 four-requires-2 c κs = search needs
 
 compare-slowly-requires-3 : tie.Need-compare-slowly-requires-3 Inv-loop μ-loop
-compare-slowly-requires-3 c κs = search needs
+compare-slowly-requires-3 c κs = tt
 
 returns-3 : tie.Need-returns-3 Inv-loop μ-loop
 returns-3 c = c .compare-slowly3 .ensures ∙ sym (c .before .before .before .before .before .before .loop .inv .2)
@@ -75,7 +75,7 @@ loop-again c =
     (omega arith, omega arith, l .loop .inv .2 ∙ four-same (c .before .before .before .before .before .four .ensures (omega arith)) (c .before .before .before .four2 .ensures (omega arith)) (omega arith))
 
 compare-slowly-requires-4 : tie.Need-compare-slowly-requires-4 Inv-loop μ-loop
-compare-slowly-requires-4 c κs = search needs
+compare-slowly-requires-4 c κs = tt
 
 returns-6 : tie.Need-returns-6 Inv-loop μ-loop
 returns-6 c = c .compare-slowly4 .ensures ∙ sym (c .before .before .loop .inv .2)

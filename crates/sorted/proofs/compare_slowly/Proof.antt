@@ -6,7 +6,6 @@ use mathlib.Core.Path.{_≡_, refl, sym, _∙_}
 use mathlib.Core.List.{List}
 use lib.ListN.{length}
 use denote.Ref.{now}
-use borrow.Author.Needs.{needs}
 use Rattle.text.specs.Text.{keyAt}
 use Rattle.sorted.specs.Heads.{headOf}
 use Rattle.sorted.specs.Sorted.{byBytes}
@@ -43,10 +42,10 @@ loop-holds : tie.Need-loop-holds Inv-loop μ-loop
 loop-holds c = refl
 
 key-head-requires : tie.Need-key-head-requires Inv-loop μ-loop
-key-head-requires c κs = search needs
+key-head-requires c κs = tt
 
 key-head-requires-2 : tie.Need-key-head-requires-2 Inv-loop μ-loop
-key-head-requires-2 c κs = search needs
+key-head-requires-2 c κs = tt
 
 returns : tie.Need-returns Inv-loop μ-loop
 returns c = sym (c .before .before .before .loop .inv ∙ head-less _ _ (omega arith))

@@ -13,7 +13,7 @@ shared-slice-read-a : tie.Need-shared-slice-read-a
 shared-slice-read-a c = search needs
 
 calm-requires : tie.Need-calm-requires
-calm-requires c κs = search needs
+calm-requires c κs = tt
 
 returns : tie.Need-returns
 returns c h = absurd (not-suc-le-zero h)
@@ -25,7 +25,7 @@ shared-slice-read-b : tie.Need-shared-slice-read-b
 shared-slice-read-b c = search needs
 
 calm-requires-2 : tie.Need-calm-requires-2
-calm-requires-2 c κs = search needs
+calm-requires-2 c κs = tt
 
 returns-2 : tie.Need-returns-2
 returns-2 c h = absurd (not-suc-le-zero h)
@@ -37,7 +37,7 @@ shared-slice-read-c : tie.Need-shared-slice-read-c
 shared-slice-read-c c = search needs
 
 calm-requires-3 : tie.Need-calm-requires-3
-calm-requires-3 c κs = search needs
+calm-requires-3 c κs = tt
 
 returns-3 : tie.Need-returns-3
 returns-3 c h = absurd (not-suc-le-zero h)
@@ -49,19 +49,19 @@ shared-slice-read-d : tie.Need-shared-slice-read-d
 shared-slice-read-d c = search needs
 
 calm-requires-4 : tie.Need-calm-requires-4
-calm-requires-4 c κs = search needs
+calm-requires-4 c κs = tt
 
 returns-4 : tie.Need-returns-4
 returns-4 c h = absurd (not-suc-le-zero h)
 
 wide-requires : tie.Need-wide-requires
-wide-requires c κs = search needs
+wide-requires c κs = tt
 
 mul-result : tie.Need-mul-result
 mul-result c = search needs
 
 wide-requires-2 : tie.Need-wide-requires-2
-wide-requires-2 c κs = search needs
+wide-requires-2 c κs = tt
 
 add-result : tie.Need-add-result
 add-result c = search needs
@@ -70,7 +70,7 @@ mul-result-2 : tie.Need-mul-result-2
 mul-result-2 c = search needs
 
 wide-requires-3 : tie.Need-wide-requires-3
-wide-requires-3 c κs = search needs
+wide-requires-3 c κs = tt
 
 add-result-2 : tie.Need-add-result-2
 add-result-2 c = search needs
@@ -79,7 +79,7 @@ mul-result-3 : tie.Need-mul-result-3
 mul-result-3 c = search needs
 
 wide-requires-4 : tie.Need-wide-requires-4
-wide-requires-4 c κs = search needs
+wide-requires-4 c κs = tt
 
 add-result-3 : tie.Need-add-result-3
 add-result-3 c = search needs

@@ -21,7 +21,7 @@ sub-merge-runs : tie.Need-sub-merge-runs
 sub-merge-runs c = search needs
 
 part-merge-runs-start : tie.Need-part-merge-runs-start
-part-merge-runs-start c = search needs
+part-merge-runs-start c = sub-merge-runs c
 
 part-merge-runs-end : tie.Need-part-merge-runs-end
 part-merge-runs-end c = search needs

@@ -1,5 +1,6 @@
 -- The merge of the runs is what stands in the buffer, and the merge of what is left of them (`Merging`); where one has ended, that is the rest of the other.
 -- Assumes nothing.
+use native.Mathlib.Nat.{le-refl}
 use Prim.Native.Nat.{ℕ, _+_, _-_}
 use native.Mathlib.Omega.{arith}
 use mathlib.Core.Path.{_≡_, refl, _∙_}
@@ -47,10 +48,10 @@ sub-copy-places : tie.Need-sub-copy-places Inv-loop μ-loop
 sub-copy-places c = search needs
 
 part-copy-places-start : tie.Need-part-copy-places-start Inv-loop μ-loop
-part-copy-places-start c = search needs
+part-copy-places-start c = sub-copy-places c
 
 part-copy-places-end : tie.Need-part-copy-places-end Inv-loop μ-loop
-part-copy-places-end c = search needs
+part-copy-places-end c = le-refl _
 
 mul-copy-places-2 : tie.Need-mul-copy-places-2 Inv-loop μ-loop
 mul-copy-places-2 c = search needs
@@ -59,10 +60,10 @@ sub-copy-places-2 : tie.Need-sub-copy-places-2 Inv-loop μ-loop
 sub-copy-places-2 c = search needs
 
 part-copy-places-start-2 : tie.Need-part-copy-places-start-2 Inv-loop μ-loop
-part-copy-places-start-2 c = search needs
+part-copy-places-start-2 c = sub-copy-places-2 c
 
 part-copy-places-end-2 : tie.Need-part-copy-places-end-2 Inv-loop μ-loop
-part-copy-places-end-2 c = search needs
+part-copy-places-end-2 c = le-refl _
 
 copy-places-requires : tie.Need-copy-places-requires Inv-loop μ-loop
 copy-places-requires c κs = simp (length-take, length-drop) (omega arith)
@@ -86,10 +87,10 @@ sub-copy-places-3 : tie.Need-sub-copy-places-3 Inv-loop μ-loop
 sub-copy-places-3 c = search needs
 
 part-copy-places-start-3 : tie.Need-part-copy-places-start-3 Inv-loop μ-loop
-part-copy-places-start-3 c = search needs
+part-copy-places-start-3 c = sub-copy-places-3 c
 
 part-copy-places-end-3 : tie.Need-part-copy-places-end-3 Inv-loop μ-loop
-part-copy-places-end-3 c = search needs
+part-copy-places-end-3 c = le-refl _
 
 mul-copy-places-4 : tie.Need-mul-copy-places-4 Inv-loop μ-loop
 mul-copy-places-4 c = search needs
@@ -98,10 +99,10 @@ sub-copy-places-4 : tie.Need-sub-copy-places-4 Inv-loop μ-loop
 sub-copy-places-4 c = search needs
 
 part-copy-places-start-4 : tie.Need-part-copy-places-start-4 Inv-loop μ-loop
-part-copy-places-start-4 c = search needs
+part-copy-places-start-4 c = sub-copy-places-4 c
 
 part-copy-places-end-4 : tie.Need-part-copy-places-end-4 Inv-loop μ-loop
-part-copy-places-end-4 c = search needs
+part-copy-places-end-4 c = le-refl _
 
 copy-places-requires-2 : tie.Need-copy-places-requires-2 Inv-loop μ-loop
 copy-places-requires-2 c κs = simp (length-take, length-drop) (omega arith)
@@ -131,16 +132,16 @@ shared-slice-read-q : tie.Need-shared-slice-read-q Inv-loop μ-loop
 shared-slice-read-q c = search needs
 
 wide-requires : tie.Need-wide-requires Inv-loop μ-loop
-wide-requires c κs = search needs
+wide-requires c κs = tt
 
 wide-requires-2 : tie.Need-wide-requires-2 Inv-loop μ-loop
-wide-requires-2 c κs = search needs
+wide-requires-2 c κs = tt
 
 compare-keys-requires : tie.Need-compare-keys-requires Inv-loop μ-loop
-compare-keys-requires c κs = search needs
+compare-keys-requires c κs = tt
 
 enum-told : tie.Need-enum-told Inv-loop μ-loop
-enum-told c = search needs
+enum-told c = c .match .keys1
 
 mul-out : tie.Need-mul-out Inv-loop μ-loop
 mul-out c = search needs
@@ -164,7 +165,7 @@ loop-again c =
     (merging-less (l .inv .0) (omega arith) (omega arith) (order p _ (c .enum-told .given .1)), length-set (l .out) (l .k) (P p) ∙ l .inv .1)
 
 enum-told-2 : tie.Need-enum-told-2 Inv-loop μ-loop
-enum-told-2 c = search needs
+enum-told-2 c = c .match .keys2
 
 mul-out-2 : tie.Need-mul-out-2 Inv-loop μ-loop
 mul-out-2 c = search needs
@@ -191,7 +192,7 @@ loop-again-2 c =
     (merging-equal (l .inv .0) (omega arith) (omega arith) (order p _ (c .enum-told2 .given .1)), length-set (l .out) (l .k) (Q p) ∙ l .inv .1)
 
 enum-told-3 : tie.Need-enum-told-3 Inv-loop μ-loop
-enum-told-3 c = search needs
+enum-told-3 c = c .match .keys3
 
 mul-out-3 : tie.Need-mul-out-3 Inv-loop μ-loop
 mul-out-3 c = search needs

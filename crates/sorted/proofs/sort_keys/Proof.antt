@@ -16,7 +16,7 @@ unfolding keptCount keptBuffer
 returns-2 c = simp (le-ltb _ _ (c .before .if1 .left), lt-ltb _ _ (c .if2 .taken)) (refl, refl)
 
 slice-aggregate-sort-through : tie.Need-slice-aggregate-sort-through
-slice-aggregate-sort-through c = search needs
+slice-aggregate-sort-through c = refl
 
 sort-through-requires : tie.Need-sort-through-requires
 sort-through-requires c κs = search needs
@@ -28,7 +28,7 @@ returns-3 : tie.Need-returns-3
 returns-3 c = search needs
 
 slice-aggregate-sort-through-2 : tie.Need-slice-aggregate-sort-through-2
-slice-aggregate-sort-through-2 c = search needs
+slice-aggregate-sort-through-2 c = refl
 
 sort-through-requires-2 : tie.Need-sort-through-requires-2
 sort-through-requires-2 c κs = search needs

@@ -41,10 +41,10 @@ shared-slice-read-kind-of-3 : tie.Need-shared-slice-read-kind-of-3
 shared-slice-read-kind-of-3 c = omega (arith, room (c .before .before .before))
 
 kind-of-requires : tie.Need-kind-of-requires
-kind-of-requires c κs = search needs
+kind-of-requires c κs = tt
 
 promoted-requires : tie.Need-promoted-requires
-promoted-requires c κs = search needs
+promoted-requires c κs = tt
 
 returns-2 : tie.Need-returns-2
 unfolding keyAt

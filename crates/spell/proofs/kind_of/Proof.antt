@@ -7,10 +7,10 @@ use Rattle.spell.proofs.kind_of.Statement.{statement}
 use Rattle.spell.proofs.kind_of.Tie as tie
 
 key-requires : tie.Need-key-requires
-key-requires c κs = search needs
+key-requires c κs = tt
 
 kind-row-requires : tie.Need-kind-row-requires
-kind-row-requires c κs = search needs
+kind-row-requires c κs = tt
 
 returns : tie.Need-returns
 unfolding numberIn

@@ -2,12 +2,11 @@
 -- Assumes nothing.
 use mathlib.Core.Path.{refl}
 use Rattle.spell.specs.Slots.{promotedKinds}
-use borrow.Author.Needs.{needs}
 use Rattle.spell.proofs.promoted.Statement.{statement}
 use Rattle.spell.proofs.promoted.Tie as tie
 
 slice-aggregate-find : tie.Need-slice-aggregate-find
-slice-aggregate-find c = search needs
+slice-aggregate-find c = refl
 
 find-requires : tie.Need-find-requires
 find-requires c κs = (promotedKinds, record { whole = refl; fits = refl })

@@ -7,7 +7,7 @@ use Rattle.spell.proofs.promoted_of.Statement.{statement}
 use Rattle.spell.proofs.promoted_of.Tie as tie
 
 kind-of-requires : tie.Need-kind-of-requires
-kind-of-requires c κs = search needs
+kind-of-requires c κs = tt
 
 returns : tie.Need-returns
 unfolding promotedIn

@@ -1,5 +1,6 @@
 -- The constant is the table `moveKinds`: antt computes it.
 -- Assumes nothing.
+use native.Mathlib.Nat.{le-refl}
 use Rattle.lent.proofs.Writes.{wrote-length}
 use mathlib.Core.Path.{refl}
 use borrow.Author.Needs.{needs}
@@ -14,7 +15,7 @@ part-put-spelled-start : tie.Need-part-put-spelled-start
 part-put-spelled-start c = search needs
 
 part-put-spelled-end : tie.Need-part-put-spelled-end
-part-put-spelled-end c = search needs
+part-put-spelled-end c = le-refl _
 
 put-spelled-requires : tie.Need-put-spelled-requires
 put-spelled-requires c κs = (moveKinds, record { whole = refl; fits = refl })

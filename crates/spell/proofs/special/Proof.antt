@@ -10,7 +10,7 @@ array-share-prefix-find : tie.Need-array-share-prefix-find
 array-share-prefix-find c = search needs
 
 slice-aggregate-find : tie.Need-slice-aggregate-find
-slice-aggregate-find c = search needs
+slice-aggregate-find c = refl
 
 find-requires : tie.Need-find-requires
 find-requires c κs = (specials, record { whole = refl; fits = refl })

@@ -1,23 +1,22 @@
 -- The line is the one that is found, and the two tests are the definition's.
 -- Assumes nothing.
 use borrow.Author.Tests.{le-leb, lt-leb, lt-ltb, le-ltb}
-use borrow.Author.Needs.{needs}
 use Rattle.jkf.specs.Attaching.{hangsBy}
 use Rattle.jkf.proofs.attaching.attach.Statement.{statement}
 use Rattle.jkf.proofs.attaching.attach.Tie as tie
 
 nearest-requires : tie.Need-nearest-requires
-nearest-requires c κs = search needs
+nearest-requires c κs = tt
 
 start-requires : tie.Need-start-requires
-start-requires c κs = search needs
+start-requires c κs = tt
 
 returns : tie.Need-returns
 unfolding hangsBy
 returns c = rw (← c .before .before .nearest .ensures, ← c .before .start .ensures, lt-leb _ _ (c .if1 .taken))
 
 count-requires : tie.Need-count-requires
-count-requires c κs = search needs
+count-requires c κs = tt
 
 returns-2 : tie.Need-returns-2
 unfolding hangsBy

@@ -20,7 +20,7 @@ add-get16 : tie.Need-add-get16
 add-get16 c = search needs
 
 get16-requires : tie.Need-get16-requires
-get16-requires c κs = search needs
+get16-requires c κs = tt
 
 returns-2 : tie.Need-returns-2
 returns-2 c = search needs

@@ -39,7 +39,7 @@ loop-holds c =
     (omega arith, ap (λ (n : ℕ). follow (now (a .lines)) (a .s) n (a .k - 1)) e)
 
 start-requires : tie.Need-start-requires Inv-loop μ-loop
-start-requires c κs = search needs
+start-requires c κs = tt
 
 mul-get16 : tie.Need-mul-get16 Inv-loop μ-loop
 mul-get16 c = omega (arith, above c)
@@ -48,7 +48,7 @@ add-get16 : tie.Need-add-get16 Inv-loop μ-loop
 add-get16 c = omega (arith, above c)
 
 get16-requires : tie.Need-get16-requires Inv-loop μ-loop
-get16-requires c κs = search needs
+get16-requires c κs = tt
 
 returns-2 : tie.Need-returns-2 Inv-loop μ-loop
 returns-2 c =

@@ -2,15 +2,14 @@
 -- Assumes nothing.
 use native.Mathlib.Omega.{arith}
 use mathlib.Core.Path.{refl}
-use borrow.Author.Needs.{needs}
 use Rattle.jkf.proofs.entries.clock_figure.Statement.{statement}
 use Rattle.jkf.proofs.entries.clock_figure.Tie as tie
 
 enum-known-c : tie.Need-enum-known-c
-enum-known-c c = search needs
+enum-known-c c = c .match .keys1
 
 enum-known-c-2 : tie.Need-enum-known-c-2
-enum-known-c-2 c = search needs
+enum-known-c-2 c = c .match .keys2
 
 returns : tie.Need-returns
 returns c = rw (c .before .c .given .1) (refl, omega arith, refl)

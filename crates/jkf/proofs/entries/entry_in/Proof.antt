@@ -1,33 +1,32 @@
 -- The first byte decides as in the definition: 0 the slot, 2 an ending, and else a move.
 -- Assumes nothing.
 use borrow.Author.Tests.{eq-eqb, ne-eqb}
-use borrow.Author.Needs.{needs}
 use Rattle.jkf.specs.Entries.{entryIn}
 use Rattle.jkf.proofs.entries.entry_in.Statement.{statement}
 use Rattle.jkf.proofs.entries.entry_in.Tie as tie
 
 peek-requires : tie.Need-peek-requires
-peek-requires c κs = search needs
+peek-requires c κs = tt
 
 returns : tie.Need-returns
 unfolding entryIn
 returns c = rw (← c .before .peek .ensures, eq-eqb _ _ (c .if1 .taken))
 
 peek-requires-2 : tie.Need-peek-requires-2
-peek-requires-2 c κs = search needs
+peek-requires-2 c κs = tt
 
 special-of-requires : tie.Need-special-of-requires
-special-of-requires c κs = search needs
+special-of-requires c κs = tt
 
 time-in-requires : tie.Need-time-in-requires
-time-in-requires c κs = search needs
+time-in-requires c κs = tt
 
 returns-2 : tie.Need-returns-2
 unfolding entryIn
 returns-2 c = rw (← c .before .before .before .before .before .peek .ensures, ne-eqb _ _ (c .before .before .before .before .if1 .left), eq-eqb _ _ (c .before .before .before .if2 .taken), c .before .special-of .ensures, c .before .before .peek2 .ensures, c .time-in .ensures)
 
 move-in-requires : tie.Need-move-in-requires
-move-in-requires c κs = search needs
+move-in-requires c κs = tt
 
 returns-3 : tie.Need-returns-3
 unfolding entryIn

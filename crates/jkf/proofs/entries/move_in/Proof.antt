@@ -1,27 +1,26 @@
 -- Each field is read as the definition reads it.
 -- Assumes nothing.
-use borrow.Author.Needs.{needs}
 use Rattle.jkf.specs.Entries.{moveIn}
 use Rattle.jkf.proofs.entries.move_in.Statement.{statement}
 use Rattle.jkf.proofs.entries.move_in.Tie as tie
 
 peek-requires : tie.Need-peek-requires
-peek-requires c κs = search needs
+peek-requires c κs = tt
 
 peek-requires-2 : tie.Need-peek-requires-2
-peek-requires-2 c κs = search needs
+peek-requires-2 c κs = tt
 
 peek-requires-3 : tie.Need-peek-requires-3
-peek-requires-3 c κs = search needs
+peek-requires-3 c κs = tt
 
 target-in-requires : tie.Need-target-in-requires
-target-in-requires c κs = search needs
+target-in-requires c κs = tt
 
 origin-in-requires : tie.Need-origin-in-requires
-origin-in-requires c κs = search needs
+origin-in-requires c κs = tt
 
 time-in-requires : tie.Need-time-in-requires
-time-in-requires c κs = search needs
+time-in-requires c κs = tt
 
 returns : tie.Need-returns
 unfolding moveIn

@@ -1,19 +1,18 @@
 -- The mark 1 decides as in the definition, and the bytes are read at the same places.
 -- Assumes nothing.
 use borrow.Author.Tests.{eq-eqb, ne-eqb}
-use borrow.Author.Needs.{needs}
 use Rattle.jkf.specs.Entries.{originIn}
 use Rattle.jkf.proofs.entries.origin_in.Statement.{statement}
 use Rattle.jkf.proofs.entries.origin_in.Tie as tie
 
 peek-requires : tie.Need-peek-requires
-peek-requires c κs = search needs
+peek-requires c κs = tt
 
 peek-requires-2 : tie.Need-peek-requires-2
-peek-requires-2 c κs = search needs
+peek-requires-2 c κs = tt
 
 peek-requires-3 : tie.Need-peek-requires-3
-peek-requires-3 c κs = search needs
+peek-requires-3 c κs = tt
 
 returns : tie.Need-returns
 unfolding originIn

@@ -1,12 +1,14 @@
 -- The head takes 9 bytes and the time 6, so there is room for each part, and the last five bytes are the zero and the two numbers.
 -- Assumes nothing.
+use mathlib.Core.Path.{refl}
+use native.Mathlib.Nat.{le-refl}
 use native.Mathlib.Omega.{arith}
 use mathlib.Core.List.{[], _∷_, _++_}
 use borrow.Author.Needs.{needs}
 use Rattle.lent.specs.Bytes.{bytes16}
 use Rattle.jkf.proofs.Filling.{then-all}
 use Rattle.jkf.proofs.Entering.{head-length, time-length, parts-made}
-use Rattle.lent.proofs.Writes.{as-text, wrote-length, rest-length, then}
+use Rattle.lent.proofs.Writes.{as-text, wrote-length, rest-length, then, low-byte}
 use Rattle.jkf.proofs.entries.put_parts.Statement.{statement}
 use Rattle.jkf.proofs.entries.put_parts.Tie as tie
 
@@ -17,13 +19,13 @@ sub-put-time : tie.Need-sub-put-time
 sub-put-time c = search needs
 
 part-put-time-start : tie.Need-part-put-time-start
-part-put-time-start c = search needs
+part-put-time-start c = sub-put-time c
 
 part-put-time-end : tie.Need-part-put-time-end
-part-put-time-end c = search needs
+part-put-time-end c = le-refl _
 
 time-of-requires : tie.Need-time-of-requires
-time-of-requires c κs = search needs
+time-of-requires c κs = tt
 
 put-time-requires : tie.Need-put-time-requires
 put-time-requires c κs =
@@ -37,28 +39,28 @@ sub-put-bytes : tie.Need-sub-put-bytes
 sub-put-bytes c = search needs
 
 part-put-bytes-start : tie.Need-part-put-bytes-start
-part-put-bytes-start c = search needs
+part-put-bytes-start c = sub-put-bytes c
 
 part-put-bytes-end : tie.Need-part-put-bytes-end
-part-put-bytes-end c = search needs
+part-put-bytes-end c = le-refl _
 
 cast-t20 : tie.Need-cast-t20
-cast-t20 c = search needs
+cast-t20 c = low-byte _
 
 cast-t23 : tie.Need-cast-t23
-cast-t23 c = search needs
+cast-t23 c = low-byte _
 
 cast-t25 : tie.Need-cast-t25
-cast-t25 c = search needs
+cast-t25 c = low-byte _
 
 cast-t28 : tie.Need-cast-t28
-cast-t28 c = search needs
+cast-t28 c = low-byte _
 
 slice-aggregate-put-bytes : tie.Need-slice-aggregate-put-bytes
-slice-aggregate-put-bytes c = search needs
+slice-aggregate-put-bytes c = refl
 
 put-bytes-requires : tie.Need-put-bytes-requires
-put-bytes-requires c κs = search needs
+put-bytes-requires c κs = tt
 
 add-result : tie.Need-add-result
 add-result c = search needs

@@ -3,36 +3,35 @@
 use Prim.Native.Nat.{ℕ}
 use native.Mathlib.Omega.{arith}
 use mathlib.Core.List.{List, [], _∷_, _++_}
-use mathlib.Core.Path.{sym, ap, ap₂, _∙_}
-use borrow.Author.Needs.{needs}
+use mathlib.Core.Path.{sym, ap, ap₂, _∙_, refl}
 use Rattle.jkf.specs.Entries.{timeBytes}
 use Rattle.lent.proofs.Writes.{as-text, wrote-all, wrote-length}
 use Rattle.jkf.proofs.entries.put_time.Statement.{statement}
 use Rattle.jkf.proofs.entries.put_time.Tie as tie
 
 enum-told : tie.Need-enum-told
-enum-told c = search needs
+enum-told c = c .match .keys1
 
 slice-aggregate-put-bytes : tie.Need-slice-aggregate-put-bytes
-slice-aggregate-put-bytes c = search needs
+slice-aggregate-put-bytes c = refl
 
 put-bytes-requires : tie.Need-put-bytes-requires
-put-bytes-requires c κs = search needs
+put-bytes-requires c κs = tt
 
 enum-known-t : tie.Need-enum-known-t
-enum-known-t c = search needs
+enum-known-t c = c .match .keys2
 
 clock-figure-requires : tie.Need-clock-figure-requires
-clock-figure-requires c κs = search needs
+clock-figure-requires c κs = tt
 
 clock-figure-requires-2 : tie.Need-clock-figure-requires-2
-clock-figure-requires-2 c κs = search needs
+clock-figure-requires-2 c κs = tt
 
 slice-aggregate-put-bytes-2 : tie.Need-slice-aggregate-put-bytes-2
-slice-aggregate-put-bytes-2 c = search needs
+slice-aggregate-put-bytes-2 c = refl
 
 put-bytes-requires-2 : tie.Need-put-bytes-requires-2
-put-bytes-requires-2 c κs = search needs
+put-bytes-requires-2 c κs = tt
 
 returns : tie.Need-returns
 returns c = as-text (ap timeBytes (sym (c .before .before .before .before .before .enum-told .given .1))) (wrote-all {t = 0 ∷ 0 ∷ 0 ∷ 0 ∷ 0 ∷ 0 ∷ []} (omega arith) (c .before .before .put-bytes .ensures))

@@ -1,23 +1,22 @@
 -- The mark 2 decides as in the definition, and the bytes are read at the same places.
 -- Assumes nothing.
 use borrow.Author.Tests.{eq-eqb, ne-eqb}
-use borrow.Author.Needs.{needs}
 use Rattle.jkf.specs.Entries.{targetIn}
 use Rattle.jkf.proofs.entries.target_in.Statement.{statement}
 use Rattle.jkf.proofs.entries.target_in.Tie as tie
 
 peek-requires : tie.Need-peek-requires
-peek-requires c κs = search needs
+peek-requires c κs = tt
 
 returns : tie.Need-returns
 unfolding targetIn
 returns c = rw (← c .before .peek .ensures, eq-eqb _ _ (c .if1 .taken))
 
 peek-requires-2 : tie.Need-peek-requires-2
-peek-requires-2 c κs = search needs
+peek-requires-2 c κs = tt
 
 peek-requires-3 : tie.Need-peek-requires-3
-peek-requires-3 c κs = search needs
+peek-requires-3 c κs = tt
 
 returns-2 : tie.Need-returns-2
 unfolding targetIn

@@ -1,37 +1,36 @@
 -- The mark 4 decides as in the definition, and each clock is made of the same mark and the same three bytes.
 -- Assumes nothing.
 use borrow.Author.Tests.{eq-eqb, ne-eqb}
-use borrow.Author.Needs.{needs}
 use Rattle.jkf.specs.Entries.{timeIn}
 use Rattle.jkf.proofs.entries.time_in.Statement.{statement}
 use Rattle.jkf.proofs.entries.time_in.Tie as tie
 
 peek-requires : tie.Need-peek-requires
-peek-requires c κs = search needs
+peek-requires c κs = tt
 
 peek-requires-2 : tie.Need-peek-requires-2
-peek-requires-2 c κs = search needs
+peek-requires-2 c κs = tt
 
 peek-requires-3 : tie.Need-peek-requires-3
-peek-requires-3 c κs = search needs
+peek-requires-3 c κs = tt
 
 peek-requires-4 : tie.Need-peek-requires-4
-peek-requires-4 c κs = search needs
+peek-requires-4 c κs = tt
 
 clock-of-requires : tie.Need-clock-of-requires
-clock-of-requires c κs = search needs
+clock-of-requires c κs = tt
 
 peek-requires-5 : tie.Need-peek-requires-5
-peek-requires-5 c κs = search needs
+peek-requires-5 c κs = tt
 
 peek-requires-6 : tie.Need-peek-requires-6
-peek-requires-6 c κs = search needs
+peek-requires-6 c κs = tt
 
 peek-requires-7 : tie.Need-peek-requires-7
-peek-requires-7 c κs = search needs
+peek-requires-7 c κs = tt
 
 clock-of-requires-2 : tie.Need-clock-of-requires-2
-clock-of-requires-2 c κs = search needs
+clock-of-requires-2 c κs = tt
 
 returns : tie.Need-returns
 unfolding timeIn

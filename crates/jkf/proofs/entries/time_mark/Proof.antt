@@ -7,19 +7,19 @@ use Rattle.jkf.proofs.entries.time_mark.Statement.{statement}
 use Rattle.jkf.proofs.entries.time_mark.Tie as tie
 
 enum-told : tie.Need-enum-told
-enum-told c = search needs
+enum-told c = c .match .keys1
 
 enum-known-t : tie.Need-enum-known-t
-enum-known-t c = search needs
+enum-known-t c = c .match .keys2
 
 clock-figure-requires : tie.Need-clock-figure-requires
-clock-figure-requires c κs = search needs
+clock-figure-requires c κs = tt
 
 add-result : tie.Need-add-result
 add-result c = search needs
 
 clock-figure-requires-2 : tie.Need-clock-figure-requires-2
-clock-figure-requires-2 c κs = search needs
+clock-figure-requires-2 c κs = tt
 
 add-result-2 : tie.Need-add-result-2
 add-result-2 c = search needs

@@ -1,24 +1,23 @@
 -- Each field is read as the definition reads it.
 -- Assumes nothing.
-use borrow.Author.Needs.{needs}
 use Rattle.jkf.specs.Positions.{positionIn}
 use Rattle.jkf.proofs.positions.position_in.Statement.{statement}
 use Rattle.jkf.proofs.positions.position_in.Tie as tie
 
 peek-requires : tie.Need-peek-requires
-peek-requires c κs = search needs
+peek-requires c κs = tt
 
 peek-requires-2 : tie.Need-peek-requires-2
-peek-requires-2 c κs = search needs
+peek-requires-2 c κs = tt
 
 peek-requires-3 : tie.Need-peek-requires-3
-peek-requires-3 c κs = search needs
+peek-requires-3 c κs = tt
 
 cells-in-requires : tie.Need-cells-in-requires
-cells-in-requires c κs = search needs
+cells-in-requires c κs = tt
 
 hands-in-requires : tie.Need-hands-in-requires
-hands-in-requires c κs = search needs
+hands-in-requires c κs = tt
 
 returns : tie.Need-returns
 unfolding positionIn

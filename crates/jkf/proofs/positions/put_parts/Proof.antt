@@ -1,5 +1,6 @@
 -- The four parts are written one after another in the definition's order; they have 4, 81, 14 and 1 bytes, so there is room for each.
 -- Assumes nothing.
+use native.Mathlib.Nat.{le-refl}
 use native.Mathlib.Omega.{arith}
 use mathlib.Core.Path.{_≡_, refl}
 use Prim.Native.Nat.{ℕ, _+_, _≤_}
@@ -24,25 +25,25 @@ four t u v w {o} e₁ e₂ e₃ e₄ h a b c d =
     then-piece w (three-of t u v (room-front ((t ++ u) ++ v) w h₄) a b c) h₄ d
 
 slice-aggregate-put-bytes : tie.Need-slice-aggregate-put-bytes
-slice-aggregate-put-bytes c = search needs
+slice-aggregate-put-bytes c = refl
 
 put-bytes-requires : tie.Need-put-bytes-requires
-put-bytes-requires c κs = search needs
+put-bytes-requires c κs = tt
 
 sub-put-bytes : tie.Need-sub-put-bytes
 sub-put-bytes c = search needs
 
 part-put-bytes-start : tie.Need-part-put-bytes-start
-part-put-bytes-start c = search needs
+part-put-bytes-start c = sub-put-bytes c
 
 part-put-bytes-end : tie.Need-part-put-bytes-end
-part-put-bytes-end c = search needs
+part-put-bytes-end c = le-refl _
 
 slice-aggregate-put-bytes-2 : tie.Need-slice-aggregate-put-bytes-2
 slice-aggregate-put-bytes-2 c = search needs
 
 put-bytes-requires-2 : tie.Need-put-bytes-requires-2
-put-bytes-requires-2 c κs = search needs
+put-bytes-requires-2 c κs = tt
 
 add-b : tie.Need-add-b
 add-b c = search needs
@@ -51,16 +52,16 @@ sub-put-bytes-2 : tie.Need-sub-put-bytes-2
 sub-put-bytes-2 c = search needs
 
 part-put-bytes-start-2 : tie.Need-part-put-bytes-start-2
-part-put-bytes-start-2 c = search needs
+part-put-bytes-start-2 c = sub-put-bytes-2 c
 
 part-put-bytes-end-2 : tie.Need-part-put-bytes-end-2
-part-put-bytes-end-2 c = search needs
+part-put-bytes-end-2 c = le-refl _
 
 slice-aggregate-put-bytes-3 : tie.Need-slice-aggregate-put-bytes-3
 slice-aggregate-put-bytes-3 c = search needs
 
 put-bytes-requires-3 : tie.Need-put-bytes-requires-3
-put-bytes-requires-3 c κs = search needs
+put-bytes-requires-3 c κs = tt
 
 add-c : tie.Need-add-c
 add-c c = search needs
@@ -69,16 +70,16 @@ sub-put-bytes-3 : tie.Need-sub-put-bytes-3
 sub-put-bytes-3 c = search needs
 
 part-put-bytes-start-3 : tie.Need-part-put-bytes-start-3
-part-put-bytes-start-3 c = search needs
+part-put-bytes-start-3 c = sub-put-bytes-3 c
 
 part-put-bytes-end-3 : tie.Need-part-put-bytes-end-3
-part-put-bytes-end-3 c = search needs
+part-put-bytes-end-3 c = le-refl _
 
 slice-aggregate-put-bytes-4 : tie.Need-slice-aggregate-put-bytes-4
-slice-aggregate-put-bytes-4 c = search needs
+slice-aggregate-put-bytes-4 c = refl
 
 put-bytes-requires-4 : tie.Need-put-bytes-requires-4
-put-bytes-requires-4 c κs = search needs
+put-bytes-requires-4 c κs = tt
 
 add-result : tie.Need-add-result
 add-result c = search needs

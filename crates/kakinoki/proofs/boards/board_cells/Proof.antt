@@ -22,16 +22,16 @@ sub-n : tie.Need-sub-n Inv-loop μ-loop
 sub-n c = search needs
 
 board-piece-requires : tie.Need-board-piece-requires Inv-loop μ-loop
-board-piece-requires c κs = search needs
+board-piece-requires c κs = tt
 
 enum-known-v : tie.Need-enum-known-v Inv-loop μ-loop
-enum-known-v c = search needs
+enum-known-v c = c .match .keys1
 
 enum-told : tie.Need-enum-told Inv-loop μ-loop
-enum-told c = search needs
+enum-told c = c .match .keys2
 
 no-board-requires : tie.Need-no-board-requires Inv-loop μ-loop
-no-board-requires c κs = search needs
+no-board-requires c κs = tt
 
 returns : tie.Need-returns Inv-loop μ-loop
 returns c = c .no-board .ensures ∙ sym (c .before .before .before .before .before .loop .inv .0 ∙ cells-none _ _ _ _ _ (c .before .before .before .before .loop-test .taken) (sym (c .before .before .before .board-piece .ensures) ∙ c .before .enum-told .given .1))

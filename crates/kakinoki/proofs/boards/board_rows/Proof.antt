@@ -23,7 +23,7 @@ board-row-requires : tie.Need-board-row-requires Inv-loop μ-loop
 board-row-requires c κs = search needs
 
 no-board-requires : tie.Need-no-board-requires Inv-loop μ-loop
-no-board-requires c κs = search needs
+no-board-requires c κs = tt
 
 returns : tie.Need-returns Inv-loop μ-loop
 returns c = c .no-board .ensures ∙ sym (c .before .before .before .before .before .loop .inv ∙ rows-none _ _ _ _ _ (c .before .before .before .before .loop-test .taken) (c .before .before .before .board-row .ensures) (not-true _ (c .before .if1 .taken)))

@@ -1,25 +1,24 @@
 -- The answers of the steps, handed on as the definition hands them on.
 -- Assumes nothing.
-use borrow.Author.Needs.{needs}
 use Rattle.kakinoki.specs.Boards.{ruledAt}
 use Rattle.kakinoki.proofs.boards.ruled.Statement.{statement}
 use Rattle.kakinoki.proofs.boards.ruled.Tie as tie
 
 tag-requires : tie.Need-tag-requires
-tag-requires c κs = search needs
+tag-requires c κs = tt
 
 enum-known-end : tie.Need-enum-known-end
-enum-known-end c = search needs
+enum-known-end c = c .match .keys1
 
 enum-told : tie.Need-enum-told
-enum-told c = search needs
+enum-told c = c .match .keys2
 
 returns : tie.Need-returns
 unfolding ruledAt
 returns c = rw (← c .before .before .tag .ensures, c .enum-told .given .1)
 
 line-ending-requires : tie.Need-line-ending-requires
-line-ending-requires c κs = search needs
+line-ending-requires c κs = tt
 
 returns-2 : tie.Need-returns-2
 unfolding ruledAt

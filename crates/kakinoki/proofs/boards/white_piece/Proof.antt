@@ -1,9 +1,8 @@
 -- The answers of the steps, handed on as the definition hands them on; a kind is at most 14.
 -- Assumes nothing.
 use native.Mathlib.Omega.{arith}
-use mathlib.Core.Path.{sym, _∙_}
+use mathlib.Core.Path.{sym, _∙_, refl}
 use denote.Ref.{now}
-use borrow.Author.Needs.{needs}
 use Rattle.spell.proofs.Answers.{as-is}
 use Rattle.kakinoki.proofs.Reach.{kind-known}
 use Rattle.kakinoki.specs.Boards.{whiteAt}
@@ -11,29 +10,29 @@ use Rattle.kakinoki.proofs.boards.white_piece.Statement.{statement}
 use Rattle.kakinoki.proofs.boards.white_piece.Tie as tie
 
 slice-aggregate-tag : tie.Need-slice-aggregate-tag
-slice-aggregate-tag c = search needs
+slice-aggregate-tag c = refl
 
 tag-requires : tie.Need-tag-requires
-tag-requires c κs = search needs
+tag-requires c κs = tt
 
 enum-known-past : tie.Need-enum-known-past
-enum-known-past c = search needs
+enum-known-past c = c .match .keys1
 
 enum-told : tie.Need-enum-told
-enum-told c = search needs
+enum-told c = c .match .keys2
 
 returns : tie.Need-returns
 unfolding whiteAt
 returns c = rw (← c .before .before .tag .ensures, c .enum-told .given .1)
 
 kind-requires : tie.Need-kind-requires
-kind-requires c κs = search needs
+kind-requires c κs = tt
 
 enum-known-kind : tie.Need-enum-known-kind
-enum-known-kind c = search needs
+enum-known-kind c = c .match2 .keys1
 
 enum-told-2 : tie.Need-enum-told-2
-enum-told-2 c = search needs
+enum-told-2 c = c .match2 .keys2
 
 returns-2 : tie.Need-returns-2
 unfolding whiteAt

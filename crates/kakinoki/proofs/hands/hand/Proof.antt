@@ -1,24 +1,24 @@
 -- The answers of the steps, handed on as the definition hands them on.
 -- Assumes nothing.
-use borrow.Author.Needs.{needs}
+use mathlib.Core.Path.{refl}
 use Rattle.kakinoki.specs.Informations.{handAt}
 use Rattle.kakinoki.proofs.hands.hand.Statement.{statement}
 use Rattle.kakinoki.proofs.hands.hand.Tie as tie
 
 slice-aggregate-tag : tie.Need-slice-aggregate-tag
-slice-aggregate-tag c = search needs
+slice-aggregate-tag c = refl
 
 tag-requires : tie.Need-tag-requires
-tag-requires c κs = search needs
+tag-requires c κs = tt
 
 enum-known-end : tie.Need-enum-known-end
-enum-known-end c = search needs
+enum-known-end c = c .match .keys1
 
 enum-told : tie.Need-enum-told
-enum-told c = search needs
+enum-told c = c .match .keys2
 
 pieces-requires : tie.Need-pieces-requires
-pieces-requires c κs = search needs
+pieces-requires c κs = tt
 
 returns : tie.Need-returns
 unfolding handAt

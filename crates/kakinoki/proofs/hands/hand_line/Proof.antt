@@ -1,41 +1,41 @@
 -- The answers of the steps, handed on as the definition hands them on.
 -- Assumes nothing.
-use borrow.Author.Needs.{needs}
+use mathlib.Core.Path.{refl}
 use Rattle.kakinoki.specs.Informations.{handLineAt}
 use Rattle.kakinoki.proofs.hands.hand_line.Statement.{statement}
 use Rattle.kakinoki.proofs.hands.hand_line.Tie as tie
 
 side-requires : tie.Need-side-requires
-side-requires c κs = search needs
+side-requires c κs = tt
 
 enum-known-side : tie.Need-enum-known-side
-enum-known-side c = search needs
+enum-known-side c = c .match .keys1
 
 enum-told : tie.Need-enum-told
-enum-told c = search needs
+enum-told c = c .match .keys2
 
 returns : tie.Need-returns
 unfolding handLineAt
 returns c = rw (← c .before .before .side .ensures, c .enum-told .given .1)
 
 slice-aggregate-tag : tie.Need-slice-aggregate-tag
-slice-aggregate-tag c = search needs
+slice-aggregate-tag c = refl
 
 tag-requires : tie.Need-tag-requires
-tag-requires c κs = search needs
+tag-requires c κs = tt
 
 enum-known-inside : tie.Need-enum-known-inside
-enum-known-inside c = search needs
+enum-known-inside c = c .match2 .keys1
 
 enum-told-2 : tie.Need-enum-told-2
-enum-told-2 c = search needs
+enum-told-2 c = c .match2 .keys2
 
 returns-2 : tie.Need-returns-2
 unfolding handLineAt
 returns-2 c = rw (← c .before .before .before .before .before .before .before .side .ensures, c .before .before .before .before .before .side2 .given .1, ← c .before .before .tag .ensures, c .enum-told2 .given .1)
 
 held-requires : tie.Need-held-requires
-held-requires c κs = search needs
+held-requires c κs = tt
 
 returns-3 : tie.Need-returns-3
 unfolding handLineAt

@@ -1,21 +1,20 @@
 -- The answers of the steps, handed on as the definition hands them on.
 -- Assumes nothing.
-use borrow.Author.Needs.{needs}
 use Rattle.kakinoki.specs.Informations.{heldAt}
 use Rattle.kakinoki.proofs.hands.held.Statement.{statement}
 use Rattle.kakinoki.proofs.hands.held.Tie as tie
 
 hand-requires : tie.Need-hand-requires
-hand-requires c κs = search needs
+hand-requires c κs = tt
 
 padded-end-requires : tie.Need-padded-end-requires
-padded-end-requires c κs = search needs
+padded-end-requires c κs = tt
 
 enum-known-end : tie.Need-enum-known-end
-enum-known-end c = search needs
+enum-known-end c = c .match .keys1
 
 enum-told : tie.Need-enum-told
-enum-told c = search needs
+enum-told c = c .match .keys2
 
 returns : tie.Need-returns
 unfolding heldAt

@@ -1,15 +1,14 @@
 -- A break past the padding, as the definition says.
 -- Assumes nothing.
-use borrow.Author.Needs.{needs}
 use Rattle.kakinoki.specs.Informations.{paddedEndAt}
 use Rattle.kakinoki.proofs.hands.padded_end.Statement.{statement}
 use Rattle.kakinoki.proofs.hands.padded_end.Tie as tie
 
 padding-requires : tie.Need-padding-requires
-padding-requires c κs = search needs
+padding-requires c κs = tt
 
 line-ending-requires : tie.Need-line-ending-requires
-line-ending-requires c κs = search needs
+line-ending-requires c κs = tt
 
 returns : tie.Need-returns
 unfolding paddedEndAt

@@ -5,7 +5,6 @@ use native.Mathlib.Omega.{arith}
 use mathlib.Core.Path.{refl, sym, _∙_}
 use lib.ListN.{length}
 use denote.Ref.{now}
-use borrow.Author.Needs.{needs}
 use Rattle.kakinoki.proofs.Reach.{Kind}
 use Rattle.kakinoki.proofs.Pieces.{Holding, holding-none, holding-more, holding-all, piece-known, step-none, step-high, step-full, step-more, room}
 use Rattle.kakinoki.proofs.hands.pieces.Statement.{statement}
@@ -24,13 +23,13 @@ loop-holds : tie.Need-loop-holds Inv-loop μ-loop
 loop-holds c = holding-none _ _
 
 piece-requires : tie.Need-piece-requires Inv-loop μ-loop
-piece-requires c κs = search needs
+piece-requires c κs = tt
 
 enum-known-kind : tie.Need-enum-known-kind Inv-loop μ-loop
-enum-known-kind c = search needs
+enum-known-kind c = c .match .keys1
 
 enum-told : tie.Need-enum-told Inv-loop μ-loop
-enum-told c = search needs
+enum-told c = c .match .keys2
 
 returns : tie.Need-returns Inv-loop μ-loop
 returns c = holding-all (c .before .before .before .loop .inv) (step-none _ _ _ (sym (c .before .before .piece .ensures) ∙ c .enum-told .given .1))
@@ -39,7 +38,7 @@ returns-2 : tie.Need-returns-2 Inv-loop μ-loop
 returns-2 c = holding-all (c .before .before .before .before .before .loop .inv) (step-high _ _ _ _ (sym (c .before .before .before .before .piece .ensures) ∙ c .before .before .kind .given .1) refl (c .if1 .taken))
 
 wide-requires : tie.Need-wide-requires Inv-loop μ-loop
-wide-requires c κs = search needs
+wide-requires c κs = tt
 
 sub-k : tie.Need-sub-k Inv-loop μ-loop
 sub-k c = omega (arith, known c .least, c .wide .ensures)

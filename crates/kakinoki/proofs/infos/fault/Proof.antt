@@ -1,13 +1,12 @@
 -- Only a hand line that cannot be read is a fault; every other tag is told by the last arm.
 -- Assumes nothing.
 use mathlib.Core.Path.{sym}
-use borrow.Author.Needs.{needs}
 use Rattle.kakinoki.proofs.Tags.{fault-else}
 use Rattle.kakinoki.proofs.infos.fault.Statement.{statement}
 use Rattle.kakinoki.proofs.infos.fault.Tie as tie
 
 enum-told : tie.Need-enum-told
-enum-told c = search needs
+enum-told c = c .match .keys1
 
 returns : tie.Need-returns
 returns c = rw (c .enum-told .given .1)

@@ -1,27 +1,26 @@
 -- A hand line, one that cannot be read, and no hand line: each arm is the definition's case.
 -- Assumes nothing.
-use borrow.Author.Needs.{needs}
 use Rattle.kakinoki.specs.Informations.{handsOrKeyedAt}
 use Rattle.kakinoki.proofs.infos.hands_or_keyed.Statement.{statement}
 use Rattle.kakinoki.proofs.infos.hands_or_keyed.Tie as tie
 
 hand-line-requires : tie.Need-hand-line-requires
-hand-line-requires c κs = search needs
+hand-line-requires c κs = tt
 
 enum-known-held : tie.Need-enum-known-held
-enum-known-held c = search needs
+enum-known-held c = c .match .keys1
 
 enum-told : tie.Need-enum-told
-enum-told c = search needs
+enum-told c = c .match .keys2
 
 handless-requires : tie.Need-handless-requires
-handless-requires c κs = search needs
+handless-requires c κs = tt
 
 enum-told-2 : tie.Need-enum-told-2
-enum-told-2 c = search needs
+enum-told-2 c = c .match .keys3
 
 keyed-requires : tie.Need-keyed-requires
-keyed-requires c κs = search needs
+keyed-requires c κs = tt
 
 returns : tie.Need-returns
 unfolding handsOrKeyedAt

@@ -5,7 +5,6 @@ use native.Mathlib.Omega.{arith}
 use mathlib.Core.Path.{_≡_, refl, sym, _∙_}
 use lib.ListN.{length}
 use denote.Ref.{now}
-use borrow.Author.Needs.{needs}
 use Rattle.text.proofs.Laws.{After}
 use Rattle.kakinoki.specs.Informations.{hashLinesAt}
 use Rattle.kakinoki.proofs.Lines.{hash-more, hash-stop}
@@ -31,10 +30,10 @@ hash-line-requires : tie.Need-hash-line-requires Inv-loop μ-loop
 hash-line-requires c κs = tt
 
 enum-known-past : tie.Need-enum-known-past Inv-loop μ-loop
-enum-known-past c = search needs
+enum-known-past c = c .match .keys1
 
 enum-told : tie.Need-enum-told Inv-loop μ-loop
-enum-told c = search needs
+enum-told c = c .match .keys2
 
 returns : tie.Need-returns Inv-loop μ-loop
 returns c =

@@ -13,7 +13,7 @@ use Rattle.kakinoki.proofs.infos.keep.Statement.{statement}
 use Rattle.kakinoki.proofs.infos.keep.Tie as tie
 
 enum-told : tie.Need-enum-told
-enum-told c = search needs
+enum-told c = c .match .keys1
 
 cast-places : tie.Need-cast-places
 cast-places c = search needs

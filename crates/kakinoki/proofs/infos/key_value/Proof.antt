@@ -11,7 +11,7 @@ use Rattle.kakinoki.proofs.infos.key_value.Statement.{statement}
 use Rattle.kakinoki.proofs.infos.key_value.Tie as tie
 
 key-end-requires : tie.Need-key-end-requires
-key-end-requires c κs = search needs
+key-end-requires c κs = tt
 
 returns : tie.Need-returns
 unfolding keyValueAt

@@ -2,20 +2,19 @@
 -- Assumes nothing.
 use mathlib.Core.Path.{sym}
 use borrow.Author.Tests.{eq-eqb, ne-eqb}
-use borrow.Author.Needs.{needs}
 use Rattle.kakinoki.specs.Informations.{tell}
 use Rattle.kakinoki.proofs.Tags.{tell-else}
 use Rattle.kakinoki.proofs.infos.tell.Statement.{statement}
 use Rattle.kakinoki.proofs.infos.tell.Tie as tie
 
 enum-known-info : tie.Need-enum-known-info
-enum-known-info c = search needs
+enum-known-info c = c .match .keys1
 
 enum-known-info-2 : tie.Need-enum-known-info-2
-enum-known-info-2 c = search needs
+enum-known-info-2 c = c .match .keys2
 
 enum-known-info-3 : tie.Need-enum-known-info-3
-enum-known-info-3 c = search needs
+enum-known-info-3 c = c .match .keys3
 
 returns : tie.Need-returns
 unfolding tell

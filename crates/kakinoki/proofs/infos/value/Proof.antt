@@ -1,47 +1,47 @@
 -- The answers of the steps, handed on as the definition hands them on.
 -- Assumes nothing.
-use borrow.Author.Needs.{needs}
+use mathlib.Core.Path.{refl}
 use Rattle.kakinoki.specs.Informations.{valueAt}
 use Rattle.kakinoki.proofs.infos.value.Statement.{statement}
 use Rattle.kakinoki.proofs.infos.value.Tie as tie
 
 slice-aggregate-tag : tie.Need-slice-aggregate-tag
-slice-aggregate-tag c = search needs
+slice-aggregate-tag c = refl
 
 tag-requires : tie.Need-tag-requires
-tag-requires c κs = search needs
+tag-requires c κs = tt
 
 enum-known-from : tie.Need-enum-known-from
-enum-known-from c = search needs
+enum-known-from c = c .match .keys1
 
 enum-told : tie.Need-enum-told
-enum-told c = search needs
+enum-told c = c .match .keys2
 
 returns : tie.Need-returns
 unfolding valueAt
 returns c = rw (← c .before .before .tag .ensures, c .enum-told .given .1)
 
 tail-requires : tie.Need-tail-requires
-tail-requires c κs = search needs
+tail-requires c κs = tt
 
 enum-known-to : tie.Need-enum-known-to
-enum-known-to c = search needs
+enum-known-to c = c .match2 .keys1
 
 enum-told-2 : tie.Need-enum-told-2
-enum-told-2 c = search needs
+enum-told-2 c = c .match2 .keys2
 
 returns-2 : tie.Need-returns-2
 unfolding valueAt
 returns-2 c = rw (← c .before .before .before .before .before .before .tag .ensures, c .before .before .before .before .from .given .1, ← c .before .before .tail .ensures, c .enum-told2 .given .1)
 
 line-ending-requires : tie.Need-line-ending-requires
-line-ending-requires c κs = search needs
+line-ending-requires c κs = tt
 
 enum-known-next : tie.Need-enum-known-next
-enum-known-next c = search needs
+enum-known-next c = c .match3 .keys1
 
 enum-told-3 : tie.Need-enum-told-3
-enum-told-3 c = search needs
+enum-told-3 c = c .match3 .keys2
 
 returns-3 : tie.Need-returns-3
 unfolding valueAt

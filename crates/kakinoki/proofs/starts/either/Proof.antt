@@ -5,10 +5,10 @@ use Rattle.kakinoki.proofs.starts.either.Statement.{statement}
 use Rattle.kakinoki.proofs.starts.either.Tie as tie
 
 enum-known-a : tie.Need-enum-known-a
-enum-known-a c = search needs
+enum-known-a c = c .match .keys1
 
 enum-told : tie.Need-enum-told
-enum-told c = search needs
+enum-told c = c .match .keys2
 
 returns : tie.Need-returns
 returns c = rw (c .before .a .given .1)

@@ -1,21 +1,20 @@
 -- Preset, turn and both hands are made as in the definition.
 -- Assumes nothing.
-use borrow.Author.Needs.{needs}
 use Rattle.kakinoki.specs.Starts.{merged}
 use Rattle.kakinoki.proofs.starts.merged.Statement.{statement}
 use Rattle.kakinoki.proofs.starts.merged.Tie as tie
 
 either-requires : tie.Need-either-requires
-either-requires c κs = search needs
+either-requires c κs = tt
 
 either-requires-2 : tie.Need-either-requires-2
-either-requires-2 c κs = search needs
+either-requires-2 c κs = tt
 
 add-hands-requires : tie.Need-add-hands-requires
-add-hands-requires c κs = search needs
+add-hands-requires c κs = tt
 
 add-hands-requires-2 : tie.Need-add-hands-requires-2
-add-hands-requires-2 c κs = search needs
+add-hands-requires-2 c κs = tt
 
 returns : tie.Need-returns
 unfolding merged

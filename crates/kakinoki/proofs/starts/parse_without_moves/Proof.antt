@@ -1,5 +1,6 @@
 -- The parts are the definition's; the second block's places are stored behind the first's, or nowhere where the buffer is full.
 -- Assumes nothing.
+use native.Mathlib.Nat.{le-refl}
 use Prim.Native.Nat.{ℕ, _-_, min}
 use native.Mathlib.Omega.{arith}
 use mathlib.Core.Path.{_≡_, sym, ap, _∙_}
@@ -17,16 +18,16 @@ use Rattle.kakinoki.proofs.starts.parse_without_moves.Statement.{statem
 use Rattle.kakinoki.proofs.starts.parse_without_moves.Tie as tie
 
 informations-requires : tie.Need-informations-requires
-informations-requires c κs = search needs
+informations-requires c κs = tt
 
 board-requires : tie.Need-board-requires
-board-requires c κs = search needs
+board-requires c κs = tt
 
 smaller-requires : tie.Need-smaller-requires
-smaller-requires c κs = search needs
+smaller-requires c κs = tt
 
 past-board-requires : tie.Need-past-board-requires
-past-board-requires c κs = search needs
+past-board-requires c κs = tt
 
 mul-informations : tie.Need-mul-informations
 mul-informations c = search needs
@@ -35,19 +36,19 @@ sub-informations : tie.Need-sub-informations
 sub-informations c = search needs
 
 part-informations-start : tie.Need-part-informations-start
-part-informations-start c = search needs
+part-informations-start c = sub-informations c
 
 part-informations-end : tie.Need-part-informations-end
-part-informations-end c = search needs
+part-informations-end c = le-refl _
 
 informations-requires-2 : tie.Need-informations-requires-2
-informations-requires-2 c κs = search needs
+informations-requires-2 c κs = tt
 
 merged-requires : tie.Need-merged-requires
-merged-requires c κs = search needs
+merged-requires c κs = tt
 
 position-requires : tie.Need-position-requires
-position-requires c κs = search needs
+position-requires c κs = tt
 
 add-t14 : tie.Need-add-t14
 add-t14 c =

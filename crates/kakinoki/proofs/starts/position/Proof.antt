@@ -1,22 +1,21 @@
 -- With a board and without one, the position is the definition's.
 -- Assumes nothing.
-use borrow.Author.Needs.{needs}
 use Rattle.kakinoki.specs.Starts.{positionOf}
 use Rattle.kakinoki.proofs.starts.position.Statement.{statement}
 use Rattle.kakinoki.proofs.starts.position.Tie as tie
 
 or-else-requires : tie.Need-or-else-requires
-or-else-requires c κs = search needs
+or-else-requires c κs = tt
 
 both-hands-requires : tie.Need-both-hands-requires
-both-hands-requires c κs = search needs
+both-hands-requires c κs = tt
 
 returns : tie.Need-returns
 unfolding positionOf
 returns c = rw (c .before .before .if1 .taken, ← c .before .or-else .ensures, ← c .both-hands .ensures)
 
 or-else-requires-2 : tie.Need-or-else-requires-2
-or-else-requires-2 c κs = search needs
+or-else-requires-2 c κs = tt
 
 returns-2 : tie.Need-returns-2
 unfolding positionOf

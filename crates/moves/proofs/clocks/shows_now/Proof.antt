@@ -29,7 +29,7 @@ shared-slice-read-is-digit : tie.Need-shared-slice-read-is-digit
 shared-slice-read-is-digit c = search needs
 
 is-digit-requires : tie.Need-is-digit-requires
-is-digit-requires c κs = search needs
+is-digit-requires c κs = tt
 
 returns-3 : tie.Need-returns-3
 returns-3 c = λ e. absurd (false≢true e)

@@ -1,28 +1,27 @@
 -- The answers of the steps, handed on as the definition hands them on.
 -- Assumes nothing.
-use borrow.Author.Needs.{needs}
 use Rattle.moves.specs.Moves.{spacedAt}
 use Rattle.moves.proofs.clocks.spaced.Statement.{statement}
 use Rattle.moves.proofs.clocks.spaced.Tie as tie
 
 blanks-requires : tie.Need-blanks-requires
-blanks-requires c κs = search needs
+blanks-requires c κs = tt
 
 clock-requires : tie.Need-clock-requires
-clock-requires c κs = search needs
+clock-requires c κs = tt
 
 enum-known-k : tie.Need-enum-known-k
-enum-known-k c = search needs
+enum-known-k c = c .match .keys1
 
 enum-told : tie.Need-enum-told
-enum-told c = search needs
+enum-told c = c .match .keys2
 
 returns : tie.Need-returns
 unfolding spacedAt
 returns c = rw (← c .before .before .before .blanks .ensures, ← c .before .before .clock .ensures, c .enum-told .given .1)
 
 blanks-requires-2 : tie.Need-blanks-requires-2
-blanks-requires-2 c κs = search needs
+blanks-requires-2 c κs = tt
 
 returns-2 : tie.Need-returns-2
 unfolding spacedAt

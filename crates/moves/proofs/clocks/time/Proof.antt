@@ -1,28 +1,28 @@
 -- The answers of the steps, handed on as the definition hands them on.
 -- Assumes nothing.
+use mathlib.Core.Path.{refl}
 use Rattle.moves.specs.Moves.{timeAt}
-use borrow.Author.Needs.{needs}
 use Rattle.moves.proofs.clocks.time.Statement.{statement}
 use Rattle.moves.proofs.clocks.time.Tie as tie
 
 slice-aggregate-tag : tie.Need-slice-aggregate-tag
-slice-aggregate-tag c = search needs
+slice-aggregate-tag c = refl
 
 tag-requires : tie.Need-tag-requires
-tag-requires c κs = search needs
+tag-requires c κs = tt
 
 enum-known-inside : tie.Need-enum-known-inside
-enum-known-inside c = search needs
+enum-known-inside c = c .match .keys1
 
 enum-told : tie.Need-enum-told
-enum-told c = search needs
+enum-told c = c .match .keys2
 
 returns : tie.Need-returns
 unfolding timeAt
 returns c = rw (← c .before .before .tag .ensures, c .enum-told .given .1)
 
 two-clocks-requires : tie.Need-two-clocks-requires
-two-clocks-requires c κs = search needs
+two-clocks-requires c κs = tt
 
 returns-2 : tie.Need-returns-2
 unfolding timeAt

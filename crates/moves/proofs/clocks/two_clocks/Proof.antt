@@ -1,5 +1,6 @@
 -- The answers of the steps, handed on as the definition hands them on.
 -- Assumes nothing.
+use mathlib.Core.Path.{refl}
 use borrow.Author.Needs.{needs}
 use Rattle.moves.specs.Moves.{clocksAt}
 use Rattle.moves.proofs.clocks.two_clocks.Statement.{statement}
@@ -9,26 +10,26 @@ spaced-requires : tie.Need-spaced-requires
 spaced-requires c κs = search needs
 
 enum-known-now : tie.Need-enum-known-now
-enum-known-now c = search needs
+enum-known-now c = c .match .keys1
 
 enum-told : tie.Need-enum-told
-enum-told c = search needs
+enum-told c = c .match .keys2
 
 returns : tie.Need-returns
 unfolding clocksAt
 returns c = rw (← c .before .before .spaced .ensures, c .enum-told .given .1)
 
 slice-aggregate-tag : tie.Need-slice-aggregate-tag
-slice-aggregate-tag c = search needs
+slice-aggregate-tag c = refl
 
 tag-requires : tie.Need-tag-requires
-tag-requires c κs = search needs
+tag-requires c κs = tt
 
 enum-known-slash : tie.Need-enum-known-slash
-enum-known-slash c = search needs
+enum-known-slash c = c .match2 .keys1
 
 enum-told-2 : tie.Need-enum-told-2
-enum-told-2 c = search needs
+enum-told-2 c = c .match2 .keys2
 
 returns-2 : tie.Need-returns-2
 unfolding clocksAt
@@ -38,26 +39,26 @@ spaced-requires-2 : tie.Need-spaced-requires-2
 spaced-requires-2 c κs = search needs
 
 enum-known-total : tie.Need-enum-known-total
-enum-known-total c = search needs
+enum-known-total c = c .match3 .keys1
 
 enum-told-3 : tie.Need-enum-told-3
-enum-told-3 c = search needs
+enum-told-3 c = c .match3 .keys2
 
 returns-3 : tie.Need-returns-3
 unfolding clocksAt
 returns-3 c = rw (← c .before .before .before .before .before .before .before .before .before .before .before .spaced .ensures, c .before .before .before .before .before .before .before .before .before .now .given .1, ← c .before .before .before .before .before .before .tag .ensures, c .before .before .before .before .slash .given .1, ← c .before .before .spaced2 .ensures, c .enum-told3 .given .1)
 
 slice-aggregate-tag-2 : tie.Need-slice-aggregate-tag-2
-slice-aggregate-tag-2 c = search needs
+slice-aggregate-tag-2 c = refl
 
 tag-requires-2 : tie.Need-tag-requires-2
-tag-requires-2 c κs = search needs
+tag-requires-2 c κs = tt
 
 enum-known-end : tie.Need-enum-known-end
-enum-known-end c = search needs
+enum-known-end c = c .match4 .keys1
 
 enum-told-4 : tie.Need-enum-told-4
-enum-told-4 c = search needs
+enum-told-4 c = c .match4 .keys2
 
 returns-4 : tie.Need-returns-4
 unfolding clocksAt

@@ -1,25 +1,24 @@
 -- The answers of the steps, handed on as the definition hands them on.
 -- Assumes nothing.
 use Rattle.moves.specs.Endings.{endingAt}
-use borrow.Author.Needs.{needs}
 use Rattle.moves.proofs.plays.ending.Statement.{statement}
 use Rattle.moves.proofs.plays.ending.Tie as tie
 
 special-requires : tie.Need-special-requires
-special-requires c κs = search needs
+special-requires c κs = tt
 
 enum-known-n : tie.Need-enum-known-n
-enum-known-n c = search needs
+enum-known-n c = c .match .keys1
 
 enum-told : tie.Need-enum-told
-enum-told c = search needs
+enum-told c = c .match .keys2
 
 returns : tie.Need-returns
 unfolding endingAt
 returns c = rw (← c .before .before .special .ensures, c .enum-told .given .1)
 
 special-of-requires : tie.Need-special-of-requires
-special-of-requires c κs = search needs
+special-of-requires c κs = tt
 
 returns-2 : tie.Need-returns-2
 unfolding endingAt

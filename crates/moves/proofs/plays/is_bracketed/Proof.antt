@@ -20,7 +20,7 @@ shared-slice-read-is-digit : tie.Need-shared-slice-read-is-digit
 shared-slice-read-is-digit c = search needs
 
 is-digit-requires : tie.Need-is-digit-requires
-is-digit-requires c κs = search needs
+is-digit-requires c κs = tt
 
 returns-2 : tie.Need-returns-2
 returns-2 c = λ e. absurd (false≢true e)
@@ -32,7 +32,7 @@ shared-slice-read-is-digit-2 : tie.Need-shared-slice-read-is-digit-2
 shared-slice-read-is-digit-2 c = search needs
 
 is-digit-requires-2 : tie.Need-is-digit-requires-2
-is-digit-requires-2 c κs = search needs
+is-digit-requires-2 c κs = tt
 
 returns-3 : tie.Need-returns-3
 returns-3 c = λ e. absurd (false≢true e)

@@ -39,7 +39,7 @@ shared-slice-read-kind-of-3 : tie.Need-shared-slice-read-kind-of-3
 shared-slice-read-kind-of-3 c = search needs
 
 kind-of-requires : tie.Need-kind-of-requires
-kind-of-requires c κs = search needs
+kind-of-requires c κs = tt
 
 returns-2 : tie.Need-returns-2
 returns-2 c =

@@ -1,24 +1,24 @@
 -- The answers of the steps, handed on as the definition hands them on.
 -- Assumes nothing.
-use borrow.Author.Needs.{needs}
+use mathlib.Core.Path.{refl}
 use Rattle.moves.specs.Moves.{moveFromAt}
 use Rattle.moves.proofs.plays.move_from.Statement.{statement}
 use Rattle.moves.proofs.plays.move_from.Tie as tie
 
 slice-aggregate-tag : tie.Need-slice-aggregate-tag
-slice-aggregate-tag c = search needs
+slice-aggregate-tag c = refl
 
 tag-requires : tie.Need-tag-requires
-tag-requires c κs = search needs
+tag-requires c κs = tt
 
 enum-known-end : tie.Need-enum-known-end
-enum-known-end c = search needs
+enum-known-end c = c .match .keys1
 
 enum-told : tie.Need-enum-told
-enum-told c = search needs
+enum-told c = c .match .keys2
 
 origin-requires : tie.Need-origin-requires
-origin-requires c κs = search needs
+origin-requires c κs = tt
 
 returns : tie.Need-returns
 unfolding moveFromAt

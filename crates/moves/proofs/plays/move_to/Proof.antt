@@ -1,40 +1,40 @@
 -- The answers of the steps, handed on as the definition hands them on.
 -- Assumes nothing.
-use borrow.Author.Needs.{needs}
+use mathlib.Core.Path.{refl}
 use Rattle.moves.specs.Moves.{moveToAt}
 use Rattle.moves.proofs.plays.move_to.Statement.{statement}
 use Rattle.moves.proofs.plays.move_to.Tie as tie
 
 slice-aggregate-tag : tie.Need-slice-aggregate-tag
-slice-aggregate-tag c = search needs
+slice-aggregate-tag c = refl
 
 tag-requires : tie.Need-tag-requires
-tag-requires c κs = search needs
+tag-requires c κs = tt
 
 enum-known-past : tie.Need-enum-known-past
-enum-known-past c = search needs
+enum-known-past c = c .match .keys1
 
 enum-told : tie.Need-enum-told
-enum-told c = search needs
+enum-told c = c .match .keys2
 
 square-requires : tie.Need-square-requires
-square-requires c κs = search needs
+square-requires c κs = tt
 
 returns : tie.Need-returns
 unfolding moveToAt
 returns c = rw (← c .before .before .before .tag .ensures, c .before .enum-told .given .1, ← c .square .ensures)
 
 slice-aggregate-tag-2 : tie.Need-slice-aggregate-tag-2
-slice-aggregate-tag-2 c = search needs
+slice-aggregate-tag-2 c = refl
 
 tag-requires-2 : tie.Need-tag-requires-2
-tag-requires-2 c κs = search needs
+tag-requires-2 c κs = tt
 
 enum-known-end : tie.Need-enum-known-end
-enum-known-end c = search needs
+enum-known-end c = c .match2 .keys1
 
 enum-told-2 : tie.Need-enum-told-2
-enum-told-2 c = search needs
+enum-told-2 c = c .match2 .keys2
 
 returns-2 : tie.Need-returns-2
 unfolding moveToAt

@@ -1,8 +1,8 @@
 -- The answers of the steps, handed on; a number up to 255 is a byte, and so are its tens and ones.
 -- Assumes nothing.
-use native.Mathlib.Omega.{arith}
-use mathlib.Core.Path.{sym, _∙_}
 use borrow.Author.Needs.{needs}
+use native.Mathlib.Omega.{arith}
+use mathlib.Core.Path.{sym, _∙_, refl}
 use Rattle.moves.proofs.Figures.{value-is}
 use Rattle.text.proofs.Answers.{number-else, digits-fit}
 use Rattle.moves.specs.Moves.{originAt}
@@ -10,42 +10,42 @@ use Rattle.moves.proofs.plays.origin.Statement.{statement}
 use Rattle.moves.proofs.plays.origin.Tie as tie
 
 slice-aggregate-tag : tie.Need-slice-aggregate-tag
-slice-aggregate-tag c = search needs
+slice-aggregate-tag c = refl
 
 tag-requires : tie.Need-tag-requires
-tag-requires c κs = search needs
+tag-requires c κs = tt
 
 enum-known-inside : tie.Need-enum-known-inside
-enum-known-inside c = search needs
+enum-known-inside c = c .match .keys1
 
 enum-told : tie.Need-enum-told
-enum-told c = search needs
+enum-told c = c .match .keys2
 
 returns : tie.Need-returns
 unfolding originAt
 returns c = rw (← c .before .before .tag .ensures, c .enum-told .given .1)
 
 digits-requires : tie.Need-digits-requires
-digits-requires c κs = search needs
+digits-requires c κs = tt
 
 enum-known-n : tie.Need-enum-known-n
-enum-known-n c = search needs
+enum-known-n c = c .match2 .keys1
 
 returns-2 : tie.Need-returns-2
 unfolding originAt
 returns-2 c = rw (← c .before .before .before .before .before .tag .ensures, c .before .before .before .inside .given .1, ← c .before .digits .ensures) (sym (number-else (c .before .digits .result) _ _ (c .match2 .keys2)))
 
 slice-aggregate-tag-2 : tie.Need-slice-aggregate-tag-2
-slice-aggregate-tag-2 c = search needs
+slice-aggregate-tag-2 c = refl
 
 tag-requires-2 : tie.Need-tag-requires-2
-tag-requires-2 c κs = search needs
+tag-requires-2 c κs = tt
 
 enum-known-end : tie.Need-enum-known-end
-enum-known-end c = search needs
+enum-known-end c = c .match3 .keys1
 
 enum-told-2 : tie.Need-enum-told-2
-enum-told-2 c = search needs
+enum-told-2 c = c .match3 .keys2
 
 returns-3 : tie.Need-returns-3
 unfolding originAt

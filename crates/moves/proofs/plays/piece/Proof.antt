@@ -1,34 +1,33 @@
 -- The answers of the steps, handed on as the definition hands them on.
 -- Assumes nothing.
-use borrow.Author.Needs.{needs}
 use Rattle.moves.specs.Moves.{pieceAt}
 use Rattle.moves.proofs.plays.piece.Statement.{statement}
 use Rattle.moves.proofs.plays.piece.Tie as tie
 
 kind-requires : tie.Need-kind-requires
-kind-requires c κs = search needs
+kind-requires c κs = tt
 
 enum-known-kind : tie.Need-enum-known-kind
-enum-known-kind c = search needs
+enum-known-kind c = c .match .keys1
 
 enum-told : tie.Need-enum-told
-enum-told c = search needs
+enum-told c = c .match .keys2
 
 returns : tie.Need-returns
 unfolding pieceAt
 returns c = rw (← c .before .before .kind .ensures, c .enum-told .given .1)
 
 promote-requires : tie.Need-promote-requires
-promote-requires c κs = search needs
+promote-requires c κs = tt
 
 move-from-requires : tie.Need-move-from-requires
-move-from-requires c κs = search needs
+move-from-requires c κs = tt
 
 enum-known-from : tie.Need-enum-known-from
-enum-known-from c = search needs
+enum-known-from c = c .match2 .keys1
 
 enum-told-2 : tie.Need-enum-told-2
-enum-told-2 c = search needs
+enum-told-2 c = c .match2 .keys2
 
 returns-2 : tie.Need-returns-2
 unfolding pieceAt

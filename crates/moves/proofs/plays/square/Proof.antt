@@ -1,31 +1,30 @@
 -- The answers of the steps, handed on as the definition hands them on.
 -- Assumes nothing.
-use borrow.Author.Needs.{needs}
 use Rattle.moves.specs.Moves.{squareAt}
 use Rattle.moves.proofs.plays.square.Statement.{statement}
 use Rattle.moves.proofs.plays.square.Tie as tie
 
 file-requires : tie.Need-file-requires
-file-requires c κs = search needs
+file-requires c κs = tt
 
 enum-known-x : tie.Need-enum-known-x
-enum-known-x c = search needs
+enum-known-x c = c .match .keys1
 
 enum-told : tie.Need-enum-told
-enum-told c = search needs
+enum-told c = c .match .keys2
 
 returns : tie.Need-returns
 unfolding squareAt
 returns c = rw (← c .before .before .file .ensures, c .enum-told .given .1)
 
 numeral-requires : tie.Need-numeral-requires
-numeral-requires c κs = search needs
+numeral-requires c κs = tt
 
 enum-known-y : tie.Need-enum-known-y
-enum-known-y c = search needs
+enum-known-y c = c .match2 .keys1
 
 enum-told-2 : tie.Need-enum-told-2
-enum-told-2 c = search needs
+enum-told-2 c = c .match2 .keys2
 
 returns-2 : tie.Need-returns-2
 unfolding squareAt

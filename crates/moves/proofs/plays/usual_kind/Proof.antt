@@ -35,7 +35,7 @@ shared-slice-read-promoted-of-3 : tie.Need-shared-slice-read-promoted-of-3
 shared-slice-read-promoted-of-3 c = search needs
 
 promoted-of-requires : tie.Need-promoted-of-requires
-promoted-of-requires c κs = search needs
+promoted-of-requires c κs = tt
 
 returns : tie.Need-returns
 unfolding kindOf
@@ -60,7 +60,7 @@ shared-slice-read-kind-of-3 : tie.Need-shared-slice-read-kind-of-3
 shared-slice-read-kind-of-3 c = search needs
 
 kind-of-requires : tie.Need-kind-of-requires
-kind-of-requires c κs = search needs
+kind-of-requires c κs = tt
 
 returns-2 : tie.Need-returns-2
 unfolding kindOf

@@ -1,13 +1,12 @@
 -- The tests are the definition's, in its order.
 -- Assumes nothing.
 use borrow.Author.Tests.{eq-eqb, ne-eqb}
-use borrow.Author.Needs.{needs}
 use Rattle.moves.specs.Endings.{beginsComment}
 use Rattle.moves.proofs.remarks.begins_comment.Statement.{statement}
 use Rattle.moves.proofs.remarks.begins_comment.Tie as tie
 
 peek-requires : tie.Need-peek-requires
-peek-requires c κs = search needs
+peek-requires c κs = tt
 
 returns : tie.Need-returns
 unfolding beginsComment

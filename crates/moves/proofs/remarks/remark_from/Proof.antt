@@ -1,31 +1,30 @@
 -- The answers of the steps, handed on as the definition hands them on.
 -- Assumes nothing.
-use borrow.Author.Needs.{needs}
 use Rattle.moves.specs.Moves.{remarkFrom}
 use Rattle.moves.proofs.remarks.remark_from.Statement.{statement}
 use Rattle.moves.proofs.remarks.remark_from.Tie as tie
 
 tail-requires : tie.Need-tail-requires
-tail-requires c κs = search needs
+tail-requires c κs = tt
 
 enum-known-to : tie.Need-enum-known-to
-enum-known-to c = search needs
+enum-known-to c = c .match .keys1
 
 enum-told : tie.Need-enum-told
-enum-told c = search needs
+enum-told c = c .match .keys2
 
 returns : tie.Need-returns
 unfolding remarkFrom
 returns c = rw (← c .before .before .tail .ensures, c .enum-told .given .1)
 
 line-ending-requires : tie.Need-line-ending-requires
-line-ending-requires c κs = search needs
+line-ending-requires c κs = tt
 
 enum-known-next : tie.Need-enum-known-next
-enum-known-next c = search needs
+enum-known-next c = c .match2 .keys1
 
 enum-told-2 : tie.Need-enum-told-2
-enum-told-2 c = search needs
+enum-told-2 c = c .match2 .keys2
 
 returns-2 : tie.Need-returns-2
 unfolding remarkFrom

@@ -1,32 +1,31 @@
 -- The answers of the steps, handed on as the definition hands them on.
 -- Assumes nothing.
-use borrow.Author.Needs.{needs}
 use Rattle.moves.specs.Moves.{skipLineAt}
 use Rattle.moves.proofs.remarks.skip_line.Statement.{statement}
 use Rattle.moves.proofs.remarks.skip_line.Tie as tie
 
 begins-move-requires : tie.Need-begins-move-requires
-begins-move-requires c κs = search needs
+begins-move-requires c κs = tt
 
 returns : tie.Need-returns
 unfolding skipLineAt
 returns c = rw (← c .before .begins-move .ensures, c .if1 .taken)
 
 character-requires : tie.Need-character-requires
-character-requires c κs = search needs
+character-requires c κs = tt
 
 enum-known-past : tie.Need-enum-known-past
-enum-known-past c = search needs
+enum-known-past c = c .match .keys1
 
 enum-told : tie.Need-enum-told
-enum-told c = search needs
+enum-told c = c .match .keys2
 
 returns-2 : tie.Need-returns-2
 unfolding skipLineAt
 returns-2 c = rw (← c .before .before .before .before .begins-move .ensures, c .before .before .before .if1 .left, ← c .before .before .character .ensures, c .enum-told .given .1)
 
 line-end-requires : tie.Need-line-end-requires
-line-end-requires c κs = search needs
+line-end-requires c κs = tt
 
 returns-3 : tie.Need-returns-3
 unfolding skipLineAt

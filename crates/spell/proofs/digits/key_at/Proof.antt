@@ -21,7 +21,7 @@ shared-slice-read-key-3 : tie.Need-shared-slice-read-key-3
 shared-slice-read-key-3 c = search needs
 
 key-requires : tie.Need-key-requires
-key-requires c κs = search needs
+key-requires c κs = tt
 
 returns : tie.Need-returns
 unfolding keyAt

@@ -41,7 +41,7 @@ shared-slice-read-numeral-of-3 : tie.Need-shared-slice-read-numeral-of-3
 shared-slice-read-numeral-of-3 c = omega (arith, room (c .before .before .before))
 
 numeral-of-requires : tie.Need-numeral-of-requires
-numeral-of-requires c κs = search needs
+numeral-of-requires c κs = tt
 
 returns-2 : tie.Need-returns-2
 unfolding keyAt

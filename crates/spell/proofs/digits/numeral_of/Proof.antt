@@ -7,10 +7,10 @@ use Rattle.spell.proofs.digits.numeral_of.Statement.{statement}
 use Rattle.spell.proofs.digits.numeral_of.Tie as tie
 
 key-requires : tie.Need-key-requires
-key-requires c κs = search needs
+key-requires c κs = tt
 
 numeral-row-requires : tie.Need-numeral-row-requires
-numeral-row-requires c κs = search needs
+numeral-row-requires c κs = tt
 
 returns : tie.Need-returns
 unfolding numberIn

@@ -3,19 +3,19 @@
 use Prim.Native.Nat.{ℕ, _-_}
 use native.Mathlib.Omega.{arith}
 use mathlib.Core.List.{List}
-use mathlib.Core.Path.{_≡_, sym, _∙_, ap}
+use mathlib.Core.Path.{_≡_, sym, _∙_, ap, refl}
 use lib.ListN.{length, getD}
 use denote.Ref.{now}
 use borrow.Author.Needs.{needs}
 use Rattle.spell.proofs.Keys.{keys-length, digit-spelled, digit-unspelled}
 use Rattle.spell.specs.Spell.{bytesOf, keys}
-use Rattle.lent.proofs.Writes.{as-text, nothing, fitting-nothing}
+use Rattle.lent.proofs.Writes.{as-text, nothing, fitting-nothing, low-byte}
 use Rattle.lent.specs.Bytes.{fitting}
 use Rattle.spell.proofs.digits.put_digit.Statement.{statement}
 use Rattle.spell.proofs.digits.put_digit.Tie as tie
 
 wide-requires : tie.Need-wide-requires
-wide-requires c κs = search needs
+wide-requires c κs = tt
 
 returns : tie.Need-returns
 returns c =
@@ -36,19 +36,19 @@ shared-slice-read-x : tie.Need-shared-slice-read-x
 shared-slice-read-x c = search needs
 
 cast-t15 : tie.Need-cast-t15
-cast-t15 c = search needs
+cast-t15 c = low-byte _
 
 cast-t18 : tie.Need-cast-t18
-cast-t18 c = search needs
+cast-t18 c = low-byte _
 
 cast-t20 : tie.Need-cast-t20
-cast-t20 c = search needs
+cast-t20 c = low-byte _
 
 slice-aggregate-put-bytes : tie.Need-slice-aggregate-put-bytes
-slice-aggregate-put-bytes c = search needs
+slice-aggregate-put-bytes c = refl
 
 put-bytes-requires : tie.Need-put-bytes-requires
-put-bytes-requires c κs = search needs
+put-bytes-requires c κs = tt
 
 same-length : tie.Need-same-length
 same-length c = search needs

@@ -3,13 +3,12 @@
 use Rattle.lent.proofs.Writes.{wrote-length}
 use native.Mathlib.Omega.{arith}
 use mathlib.Core.Path.{refl}
-use borrow.Author.Needs.{needs}
 use Rattle.spell.specs.Tables.{numerals}
 use Rattle.spell.proofs.digits.put_numeral.Statement.{statement}
 use Rattle.spell.proofs.digits.put_numeral.Tie as tie
 
 slice-aggregate-put-digit : tie.Need-slice-aggregate-put-digit
-slice-aggregate-put-digit c = search needs
+slice-aggregate-put-digit c = refl
 
 put-digit-requires : tie.Need-put-digit-requires
 put-digit-requires c κs = (numerals, record { whole = refl; fits = refl; few = omega arith })

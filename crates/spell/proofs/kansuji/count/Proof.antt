@@ -3,7 +3,6 @@
 use native.Mathlib.Omega.{arith}
 use mathlib.Core.Path.{sym, _∙_}
 use denote.Ref.{now}
-use borrow.Author.Needs.{needs}
 use Rattle.spell.proofs.Counts.{tens-small, numeral-small}
 use Rattle.spell.proofs.Answers.{as-is}
 use Rattle.spell.specs.Count.{countAt}
@@ -11,29 +10,29 @@ use Rattle.spell.proofs.kansuji.count.Statement.{statement}
 use Rattle.spell.proofs.kansuji.count.Tie as tie
 
 tens-requires : tie.Need-tens-requires
-tens-requires c κs = search needs
+tens-requires c κs = tt
 
 enum-known-t : tie.Need-enum-known-t
-enum-known-t c = search needs
+enum-known-t c = c .match .keys1
 
 enum-told : tie.Need-enum-told
-enum-told c = search needs
+enum-told c = c .match .keys2
 
 numeral-requires : tie.Need-numeral-requires
-numeral-requires c κs = search needs
+numeral-requires c κs = tt
 
 returns : tie.Need-returns
 unfolding countAt
 returns c = rw (← c .before .before .before .tens .ensures, c .before .enum-told .given .1) (c .numeral .ensures)
 
 numeral-requires-2 : tie.Need-numeral-requires-2
-numeral-requires-2 c κs = search needs
+numeral-requires-2 c κs = tt
 
 enum-known-d : tie.Need-enum-known-d
-enum-known-d c = search needs
+enum-known-d c = c .match2 .keys1
 
 enum-told-2 : tie.Need-enum-told-2
-enum-told-2 c = search needs
+enum-told-2 c = c .match2 .keys2
 
 returns-2 : tie.Need-returns-2
 unfolding countAt

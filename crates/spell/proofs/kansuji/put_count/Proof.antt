@@ -3,7 +3,7 @@
 use Prim.Native.Nat.{ℕ}
 use native.Mathlib.Omega.{arith}
 use mathlib.Core.List.{List}
-use mathlib.Core.Path.{sym, ap}
+use mathlib.Core.Path.{sym, ap, refl}
 use lib.ListN.{length}
 use denote.Ref.{now}
 use borrow.Author.Needs.{needs}
@@ -17,7 +17,7 @@ returns : tie.Need-returns
 returns c = as-text (sym (fitting-nothing _ (count-above (c .before .before .args .n) (c .if1 .taken)))) (nothing _)
 
 slice-aggregate-put-parts : tie.Need-slice-aggregate-put-parts
-slice-aggregate-put-parts c = search needs
+slice-aggregate-put-parts c = refl
 
 put-parts-requires : tie.Need-put-parts-requires
 put-parts-requires c κs = search needs
@@ -31,7 +31,7 @@ slice-aggregate-put-bytes c =
     omega (arith, ap length (wrote-front w), w .count)
 
 put-bytes-requires : tie.Need-put-bytes-requires
-put-bytes-requires c κs = search needs
+put-bytes-requires c κs = tt
 
 returns-2 : tie.Need-returns-2
 returns-2 c = as-text (ap (λ (t : List ℕ). fitting t (now (c .before .before .before .before .before .before .before .before .before .before .args .out))) (wrote-front (c .before .before .before .before .before .before .put-parts .ensures))) (c .before .before .put-bytes .ensures)

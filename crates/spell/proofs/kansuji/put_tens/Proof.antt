@@ -1,7 +1,8 @@
 -- The three cases of `tensText`; a numeral has three bytes, so there is room.
 -- Assumes nothing.
+use native.Mathlib.Nat.{le-refl}
 use native.Mathlib.Omega.{arith}
-use mathlib.Core.Path.{sym}
+use mathlib.Core.Path.{sym, refl}
 use borrow.Author.Needs.{needs}
 use Rattle.spell.proofs.Counts.{numeral-short, tens-none, tens-one, tens-more}
 use Rattle.spell.specs.Count.{ten}
@@ -15,10 +16,10 @@ returns : tie.Need-returns
 returns c = as-text (sym (tens-none (c .before .before .args .t) (c .if1 .taken))) (nothing _)
 
 slice-aggregate-put-bytes : tie.Need-slice-aggregate-put-bytes
-slice-aggregate-put-bytes c = search needs
+slice-aggregate-put-bytes c = refl
 
 put-bytes-requires : tie.Need-put-bytes-requires
-put-bytes-requires c κs = search needs
+put-bytes-requires c κs = tt
 
 returns-2 : tie.Need-returns-2
 returns-2 c = as-text (sym (tens-one (c .before .before .before .before .before .before .before .before .args .t) (c .before .before .before .before .before .before .if1 .left) (c .before .before .before .before .before .if2 .taken))) (wrote-all (omega arith) (c .before .before .put-bytes .ensures))
@@ -27,22 +28,22 @@ same-length : tie.Need-same-length
 same-length c = wrote-length (returns-2 c)
 
 put-numeral-requires : tie.Need-put-numeral-requires
-put-numeral-requires c κs = search needs
+put-numeral-requires c κs = tt
 
 sub-put-bytes : tie.Need-sub-put-bytes
 sub-put-bytes c = search needs
 
 part-put-bytes-start : tie.Need-part-put-bytes-start
-part-put-bytes-start c = search needs
+part-put-bytes-start c = sub-put-bytes c
 
 part-put-bytes-end : tie.Need-part-put-bytes-end
-part-put-bytes-end c = search needs
+part-put-bytes-end c = le-refl _
 
 slice-aggregate-put-bytes-2 : tie.Need-slice-aggregate-put-bytes-2
-slice-aggregate-put-bytes-2 c = search needs
+slice-aggregate-put-bytes-2 c = refl
 
 put-bytes-requires-2 : tie.Need-put-bytes-requires-2
-put-bytes-requires-2 c κs = search needs
+put-bytes-requires-2 c κs = tt
 
 add-result : tie.Need-add-result
 add-result c = search needs

@@ -3,7 +3,6 @@
 use native.Mathlib.Omega.{arith}
 use mathlib.Core.Path.{sym, _∙_}
 use denote.Ref.{now}
-use borrow.Author.Needs.{needs}
 use Rattle.spell.proofs.Counts.{numeral-small}
 use Rattle.spell.proofs.Answers.{as-is}
 use Rattle.spell.specs.Count.{tensAt}
@@ -11,16 +10,16 @@ use Rattle.spell.proofs.kansuji.tens.Statement.{statement}
 use Rattle.spell.proofs.kansuji.tens.Tie as tie
 
 numeral-requires : tie.Need-numeral-requires
-numeral-requires c κs = search needs
+numeral-requires c κs = tt
 
 enum-known-d : tie.Need-enum-known-d
-enum-known-d c = search needs
+enum-known-d c = c .match .keys1
 
 enum-told : tie.Need-enum-told
-enum-told c = search needs
+enum-told c = c .match .keys2
 
 past-ten-requires : tie.Need-past-ten-requires
-past-ten-requires c κs = search needs
+past-ten-requires c κs = tt
 
 returns : tie.Need-returns
 unfolding tensAt
@@ -32,7 +31,7 @@ mul-past-ten c =
     omega (arith, as-is (numeral-small (now (a .s)) (a .c .at)) (sym (c .before .before .before .numeral .ensures) ∙ c .before .d .given .1) .small)
 
 past-ten-requires-2 : tie.Need-past-ten-requires-2
-past-ten-requires-2 c κs = search needs
+past-ten-requires-2 c κs = tt
 
 returns-2 : tie.Need-returns-2
 unfolding tensAt
