@@ -1,5 +1,6 @@
 -- Each turn fills in one line more, which hangs where the table of those before says; where one hangs nowhere, it is the first.
 -- Assumes nothing.
+use native.Mathlib.Nat.{le-refl}
 use Rattle.parser.proofs.Hung.{attach-length}
 use Rattle.jkf.specs.Attaching.{all}
 use Rattle.parser.proofs.Lining.{not-all}
@@ -34,10 +35,10 @@ loop-holds : tie.Need-loop-holds Inv-loop μ-loop
 loop-holds c = let a = c .before .before .before .before .before .before in λ w o f d. lining-start (a .args .s .now) (a .args .table) w o f d
 
 skips-requires : tie.Need-skips-requires Inv-loop μ-loop
-skips-requires c κs = search needs
+skips-requires c κs = tt
 
 moved-to-requires : tie.Need-moved-to-requires Inv-loop μ-loop
-moved-to-requires c κs = search needs
+moved-to-requires c κs = tt
 
 fill-entries-requires : tie.Need-fill-entries-requires Inv-loop μ-loop
 fill-entries-requires c κs = let a = c .before .before .before .before .before .before .before .before .before .before .before in let l = c .before .before .before .before .loop in
@@ -51,25 +52,25 @@ returns c = let n = next-none (c .before .before .before .before .before .before
     (sym (ap (λ (h : Hung). hanging h (playsAt (c .before .before .before .before .before .before .before .before .before .before .before .before .before .before .before .before .before .args .s .now) (c .before .before .before .before .before .before .before .before .before .before .before .before .before .before .before .before .before .args .w .next .at) .at)) (n .0) ∙ ap (λ (m : ℕ). hanging all m) (n .1)), λ e. n .2)
 
 ply-requires : tie.Need-ply-requires Inv-loop μ-loop
-ply-requires c κs = search needs
+ply-requires c κs = tt
 
 sub-attach : tie.Need-sub-attach Inv-loop μ-loop
 sub-attach c = let n = next-row (c .before .before .before .before .before .before .before .before .before .before .before .before .before .before .before .before .before .before .args .s .now) (c .before .before .before .before .before .before .before .before .before .before .before .before .before .before .before .before .before .before .args .table) (c .before .before .before .before .before .before .before .before .before .before .before .before .before .before .before .before .before .before .args .w) (c .before .before .before .before .before .before .before .before .before .before .before .before .before .before .before .before .before .before .args .out .now) (c .before .before .before .before .before .before .before .before .before .before .before .before .before .before .before .before .before .before .pre) (c .before .before .before .before .before .before .before .before .before .before .before .loop .k) (c .before .before .before .before .before .before .before .before .before .before .before .loop .v) (c .before .before .before .before .before .before .before .before .before .before .before .loop .out) (c .before .before .before .before .before .before .before .before .before .before .before .loop .inv (c .before .before .before .before .before .before .before .before .before .before .before .before .before .before .before .before .before .before .args .w) (c .before .before .before .before .before .before .before .before .before .before .before .before .before .before .before .before .before .before .args .out .now) (c .before .before .before .before .before .before .before .before .before .before .before .before .before .before .before .before .before .before .pre) (c .before .before .before .before .before .before .before .before .before .before .before .before .before .before .fill-main .ensures)) (c .before .before .before .before .before .before .before .before .before .skips .result) (c .before .before .before .before .before .before .before .before .moved-to .result) (c .before .before .before .before .before .before .before .before .before .skips .ensures) (c .before .before .before .before .before .before .before .before .moved-to .ensures) (c .before .before .before .before .before .before .fill-entries .result) _ (c .before .before .before .before .before .before .fill-entries .ensures) (c .before .if1 .left) in omega (arith, n .0)
 
 part-attach-start : tie.Need-part-attach-start Inv-loop μ-loop
-part-attach-start c = let n = next-row (c .before .before .before .before .before .before .before .before .before .before .before .before .before .before .before .before .before .before .before .args .s .now) (c .before .before .before .before .before .before .before .before .before .before .before .before .before .before .before .before .before .before .before .args .table) (c .before .before .before .before .before .before .before .before .before .before .before .before .before .before .before .before .before .before .before .args .w) (c .before .before .before .before .before .before .before .before .before .before .before .before .before .before .before .before .before .before .before .args .out .now) (c .before .before .before .before .before .before .before .before .before .before .before .before .before .before .before .before .before .before .before .pre) (c .before .before .before .before .before .before .before .before .before .before .before .before .loop .k) (c .before .before .before .before .before .before .before .before .before .before .before .before .loop .v) (c .before .before .before .before .before .before .before .before .before .before .before .before .loop .out) (c .before .before .before .before .before .before .before .before .before .before .before .before .loop .inv (c .before .before .before .before .before .before .before .before .before .before .before .before .before .before .before .before .before .before .before .args .w) (c .before .before .before .before .before .before .before .before .before .before .before .before .before .before .before .before .before .before .before .args .out .now) (c .before .before .before .before .before .before .before .before .before .before .before .before .before .before .before .before .before .before .before .pre) (c .before .before .before .before .before .before .before .before .before .before .before .before .before .before .before .fill-main .ensures)) (c .before .before .before .before .before .before .before .before .before .before .skips .result) (c .before .before .before .before .before .before .before .before .before .moved-to .result) (c .before .before .before .before .before .before .before .before .before .before .skips .ensures) (c .before .before .before .before .before .before .before .before .before .moved-to .ensures) (c .before .before .before .before .before .before .before .fill-entries .result) _ (c .before .before .before .before .before .before .before .fill-entries .ensures) (c .before .before .if1 .left) in omega (arith, n .0)
+part-attach-start c = sub-attach (c .before)
 
 part-attach-end : tie.Need-part-attach-end Inv-loop μ-loop
-part-attach-end c = let n = next-row (c .before .before .before .before .before .before .before .before .before .before .before .before .before .before .before .before .before .before .before .args .s .now) (c .before .before .before .before .before .before .before .before .before .before .before .before .before .before .before .before .before .before .before .args .table) (c .before .before .before .before .before .before .before .before .before .before .before .before .before .before .before .before .before .before .before .args .w) (c .before .before .before .before .before .before .before .before .before .before .before .before .before .before .before .before .before .before .before .args .out .now) (c .before .before .before .before .before .before .before .before .before .before .before .before .before .before .before .before .before .before .before .pre) (c .before .before .before .before .before .before .before .before .before .before .before .before .loop .k) (c .before .before .before .before .before .before .before .before .before .before .before .before .loop .v) (c .before .before .before .before .before .before .before .before .before .before .before .before .loop .out) (c .before .before .before .before .before .before .before .before .before .before .before .before .loop .inv (c .before .before .before .before .before .before .before .before .before .before .before .before .before .before .before .before .before .before .before .args .w) (c .before .before .before .before .before .before .before .before .before .before .before .before .before .before .before .before .before .before .before .args .out .now) (c .before .before .before .before .before .before .before .before .before .before .before .before .before .before .before .before .before .before .before .pre) (c .before .before .before .before .before .before .before .before .before .before .before .before .before .before .before .fill-main .ensures)) (c .before .before .before .before .before .before .before .before .before .before .skips .result) (c .before .before .before .before .before .before .before .before .before .moved-to .result) (c .before .before .before .before .before .before .before .before .before .before .skips .ensures) (c .before .before .before .before .before .before .before .before .before .moved-to .ensures) (c .before .before .before .before .before .before .before .fill-entries .result) _ (c .before .before .before .before .before .before .before .fill-entries .ensures) (c .before .before .if1 .left) in omega (arith, n .0)
+part-attach-end c = le-refl _
 
 attach-requires : tie.Need-attach-requires Inv-loop μ-loop
-attach-requires c κs = search needs
+attach-requires c κs = tt
 
 enum-known-parent : tie.Need-enum-known-parent Inv-loop μ-loop
-enum-known-parent c = search needs
+enum-known-parent c = c .match .keys1
 
 enum-told : tie.Need-enum-told Inv-loop μ-loop
-enum-told c = search needs
+enum-told c = c .match .keys2
 
 same-length-2 : tie.Need-same-length-2 Inv-loop μ-loop
 same-length-2 c = omega (arith, filled-length (c .before .before .before .before .before .before .before .before .before .before .before .fill-entries .ensures .filled), filled-length ((c .before .before .before .before .before .before .before .before .before .before .before .before .before .before .before .before .loop .inv (c .before .before .before .before .before .before .before .before .before .before .before .before .before .before .before .before .before .before .before .before .before .before .before .args .w) (c .before .before .before .before .before .before .before .before .before .before .before .before .before .before .before .before .before .before .before .before .before .before .before .args .out .now) (c .before .before .before .before .before .before .before .before .before .before .before .before .before .before .before .before .before .before .before .before .before .before .before .pre) (c .before .before .before .before .before .before .before .before .before .before .before .before .before .before .before .before .before .before .before .fill-main .ensures)) .done .filled))
@@ -93,10 +94,10 @@ put-line-requires : tie.Need-put-line-requires Inv-loop μ-loop
 put-line-requires c κs = search needs
 
 skipped-requires : tie.Need-skipped-requires Inv-loop μ-loop
-skipped-requires c κs = search needs
+skipped-requires c κs = tt
 
 moved-to-requires-2 : tie.Need-moved-to-requires-2 Inv-loop μ-loop
-moved-to-requires-2 c κs = search needs
+moved-to-requires-2 c κs = tt
 
 add-k : tie.Need-add-k Inv-loop μ-loop
 add-k c = let n = next-row (c .before .before .before .before .before .before .before .before .before .before .before .before .before .before .before .before .before .before .before .before .before .before .before .before .before .before .before .before .before .before .before .before .args .s .now) (c .before .before .before .before .before .before .before .before .before .before .before .before .before .before .before .before .before .before .before .before .before .before .before .before .before .before .before .before .before .before .before .before .args .table) (c .before .before .before .before .before .before .before .before .before .before .before .before .before .before .before .before .before .before .before .before .before .before .before .before .before .before .before .before .before .before .before .before .args .w) (c .before .before .before .before .before .before .before .before .before .before .before .before .before .before .before .before .before .before .before .before .before .before .before .before .before .before .before .before .before .before .before .before .args .out .now) (c .before .before .before .before .before .before .before .before .before .before .before .before .before .before .before .before .before .before .before .before .before .before .before .before .before .before .before .before .before .before .before .before .pre) (c .before .before .before .before .before .before .before .before .before .before .before .before .before .before .before .before .before .before .before .before .before .before .before .before .before .loop .k) (c .before .before .before .before .before .before .before .before .before .before .before .before .before .before .before .before .before .before .before .before .before .before .before .before .before .loop .v) (c .before .before .before .before .before .before .before .before .before .before .before .before .before .before .before .before .before .before .before .before .before .before .before .before .before .loop .out) (c .before .before .before .before .before .before .before .before .before .before .before .before .before .before .before .before .before .before .before .before .before .before .before .before .before .loop .inv (c .before .before .before .before .before .before .before .before .before .before .before .before .before .before .before .before .before .before .before .before .before .before .before .before .before .before .before .before .before .before .before .before .args .w) (c .before .before .before .before .before .before .before .before .before .before .before .before .before .before .before .before .before .before .before .before .before .before .before .before .before .before .before .before .before .before .before .before .args .out .now) (c .before .before .before .before .before .before .before .before .before .before .before .before .before .before .before .before .before .before .before .before .before .before .before .before .before .before .before .before .before .before .before .before .pre) (c .before .before .before .before .before .before .before .before .before .before .before .before .before .before .before .before .before .before .before .before .before .before .before .before .before .before .before .before .fill-main .ensures)) (c .before .before .before .before .before .before .before .before .before .before .before .before .before .before .before .before .before .before .before .before .before .before .before .skips .result) (c .before .before .before .before .before .before .before .before .before .before .before .before .before .before .before .before .before .before .before .before .before .before .moved-to .result) (c .before .before .before .before .before .before .before .before .before .before .before .before .before .before .before .before .before .before .before .before .before .before .before .skips .ensures) (c .before .before .before .before .before .before .before .before .before .before .before .before .before .before .before .before .before .before .before .before .before .before .moved-to .ensures) (c .before .before .before .before .before .before .before .before .before .before .before .before .before .before .before .before .before .before .before .before .fill-entries .result) _ (c .before .before .before .before .before .before .before .before .before .before .before .before .before .before .before .before .before .before .before .before .fill-entries .ensures) (c .before .before .before .before .before .before .before .before .before .before .before .before .before .before .before .if1 .left) in omega (arith, n .0)

@@ -1,7 +1,6 @@
 -- Where no entry was filled in the place stays.
 -- Assumes nothing.
 use borrow.Author.Tests.{eq-eqb, ne-eqb}
-use borrow.Author.Needs.{needs}
 use Rattle.parser.proofs.attaching.past_entries.Statement.{statement}
 use Rattle.parser.proofs.attaching.past_entries.Tie as tie
 
@@ -9,7 +8,7 @@ returns : tie.Need-returns
 returns c = rw (eq-eqb _ _ (c .before .if1 .taken))
 
 skipped-requires : tie.Need-skipped-requires
-skipped-requires c κs = search needs
+skipped-requires c κs = tt
 
 returns-2 : tie.Need-returns-2
 returns-2 c = rw (ne-eqb _ _ (c .before .if1 .left)) (c .skipped .ensures)

@@ -22,7 +22,7 @@ loop-holds : tie.Need-loop-holds Inv-loop μ-loop
 loop-holds c = remarking-start (c .before .args .s .now) (c .before .args .c .at)
 
 begins-comment-requires : tie.Need-begins-comment-requires Inv-loop μ-loop
-begins-comment-requires c κs = search needs
+begins-comment-requires c κs = tt
 
 returns : tie.Need-returns Inv-loop μ-loop
 returns c =
@@ -31,13 +31,13 @@ returns c =
     remarking-done s (l .next .at) (l .inv) (l .next) refl (no-comment s (l .next .at) (sym (c .before .begins-comment .ensures) ∙ not-true _ (c .if1 .taken)))
 
 comment-line-requires : tie.Need-comment-line-requires Inv-loop μ-loop
-comment-line-requires c κs = search needs
+comment-line-requires c κs = tt
 
 enum-known-from : tie.Need-enum-known-from Inv-loop μ-loop
-enum-known-from c = search needs
+enum-known-from c = c .match .keys1
 
 enum-told : tie.Need-enum-told Inv-loop μ-loop
-enum-told c = search needs
+enum-told c = c .match .keys2
 
 returns-2 : tie.Need-returns-2 Inv-loop μ-loop
 returns-2 c = let l = c .before .before .before .before .before .loop in remarking-done (c .before .before .before .before .before .before .before .args .s .now) (l .next .at) (l .inv) (l .next) refl (sym (c .before .before .comment-line .ensures) ∙ c .enum-told .given .1)

@@ -20,23 +20,23 @@ loop-holds : tie.Need-loop-holds Inv-loop μ-loop
 loop-holds c = extending-start (c .before .args .s .now) (c .before .args .c .at)
 
 move-line-end-requires : tie.Need-move-line-end-requires Inv-loop μ-loop
-move-line-end-requires c κs = search needs
+move-line-end-requires c κs = tt
 
 enum-known-past : tie.Need-enum-known-past Inv-loop μ-loop
-enum-known-past c = search needs
+enum-known-past c = c .match .keys1
 
 enum-told : tie.Need-enum-told Inv-loop μ-loop
-enum-told c = search needs
+enum-told c = c .match .keys2
 
 ply-requires : tie.Need-ply-requires Inv-loop μ-loop
-ply-requires c κs = search needs
+ply-requires c κs = tt
 
 returns : tie.Need-returns Inv-loop μ-loop
 returns c = let l = c .before .before .before .before .loop in
     extending-done (c .before .before .before .before .before .before .args .s .now) (l .next .at) (l .inv) (c .ply .result) (l .next) (c .ply .ensures) refl (line-none _ _ (sym (c .before .before .before .move-line-end .ensures) ∙ c .before .enum-told .given .1))
 
 count-comments-requires : tie.Need-count-comments-requires Inv-loop μ-loop
-count-comments-requires c κs = search needs
+count-comments-requires c κs = tt
 
 add-entries : tie.Need-add-entries Inv-loop μ-loop
 add-entries c = let l = c .before .before .before .before .before .loop in let f = c .before .before .past in

@@ -3,18 +3,17 @@
 use mathlib.Core.Path.{sym}
 use Rattle.text.proofs.Answers.{number-else}
 use Rattle.parser.specs.Plays.{plyAt}
-use borrow.Author.Needs.{needs}
 use Rattle.parser.proofs.counts.ply.Statement.{statement}
 use Rattle.parser.proofs.counts.ply.Tie as tie
 
 blanks-requires : tie.Need-blanks-requires
-blanks-requires c κs = search needs
+blanks-requires c κs = tt
 
 digits-requires : tie.Need-digits-requires
-digits-requires c κs = search needs
+digits-requires c κs = tt
 
 enum-known-n : tie.Need-enum-known-n
-enum-known-n c = search needs
+enum-known-n c = c .match .keys1
 
 returns : tie.Need-returns
 unfolding plyAt

@@ -1,18 +1,17 @@
 -- Past the skip line, or where it would stand.
 -- Assumes nothing.
 use Rattle.parser.specs.Plays.{skippedAt}
-use borrow.Author.Needs.{needs}
 use Rattle.parser.proofs.counts.skipped.Statement.{statement}
 use Rattle.parser.proofs.counts.skipped.Tie as tie
 
 skip-line-requires : tie.Need-skip-line-requires
-skip-line-requires c κs = search needs
+skip-line-requires c κs = tt
 
 enum-known-past : tie.Need-enum-known-past
-enum-known-past c = search needs
+enum-known-past c = c .match .keys1
 
 enum-told : tie.Need-enum-told
-enum-told c = search needs
+enum-told c = c .match .keys2
 
 returns : tie.Need-returns
 unfolding skippedAt

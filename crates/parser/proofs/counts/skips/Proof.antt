@@ -3,7 +3,6 @@
 use Rattle.parser.proofs.Items.{skips-more, skips-none}
 use Rattle.parser.specs.Plays.{skipsAt}
 use Rattle.moves.proofs.Goings.{skip-goes}
-use borrow.Author.Needs.{needs}
 use lib.ListN.{length}
 use mathlib.Core.Path.{_≡_, refl, sym, _∙_}
 use native.Mathlib.Omega.{arith}
@@ -21,13 +20,13 @@ loop-holds : tie.Need-loop-holds Inv-loop μ-loop
 loop-holds c = refl
 
 skip-line-requires : tie.Need-skip-line-requires Inv-loop μ-loop
-skip-line-requires c κs = search needs
+skip-line-requires c κs = tt
 
 enum-known-past : tie.Need-enum-known-past Inv-loop μ-loop
-enum-known-past c = search needs
+enum-known-past c = c .match .keys1
 
 enum-told : tie.Need-enum-told Inv-loop μ-loop
-enum-told c = search needs
+enum-told c = c .match .keys2
 
 returns : tie.Need-returns Inv-loop μ-loop
 returns c = let l = c .before .before .before .loop in sym (l .inv ∙ skips-none (c .before .before .before .before .before .args .s .now) (l .next .at) (sym (c .before .before .skip-line .ensures) ∙ c .enum-told .given .1))

@@ -6,7 +6,6 @@ use Rattle.parser.specs.Plays.{commentsAt}
 use Rattle.moves.proofs.Goings.{remark-goes}
 use Rattle.moves.proofs.Shortcuts.{no-comment}
 use Rattle.lent.proofs.Regions.{left-length}
-use borrow.Author.Needs.{needs}
 use borrow.Author.Tests.{not-true}
 use lib.ListN.{length}
 use mathlib.Core.Path.{sym, _∙_}
@@ -27,7 +26,7 @@ loop-holds : tie.Need-loop-holds Inv-loop μ-loop
 loop-holds c = let a = c .before .before in (a .pre, commenting-start (commentsAt (a .args .s .now) (a .args .w .next .at) .at) (a .pre))
 
 begins-comment-requires : tie.Need-begins-comment-requires Inv-loop μ-loop
-begins-comment-requires c κs = search needs
+begins-comment-requires c κs = tt
 
 same-length : tie.Need-same-length Inv-loop μ-loop
 same-length c = omega (arith, left-length (c .before .before .loop .inv .1 .left))
@@ -38,13 +37,13 @@ returns c =
     comments-end s (no-comment s (c .before .before .loop .v .next .at) (sym (c .before .begins-comment .ensures) ∙ not-true _ (c .if1 .taken))) (c .before .before .loop .inv .1)
 
 comment-line-requires : tie.Need-comment-line-requires Inv-loop μ-loop
-comment-line-requires c κs = search needs
+comment-line-requires c κs = tt
 
 enum-known-from : tie.Need-enum-known-from Inv-loop μ-loop
-enum-known-from c = search needs
+enum-known-from c = c .match .keys1
 
 enum-told : tie.Need-enum-told Inv-loop μ-loop
-enum-told c = search needs
+enum-told c = c .match .keys2
 
 same-length-2 : tie.Need-same-length-2 Inv-loop μ-loop
 same-length-2 c = omega (arith, left-length (c .before .before .before .before .before .loop .inv .1 .left))

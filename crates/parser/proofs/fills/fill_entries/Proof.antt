@@ -7,7 +7,6 @@ use Rattle.parser.specs.Filling.{EntriesFit}
 use Rattle.parser.specs.Plays.{entriesAt}
 use Rattle.moves.proofs.Goings.{move-goes}
 use Rattle.lent.proofs.Regions.{left-length}
-use borrow.Author.Needs.{needs}
 use lib.ListN.{length}
 use mathlib.Core.Path.{sym, _∙_}
 use native.Mathlib.Omega.{arith}
@@ -26,13 +25,13 @@ loop-holds : tie.Need-loop-holds Inv-loop μ-loop
 loop-holds c = let a = c .before .before in (a .pre, entering-start (entriesAt (a .args .s .now) (a .args .w .next .at) .at) (a .pre))
 
 move-line-requires : tie.Need-move-line-requires Inv-loop μ-loop
-move-line-requires c κs = search needs
+move-line-requires c κs = tt
 
 enum-known-e : tie.Need-enum-known-e Inv-loop μ-loop
-enum-known-e c = search needs
+enum-known-e c = c .match .keys1
 
 enum-told : tie.Need-enum-told Inv-loop μ-loop
-enum-told c = search needs
+enum-told c = c .match .keys2
 
 same-length : tie.Need-same-length Inv-loop μ-loop
 same-length c = omega (arith, left-length (c .before .before .before .loop .inv .1 .left))
@@ -41,7 +40,7 @@ returns : tie.Need-returns Inv-loop μ-loop
 returns c = entries-end (c .before .before .before .before .before .before .args .s .now) (sym (c .before .before .move-line .ensures) ∙ c .enum-told .given .1) (c .before .before .before .loop .inv .1)
 
 moved-to-requires : tie.Need-moved-to-requires Inv-loop μ-loop
-moved-to-requires c κs = search needs
+moved-to-requires c κs = tt
 
 fill-noted-requires : tie.Need-fill-noted-requires Inv-loop μ-loop
 fill-noted-requires c κs = let l = c .before .before .before .before .before .before .loop in let f = c .before .before .before .e in let s = c .before .before .before .before .before .before .before .before .before .args .s .now in

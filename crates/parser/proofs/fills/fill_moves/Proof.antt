@@ -12,10 +12,10 @@ use Rattle.parser.proofs.fills.fill_moves.Statement.{statement}
 use Rattle.parser.proofs.fills.fill_moves.Tie as tie
 
 count-moves-requires : tie.Need-count-moves-requires
-count-moves-requires c κs = search needs
+count-moves-requires c κs = tt
 
 has-room-requires : tie.Need-has-room-requires
-has-room-requires c κs = search needs
+has-room-requires c κs = tt
 
 fill-entries-requires : tie.Need-fill-entries-requires
 fill-entries-requires c κs = let a = c .before .before .before .before .before .before .args in

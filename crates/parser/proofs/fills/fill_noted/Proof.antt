@@ -1,5 +1,6 @@
 -- The comments first, and then the entry, whose bytes say how many they are.
 -- Assumes nothing.
+use Rattle.lent.proofs.Regions.{filled-length}
 use Rattle.parser.proofs.Entries.{noted-fit, noted-filled}
 use Rattle.parser.specs.Plays.{commentsAt}
 use borrow.Author.Needs.{needs}
@@ -13,20 +14,20 @@ sub-count : tie.Need-sub-count
 sub-count c = search needs
 
 first-comment-requires : tie.Need-first-comment-requires
-first-comment-requires c κs = search needs
+first-comment-requires c κs = tt
 
 put-entry-requires : tie.Need-put-entry-requires
-put-entry-requires c κs = search needs
+put-entry-requires c κs = tt
 
 add-t13 : tie.Need-add-t13
 add-t13 c = search needs
 
-same-length : tie.Need-same-length
-same-length c = search needs
-
 returns : tie.Need-returns
 returns c = let a = c .before .before .before .before .before .before .before .before .before .before .before .before .before .before .before .args in
     noted-filled (a .e) (commentsAt (a .s .now) (a .w .next .at) .state) (c .before .before .before .before .before .before .before .before .before .before .before .before .before .before .before .pre) (c .before .before .before .before .before .before .before .before .before .before .before .fill-comments .ensures) (c .before .before .before .before .before .first-comment .ensures) (c .before .before .before .before .put-entry .ensures)
+
+same-length : tie.Need-same-length
+same-length c = filled-length (returns c .filled)
 
 pub fill-noted-spec : {M : Type 1} → statement M
 fill-noted-spec =

@@ -2,7 +2,6 @@
 -- Assumes nothing.
 use Rattle.parser.proofs.Rooms.{no-moves, no-comments, no-text, all-room}
 use native.Mathlib.Omega.{arith}
-use borrow.Author.Needs.{needs}
 use Rattle.parser.proofs.fills.has_room.Statement.{statement}
 use Rattle.parser.proofs.fills.has_room.Tie as tie
 
@@ -25,7 +24,7 @@ returns-6 : tie.Need-returns-6
 returns-6 c = let a = c .before .before .before .before .before .before .before .before .before .before .before .before .before .before .before .args in no-text (a .x) (a .w) (a .n) (omega (arith, c .before .before .before .before .before .before .before .before .before .before .if2 .left, c .before .before .before .before .before .before .before .before .before .before .before .before .before .if1 .left)) (omega (arith, c .before .before .before .before .before .if4 .left, c .before .before .before .before .before .before .before .before .if3 .left)) (omega (arith, c .if6 .taken, c .before .before .before .if5 .left))
 
 has-numbers-requires : tie.Need-has-numbers-requires
-has-numbers-requires c κs = search needs
+has-numbers-requires c κs = tt
 
 returns-7 : tie.Need-returns-7
 returns-7 c = let a = c .before .before .before .before .before .before .before .before .before .before .before .before .before .before .before .before .args in all-room (a .x) (a .w) (a .n) (omega (arith, c .before .before .before .before .before .before .before .before .before .before .before .if2 .left, c .before .before .before .before .before .before .before .before .before .before .before .before .before .before .if1 .left)) (omega (arith, c .before .before .before .before .before .before .if4 .left, c .before .before .before .before .before .before .before .before .before .if3 .left)) (omega (arith, c .before .if6 .left, c .before .before .before .before .if5 .left)) (c .has-numbers .ensures)

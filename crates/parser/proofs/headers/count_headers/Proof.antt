@@ -24,7 +24,7 @@ shared-slice-read-wide : tie.Need-shared-slice-read-wide Inv-loop μ-loop
 shared-slice-read-wide c = search needs
 
 wide-requires : tie.Need-wide-requires Inv-loop μ-loop
-wide-requires c κs = search needs
+wide-requires c κs = tt
 
 header-length-requires : tie.Need-header-length-requires Inv-loop μ-loop
 header-length-requires c κs =

@@ -1,5 +1,6 @@
 -- The row is stored where the rows end, the key where the texts end and the value after it; key and value are the parts of the line around its colon.
 -- Assumes nothing.
+use Rattle.lent.proofs.Regions.{filled-length}
 use Rattle.parser.proofs.Headed.{Paired, paired, entry-long, no-line, header-filled}
 use Rattle.kakinoki.specs.Informations.{headerAt}
 use Rattle.block.specs.Encode.{headerText}
@@ -9,7 +10,6 @@ use mathlib.Core.List.{List, [], _∷_}
 use Prim.Native.Nat.{ℕ, _+_, _-_, _<_}
 use mathlib.Core.Path.{_≡_, sym, _∙_}
 use native.Mathlib.Omega.{arith}
-use borrow.Author.Needs.{needs}
 use Rattle.parser.proofs.headers.fill_header.Statement.{statement}
 use Rattle.parser.proofs.headers.fill_header.Tie as tie
 use Rattle.parser.proofs.headers.fill_header.Reads as reads
@@ -44,13 +44,13 @@ fits : (c : At) → c .before .before .before .before .before .before .args .h .
 fits c = c .before .before .before .before .before .before .pre .1 .bytes
 
 key-value-requires : tie.Need-key-value-requires
-key-value-requires c κs = search needs
+key-value-requires c κs = tt
 
 enum-known-from : tie.Need-enum-known-from
-enum-known-from c = search needs
+enum-known-from c = c .match .keys1
 
 enum-told : tie.Need-enum-told
-enum-told c = search needs
+enum-told c = c .match .keys2
 
 returns : tie.Need-returns
 returns c =
@@ -79,7 +79,7 @@ part-put-at-end : tie.Need-part-put-at-end
 part-put-at-end c = omega (arith, line (c .before .before .before .before .before) .onward, line (c .before .before .before .before .before) .within)
 
 put-at-requires : tie.Need-put-at-requires
-put-at-requires c κs = search needs
+put-at-requires c κs = tt
 
 sub-put-at-2 : tie.Need-sub-put-at-2
 sub-put-at-2 c = omega (arith, line (c .before .before .before .before .before .before .before .before .before .before) .onward)
@@ -91,7 +91,7 @@ part-put-at-end-2 : tie.Need-part-put-at-end-2
 part-put-at-end-2 c = omega (arith, line (c .before .before .before .before .before .before .before .before .before .before) .within)
 
 put-at-requires-2 : tie.Need-put-at-requires-2
-put-at-requires-2 c κs = search needs
+put-at-requires-2 c κs = tt
 
 add-t22 : tie.Need-add-t22
 add-t22 c = let b = c .before .before .before .before .before .before .before .before .before .before .before .before .before .before .before in omega (arith, line b .colon, line b .onward, long b, fits b)
@@ -99,15 +99,15 @@ add-t22 c = let b = c .before .before .before .before .before .before .before .b
 add-t30 : tie.Need-add-t30
 add-t30 c = let b = c .before .before .before .before .before .before .before .before .before .before .before .before .before .before .before in omega (arith, line b .colon, line b .onward, long b, fits b)
 
-same-length : tie.Need-same-length
-same-length c = search needs
-
 returns-2 : tie.Need-returns-2
 returns-2 c =
     let b = c .before .before .before .before .before .before .before .before .before .before .before .before .before .before .before in
     let a = b .before .before .before .before .before .before in
     header-filled (S b) (P b) (From b) (To b) (a .args .h) (line b) (a .pre .1 .room)
     (c .before .before .before .before .before .before .before .before .before .before .before .before .before .put-row .ensures) (c .before .before .before .before .before .before .before .before .put-at .ensures) (c .before .before .before .put-at2 .ensures)
+
+same-length : tie.Need-same-length
+same-length c = filled-length (returns-2 c .filled)
 
 pub fill-header-spec : {M : Type 1} → statement M
 fill-header-spec =

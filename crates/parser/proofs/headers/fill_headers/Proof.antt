@@ -26,7 +26,7 @@ shared-slice-read-wide : tie.Need-shared-slice-read-wide Inv-loop μ-loop
 shared-slice-read-wide c = search needs
 
 wide-requires : tie.Need-wide-requires Inv-loop μ-loop
-wide-requires c κs = search needs
+wide-requires c κs = tt
 
 fill-header-requires : tie.Need-fill-header-requires Inv-loop μ-loop
 fill-header-requires c κs =

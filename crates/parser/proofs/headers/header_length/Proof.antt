@@ -6,7 +6,6 @@ use mathlib.Core.List.{List}
 use Prim.Native.Nat.{ℕ}
 use mathlib.Core.Path.{sym, _∙_}
 use native.Mathlib.Omega.{arith}
-use borrow.Author.Needs.{needs}
 use Rattle.parser.proofs.headers.header_length.Statement.{statement}
 use Rattle.parser.proofs.headers.header_length.Tie as tie
 use Rattle.parser.proofs.headers.header_length.Reads as reads
@@ -33,13 +32,13 @@ line : (c : At) → Paired (S c) (P c) (From c) (To c)
 line c = paired (S c) (P c) (From c) (To c) (c .before .before .to .given .0 .1 .1 .0) (sym (c .before .before .before .before .key-value .ensures) ∙ c .before .before .to .given .1)
 
 key-value-requires : tie.Need-key-value-requires
-key-value-requires c κs = search needs
+key-value-requires c κs = tt
 
 enum-known-to : tie.Need-enum-known-to
-enum-known-to c = search needs
+enum-known-to c = c .match .keys1
 
 enum-told : tie.Need-enum-told
-enum-told c = search needs
+enum-told c = c .match .keys2
 
 returns : tie.Need-returns
 returns c =

@@ -23,10 +23,10 @@ loop-holds : tie.Need-loop-holds Inv-loop μ-loop
 loop-holds c = λ at h e. subst (Sizing (c .before .before .args .s .now) at) (sym e) (sizing-start (c .before .before .args .s .now) at h)
 
 skips-requires : tie.Need-skips-requires Inv-loop μ-loop
-skips-requires c κs = search needs
+skips-requires c κs = tt
 
 count-moves-requires : tie.Need-count-moves-requires Inv-loop μ-loop
-count-moves-requires c κs = search needs
+count-moves-requires c κs = tt
 
 returns : tie.Need-returns Inv-loop μ-loop
 returns c = let a = c .before .before .before .before .before .before .before in let l = c .before .before .before .before .loop in
@@ -49,7 +49,7 @@ add-t10 c = let a = c .before .before .before .before .before .before .before .b
     let b = counted-bound (a .args .s .now) (a .args .c .at) (l .sizes) (c .before .before .before .before .before .before .before .before .before .count-moves .result) (c .before .before .before .before .before .before .before .before .before .before .skips .result .at) (a .pre) (l .inv (a .args .c .at) (a .pre) (c .before .before .before .before .before .before .before .before .before .before .before .before .count-main .ensures)) (c .before .before .before .before .before .before .before .before .before .before .skips .ensures) (c .before .before .before .before .before .before .before .before .before .count-moves .ensures) (c .before .before .before .before .before .before .before .if1 .left) (search needs) in omega (arith, b .3)
 
 skipped-requires : tie.Need-skipped-requires Inv-loop μ-loop
-skipped-requires c κs = search needs
+skipped-requires c κs = tt
 
 loop-less : tie.Need-loop-less Inv-loop μ-loop
 loop-less c = let a = c .before .before .before .before .before .before .before .before .before .before .before .before .before .before .before in let l = c .before .before .before .before .before .before .before .before .before .before .before .before .loop in

@@ -5,7 +5,6 @@ use Rattle.parser.specs.declared.Extent.{Extent}
 use Rattle.parser.specs.Plays.{skippedAt}
 use Rattle.parser.specs.Filling.{extentAt}
 use mathlib.Core.Path.{sym, ap, _∙_}
-use borrow.Author.Needs.{needs}
 use Rattle.parser.proofs.lines.past_line.Statement.{statement}
 use Rattle.parser.proofs.lines.past_line.Tie as tie
 
@@ -14,7 +13,7 @@ unfolding extentAt
 returns c = let a = c .before .before .before in sym (main-none (a .args .s .now) (a .args .c .at) (ap (λ (x : Extent). x .entries) (sym (a .pre)) ∙ c .if1 .taken))
 
 skipped-requires : tie.Need-skipped-requires
-skipped-requires c κs = search needs
+skipped-requires c κs = tt
 
 returns-2 : tie.Need-returns-2
 unfolding extentAt

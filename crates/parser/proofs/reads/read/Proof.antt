@@ -12,7 +12,7 @@ unfolding readOf
 returns c = rw (lt-ltb 65535 _ (c .if1 .taken)) (refl, refl)
 
 well-formed-requires : tie.Need-well-formed-requires
-well-formed-requires c κs = search needs
+well-formed-requires c κs = tt
 
 returns-2 : tie.Need-returns-2
 unfolding readOf

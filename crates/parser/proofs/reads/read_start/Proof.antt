@@ -25,7 +25,7 @@ slice-aggregate-sort-keys-2 c =
     room-count (now (a .s)) (a .start) (now (a .places)) (e .pre)
 
 sort-keys-requires : tie.Need-sort-keys-requires
-sort-keys-requires c κs = search needs
+sort-keys-requires c κs = tt
 
 array-share-prefix-sorted : tie.Need-array-share-prefix-sorted
 array-share-prefix-sorted c =

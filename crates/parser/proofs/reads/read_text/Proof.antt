@@ -7,16 +7,16 @@ use Rattle.parser.proofs.reads.read_text.Statement.{statement}
 use Rattle.parser.proofs.reads.read_text.Tie as tie
 
 slice-aggregate-parse-without-moves : tie.Need-slice-aggregate-parse-without-moves
-slice-aggregate-parse-without-moves c = search needs
+slice-aggregate-parse-without-moves c = refl
 
 parse-without-moves-requires : tie.Need-parse-without-moves-requires
-parse-without-moves-requires c κs = search needs
+parse-without-moves-requires c κs = tt
 
 enum-known-fault : tie.Need-enum-known-fault
-enum-known-fault c = search needs
+enum-known-fault c = c .match .keys1
 
 enum-told : tie.Need-enum-told
-enum-told c = search needs
+enum-told c = c .match .keys2
 
 slice-aggregate-read-start : tie.Need-slice-aggregate-read-start
 slice-aggregate-read-start c = search needs

@@ -6,7 +6,7 @@ use Rattle.parser.proofs.stores.clear.Statement.{statement}
 use Rattle.parser.proofs.stores.clear.Tie as tie
 
 put-run-requires : tie.Need-put-run-requires
-put-run-requires c κs = search needs
+put-run-requires c κs = tt
 
 same-length : tie.Need-same-length
 same-length c = search needs

@@ -45,13 +45,13 @@ fill-lines-requires : tie.Need-fill-lines-requires
 fill-lines-requires c κs = lines-fit (c .before .before .before .before .before .before .before .before .before .before .before .before .before .before .before .args .s .now) (c .before .before .before .before .before .before .before .before .before .before .before .before .before .before .before .args .position) (c .before .before .before .before .before .before .before .before .before .before .before .before .before .before .before .args .c) (c .before .before .before .before .before .before .before .before .before .before .before .before .before .before .before .args .headers .now) (c .before .before .before .before .before .before .before .before .before .before .before .before .before .before .before .args .z) (c .before .before .before .before .before .before .before .before .before .before .before .before .before .before .before .args .total) (c .before .before .before .before .before .before .before .before .before .before .before .before .before .before .before .args .out .now) (c .before .before .before .before .before .before .before .before .before .before .before .before .before .before .before .pre .0) (c .before .before .before .before .before .before .before .before .before .before .before .before .before .before .before .pre .1) _ (c .before .before .before .before .before .before .before .put-front .ensures) (c .before .before .before .fill-headers .result) _ (c .before .before .before .fill-headers .ensures)
 
 enum-known-end : tie.Need-enum-known-end
-enum-known-end c = search needs
+enum-known-end c = c .match .keys1
 
 enum-known-variation : tie.Need-enum-known-variation
-enum-known-variation c = search needs
+enum-known-variation c = c .match .keys2
 
 clear-requires : tie.Need-clear-requires
-clear-requires c κs = search needs
+clear-requires c κs = tt
 
 same-length : tie.Need-same-length
 same-length c = search needs

@@ -1,7 +1,10 @@
 -- The position stands after the 28 bytes of the head.
 -- Assumes nothing.
+use lib.ListN.{length}
+use mathlib.Core.Path.{ap, _∙_}
+use native.Mathlib.Nat.{le-refl}
 use native.Mathlib.Omega.{arith}
-use Rattle.lent.proofs.Regions.{stored-all}
+use Rattle.lent.proofs.Regions.{stored-all, length-put}
 use Rattle.block.specs.Encode.{headBytes}
 use Rattle.block.proofs.Lengths.{head-length}
 use Rattle.parser.proofs.Fronts.{front-put}
@@ -31,16 +34,13 @@ sub-put-position : tie.Need-sub-put-position
 sub-put-position c = search needs
 
 part-put-position-start : tie.Need-part-put-position-start
-part-put-position-start c = search needs
+part-put-position-start c = sub-put-position c
 
 part-put-position-end : tie.Need-part-put-position-end
-part-put-position-end c = search needs
+part-put-position-end c = le-refl _
 
 put-position-requires : tie.Need-put-position-requires
 put-position-requires c κs = search needs
-
-same-length : tie.Need-same-length
-same-length c = search needs
 
 returns : tie.Need-returns
 returns c =
@@ -49,6 +49,9 @@ returns c =
     let long = head-length 1 (a .total) (a .headers) (a .z .lines) (a .z .entries) (a .z .comments) in
     let o = stored-all {t = h} {o = a .out .now} (omega (arith, long, c .before .before .before .before .before .before .before .before .before .before .before .before .pre .0)) (c .before .before .before .before .before .before .put-head .ensures) in
     front-put h (a .position) (a .out .now) long (c .before .before .before .before .before .before .before .before .before .before .before .before .pre .0) (c .before .before .before .before .before .before .before .before .before .before .before .before .pre .3) (o .bytes) (c .before .before .put-position .ensures)
+
+same-length : tie.Need-same-length
+same-length c = ap length (returns c) ∙ simp length-put
 
 pub put-front-spec : {M : Type 1} → statement M
 put-front-spec =

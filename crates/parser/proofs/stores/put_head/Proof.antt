@@ -1,5 +1,9 @@
 -- The 28 bytes are those of the head.
 -- Assumes nothing.
+use Rattle.lent.proofs.Writes.{low-byte}
+use lib.ListN.{length}
+use Rattle.lent.proofs.Regions.{length-put}
+use mathlib.Core.Path.{refl, ap, _∙_}
 use Rattle.block.specs.Encode.{headBytes}
 use borrow.Author.Needs.{needs}
 use Rattle.parser.proofs.stores.put_head.Statement.{statement}
@@ -30,71 +34,71 @@ add-text-place : tie.Need-add-text-place
 add-text-place c = search needs
 
 cast-t17 : tie.Need-cast-t17
-cast-t17 c = search needs
+cast-t17 c = low-byte _
 
 cast-t20 : tie.Need-cast-t20
-cast-t20 c = search needs
+cast-t20 c = low-byte _
 
 cast-t22 : tie.Need-cast-t22
-cast-t22 c = search needs
+cast-t22 c = low-byte _
 
 cast-t25 : tie.Need-cast-t25
-cast-t25 c = search needs
+cast-t25 c = low-byte _
 
 cast-t27 : tie.Need-cast-t27
-cast-t27 c = search needs
+cast-t27 c = low-byte _
 
 cast-t30 : tie.Need-cast-t30
-cast-t30 c = search needs
+cast-t30 c = low-byte _
 
 cast-t32 : tie.Need-cast-t32
-cast-t32 c = search needs
+cast-t32 c = low-byte _
 
 cast-t35 : tie.Need-cast-t35
-cast-t35 c = search needs
+cast-t35 c = low-byte _
 
 cast-t37 : tie.Need-cast-t37
-cast-t37 c = search needs
+cast-t37 c = low-byte _
 
 cast-t40 : tie.Need-cast-t40
-cast-t40 c = search needs
+cast-t40 c = low-byte _
 
 cast-t41 : tie.Need-cast-t41
-cast-t41 c = search needs
+cast-t41 c = low-byte _
 
 cast-t43 : tie.Need-cast-t43
-cast-t43 c = search needs
+cast-t43 c = low-byte _
 
 cast-t45 : tie.Need-cast-t45
-cast-t45 c = search needs
+cast-t45 c = low-byte _
 
 cast-t48 : tie.Need-cast-t48
-cast-t48 c = search needs
+cast-t48 c = low-byte _
 
 cast-t50 : tie.Need-cast-t50
-cast-t50 c = search needs
+cast-t50 c = low-byte _
 
 cast-t53 : tie.Need-cast-t53
-cast-t53 c = search needs
+cast-t53 c = low-byte _
 
 cast-t55 : tie.Need-cast-t55
-cast-t55 c = search needs
+cast-t55 c = low-byte _
 
 cast-t58 : tie.Need-cast-t58
-cast-t58 c = search needs
+cast-t58 c = low-byte _
 
 slice-aggregate-put-at : tie.Need-slice-aggregate-put-at
-slice-aggregate-put-at c = search needs
+slice-aggregate-put-at c = refl
 
 put-at-requires : tie.Need-put-at-requires
-put-at-requires c κs = search needs
-
-same-length : tie.Need-same-length
-same-length c = search needs
+put-at-requires c κs = tt
 
 returns : tie.Need-returns
 unfolding headBytes
 returns c = c .before .before .put-at .ensures
+
+same-length : tie.Need-same-length
+same-length c = ap length (returns c .bytes) ∙ simp length-put
 
 pub put-head-spec : {M : Type 1} → statement M
 put-head-spec =
