@@ -52,7 +52,7 @@ long c =
     after-long (B c) s (N c) (N c) (T c) (omega arith) h e (c .put-rows .ensures .0)
 
 slice-aggregate-put-rows : tie.Need-slice-aggregate-put-rows
-slice-aggregate-put-rows c = search needs
+slice-aggregate-put-rows c = refl
 
 put-rows-requires : tie.Need-put-rows-requires
 put-rows-requires c κs =
@@ -64,10 +64,10 @@ slice-aggregate-changed-parent : tie.Need-slice-aggregate-changed-parent
 slice-aggregate-changed-parent c = search needs
 
 changed-parent-requires : tie.Need-changed-parent-requires
-changed-parent-requires c κs = search needs
+changed-parent-requires c κs = tt
 
 lines-in-requires : tie.Need-lines-in-requires
-lines-in-requires c κs = search needs
+lines-in-requires c κs = tt
 
 returns : tie.Need-returns
 returns c =

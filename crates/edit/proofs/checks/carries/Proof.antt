@@ -5,7 +5,6 @@ use native.Mathlib.Omega.{arith}
 use mathlib.Core.Path.{_≡_, sym, _∙_}
 use lib.ListN.{drop}
 use denote.Ref.{now}
-use borrow.Author.Needs.{needs}
 use Rattle.block.specs.Decode.{run, lineIn, decode}
 use Rattle.edit.specs.Edit.{carries}
 use Rattle.edit.proofs.Played.{variations-are, carries-next, carries-none}
@@ -19,7 +18,7 @@ abbrev μ-loop : tie.MeasureT-loop
 μ-loop b k j lines i₀ i = lines - i
 
 lines-in-requires : tie.Need-lines-in-requires Inv-loop μ-loop
-lines-in-requires c κs = search needs
+lines-in-requires c κs = tt
 
 loop-holds : tie.Need-loop-holds Inv-loop μ-loop
 loop-holds c =
@@ -32,7 +31,7 @@ cast-hangs-on : tie.Need-cast-hangs-on Inv-loop μ-loop
 cast-hangs-on c = omega (arith, c .before .before .lines-in .ensures .1)
 
 hangs-on-requires : tie.Need-hangs-on-requires Inv-loop μ-loop
-hangs-on-requires c κs = search needs
+hangs-on-requires c κs = tt
 
 returns : tie.Need-returns Inv-loop μ-loop
 returns c =

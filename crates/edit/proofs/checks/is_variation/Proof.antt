@@ -1,7 +1,6 @@
 -- Four tests in their order.
 -- Assumes nothing.
 use mathlib.Core.Path.{sym, _∙_}
-use borrow.Author.Needs.{needs}
 use borrow.Author.Tests.{eq-eqb, ne-eqb, lt-ltb, le-ltb}
 use Rattle.edit.specs.Edit.{isVariation}
 use Rattle.edit.proofs.checks.is_variation.Statement.{statement}
@@ -22,7 +21,7 @@ returns-3 c =
     rw (le-ltb _ _ (c .before .before .if1 .left), ne-eqb _ _ (λ e. c .before .if2 .left (p .0 ∙ e)), ne-eqb _ _ (λ e. c .if3 .taken (p .1 ∙ e)))
 
 well-formed-requires : tie.Need-well-formed-requires
-well-formed-requires c κs = search needs
+well-formed-requires c κs = tt
 
 returns-4 : tie.Need-returns-4
 unfolding isVariation

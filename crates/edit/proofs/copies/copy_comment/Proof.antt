@@ -1,5 +1,7 @@
 -- The row and the bytes are stored at their ends.
 -- Assumes nothing.
+use Rattle.lent.proofs.Writes.{low-byte}
+use Rattle.lent.proofs.Regions.{filled-length}
 use native.Mathlib.Omega.{arith}
 use mathlib.Core.Path.{refl}
 use lib.ListN.{length}
@@ -9,25 +11,25 @@ use Rattle.edit.proofs.copies.copy_comment.Statement.{statement}
 use Rattle.edit.proofs.copies.copy_comment.Tie as tie
 
 cast-t12 : tie.Need-cast-t12
-cast-t12 c = search needs
+cast-t12 c = low-byte _
 
 cast-t15 : tie.Need-cast-t15
-cast-t15 c = search needs
+cast-t15 c = low-byte _
 
 cast-t17 : tie.Need-cast-t17
-cast-t17 c = search needs
+cast-t17 c = low-byte _
 
 cast-t20 : tie.Need-cast-t20
-cast-t20 c = search needs
+cast-t20 c = low-byte _
 
 slice-aggregate-put-at : tie.Need-slice-aggregate-put-at
-slice-aggregate-put-at c = search needs
+slice-aggregate-put-at c = refl
 
 put-at-requires : tie.Need-put-at-requires
-put-at-requires c κs = search needs
+put-at-requires c κs = tt
 
 put-at-requires-2 : tie.Need-put-at-requires-2
-put-at-requires-2 c κs = search needs
+put-at-requires-2 c κs = tt
 
 add-t11 : tie.Need-add-t11
 add-t11 c = search needs
@@ -35,13 +37,13 @@ add-t11 c = search needs
 add-t13 : tie.Need-add-t13
 add-t13 c = omega (arith, c .before .before .before .before .before .before .before .before .before .before .before .before .before .before .before .before .pre .bytes, only-one (c .before .before .before .before .before .before .before .before .before .before .before .before .before .before .before .before .args .c .now))
 
-same-length : tie.Need-same-length
-same-length c = search needs
-
 returns : tie.Need-returns
 returns c =
     let a = c .before .before .before .before .before .before .before .before .before .before .before .before .before .before .before .before .args in
     comment-stored (a .c .now) (length (a .c .now)) (a .w .next) (a .w) refl (c .before .before .before .before .before .before .before .before .before .before .before .before .before .before .before .before .pre .room) (c .before .before .before .before .before .before .before .before .before .put-at .ensures) (c .before .before .before .before .before .put-at2 .ensures)
+
+same-length : tie.Need-same-length
+same-length c = filled-length (returns c .filled)
 
 pub copy-comment-spec : {M : Type 1} → statement M
 copy-comment-spec =

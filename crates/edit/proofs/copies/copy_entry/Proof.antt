@@ -1,8 +1,9 @@
 -- The comments first, and then the entry, whose bytes say how many they are; it has its room, so a part of the buffer is lent for it.
 -- Assumes nothing.
+use native.Mathlib.Nat.{le-refl}
 use native.Mathlib.Omega.{arith}
 use Rattle.jkf.specs.Entries.{entryBytes}
-use Rattle.lent.proofs.Regions.{stored-part}
+use Rattle.lent.proofs.Regions.{stored-part, filled-length}
 use Rattle.edit.proofs.Copied.{own-fit, own-room, own-end, own-filled}
 use borrow.Author.Needs.{needs}
 use Rattle.block.proofs.Within.{comments-within, comments-small}
@@ -16,7 +17,7 @@ comment-count-requires : tie.Need-comment-count-requires
 comment-count-requires c κs = search needs
 
 first-comment-requires : tie.Need-first-comment-requires
-first-comment-requires c κs = search needs
+first-comment-requires c κs = tt
 
 copy-comments-requires : tie.Need-copy-comments-requires
 copy-comments-requires c κs =
@@ -32,19 +33,19 @@ sub-put-entry : tie.Need-sub-put-entry
 sub-put-entry c = search needs
 
 part-put-entry-start : tie.Need-part-put-entry-start
-part-put-entry-start c = search needs
+part-put-entry-start c = sub-put-entry c
 
 part-put-entry-end : tie.Need-part-put-entry-end
-part-put-entry-end c = search needs
+part-put-entry-end c = le-refl _
 
 entry-of-requires : tie.Need-entry-of-requires
-entry-of-requires c κs = search needs
+entry-of-requires c κs = tt
 
 first-of-requires : tie.Need-first-of-requires
-first-of-requires c κs = search needs
+first-of-requires c κs = tt
 
 put-entry-requires : tie.Need-put-entry-requires
-put-entry-requires c κs = search needs
+put-entry-requires c κs = tt
 
 add-moves : tie.Need-add-moves
 add-moves c =
@@ -57,9 +58,6 @@ add-moves c =
 add-t12 : tie.Need-add-t12
 add-t12 c = omega (arith, c .before .before .before .before .before .before .before .before .before .before .copy-comments .ensures .entries, c .before .before .before .before .before .before .before .before .before .before .before .before .before .before .before .before .pre .2 .entries)
 
-same-length : tie.Need-same-length
-same-length c = search needs
-
 returns : tie.Need-returns
 returns c =
     let a = c .before .before .before .before .before .before .before .before .before .before .before .before .before .before .before .before .args in
@@ -70,6 +68,9 @@ returns c =
     let r = own-room (a .b .now) (a .k) f (p .result) (q .result) (p .ensures .0) (q .ensures .0) d in
     own-filled (a .b .now) (a .k) f (p .result) (q .result) (p .ensures .0) (q .ensures .0) d (c .before .before .before .before .before .before .entry-of .ensures) (c .before .before .before .before .before .first-of .ensures)
     (stored-part (entryBytes (c .before .before .before .before .before .before .entry-of .result) (c .before .before .before .before .before .first-of .result) (q .result)) r (c .before .before .before .before .put-entry .ensures))
+
+same-length : tie.Need-same-length
+same-length c = filled-length (returns c .filled)
 
 pub copy-entry-spec : {M : Type 1} → statement M
 copy-entry-spec =

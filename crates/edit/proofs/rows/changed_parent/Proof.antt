@@ -23,7 +23,7 @@ abbrev μ-loop : tie.MeasureT-loop
 μ-loop b n rows lines i₀ i = lines - i
 
 lines-in-requires : tie.Need-lines-in-requires Inv-loop μ-loop
-lines-in-requires c κs = search needs
+lines-in-requires c κs = tt
 
 loop-holds : tie.Need-loop-holds Inv-loop μ-loop
 loop-holds c =
@@ -44,7 +44,7 @@ add-get16 c =
     omega (arith, c .renumbered .ensures, renumbered-near (a .n) (c .before .before .loop .i), c .before .before .before .lines-in .ensures .1)
 
 get16-requires : tie.Need-get16-requires Inv-loop μ-loop
-get16-requires c κs = search needs
+get16-requires c κs = tt
 
 cast-parent-of : tie.Need-cast-parent-of Inv-loop μ-loop
 cast-parent-of c = omega (arith, c .before .before .before .before .lines-in .ensures .1)

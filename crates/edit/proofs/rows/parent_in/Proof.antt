@@ -4,18 +4,17 @@ use Prim.Native.Nat.{ℕ}
 use mathlib.Core.Path.{sym, ap, _∙_}
 use Rattle.jkf.specs.Attaching.{onHang}
 use Rattle.jkf.specs.declared.Hang.{Hang}
-use borrow.Author.Needs.{needs}
 use Rattle.edit.proofs.rows.parent_in.Statement.{statement}
 use Rattle.edit.proofs.rows.parent_in.Tie as tie
 
 attach-requires : tie.Need-attach-requires
-attach-requires c κs = search needs
+attach-requires c κs = tt
 
 enum-known-parent : tie.Need-enum-known-parent
-enum-known-parent c = search needs
+enum-known-parent c = c .match .keys1
 
 enum-told : tie.Need-enum-told
-enum-told c = search needs
+enum-told c = c .match .keys2
 
 returns : tie.Need-returns
 returns c = sym (ap (λ (r : Hang). onHang {A = ℕ} r (λ p e. p) 0) (sym (c .before .before .attach .ensures) ∙ c .enum-told .given .1))

@@ -7,7 +7,7 @@ use Rattle.edit.proofs.rows.put_rows.Statement.{statement}
 use Rattle.edit.proofs.rows.put_rows.Tie as tie
 
 lines-in-requires : tie.Need-lines-in-requires
-lines-in-requires c κs = search needs
+lines-in-requires c κs = tt
 
 put-kept-requires : tie.Need-put-kept-requires
 put-kept-requires c κs = search needs

@@ -11,7 +11,7 @@ use Rattle.edit.proofs.stores.entries_before.Statement.{statement}
 use Rattle.edit.proofs.stores.entries_before.Tie as tie
 
 lines-in-requires : tie.Need-lines-in-requires
-lines-in-requires c κs = search needs
+lines-in-requires c κs = tt
 
 cast-first-entry : tie.Need-cast-first-entry
 cast-first-entry c = search needs
@@ -28,7 +28,7 @@ returns c =
     (e, omega (arith, e, entries-below b s (a .k) (c .before .before .before .before .pre .1)))
 
 moves-in-requires : tie.Need-moves-in-requires
-moves-in-requires c κs = search needs
+moves-in-requires c κs = tt
 
 returns-2 : tie.Need-returns-2
 returns-2 c =

@@ -1,5 +1,6 @@
 -- Head, position, header entries, rows and entries are stored each at its place, and together they are the block.
 -- Assumes nothing.
+use native.Mathlib.Nat.{le-refl}
 use native.Mathlib.Omega.{arith}
 use borrow.Author.Needs.{needs}
 use Rattle.edit.proofs.Assembled.{reckoned, position-room, front-stored, headers-fit, entries-unfilled, block-stored}
@@ -7,7 +8,7 @@ use Rattle.edit.proofs.stores.fill.Statement.{statement}
 use Rattle.edit.proofs.stores.fill.Tie as tie
 
 headers-in-requires : tie.Need-headers-in-requires
-headers-in-requires c κs = search needs
+headers-in-requires c κs = tt
 
 mul-lines : tie.Need-mul-lines
 mul-lines c = search needs
@@ -102,10 +103,10 @@ part-put-position-start c =
     position-room (a .args .b .now) (h .0 .0) (a .args .p) (a .args .q) (a .args .t .now) (h .0 .1, h .0 .2) (h .1 .0) m (a .args .out .now) (h .1 .1 .1) (c .before .before .put-head .ensures)
 
 part-put-position-end : tie.Need-part-put-position-end
-part-put-position-end c = search needs
+part-put-position-end c = le-refl _
 
 position-of-requires : tie.Need-position-of-requires
-position-of-requires c κs = search needs
+position-of-requires c κs = tt
 
 put-position-requires : tie.Need-put-position-requires
 put-position-requires c κs = search needs
@@ -119,7 +120,7 @@ copy-headers-requires c κs =
     headers-fit (a .args .b .now) (h .0 .0) (a .args .p) (a .args .q) (a .args .t .now) (h .0 .1, h .0 .2) (h .1 .0) m (a .args .out .now) (h .1 .1 .1) one
 
 put-at-requires : tie.Need-put-at-requires
-put-at-requires c κs = search needs
+put-at-requires c κs = tt
 
 fill-entries-requires : tie.Need-fill-entries-requires
 fill-entries-requires c κs =

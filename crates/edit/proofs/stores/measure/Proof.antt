@@ -15,7 +15,7 @@ entries-before-requires-2 : tie.Need-entries-before-requires-2
 entries-before-requires-2 c κs = search needs
 
 moves-in-requires : tie.Need-moves-in-requires
-moves-in-requires c κs = search needs
+moves-in-requires c κs = tt
 
 sub-rest : tie.Need-sub-rest
 sub-rest c = search needs

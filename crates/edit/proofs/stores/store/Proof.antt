@@ -13,7 +13,7 @@ measure-requires : tie.Need-measure-requires
 measure-requires c κs = search needs
 
 headers-in-requires : tie.Need-headers-in-requires
-headers-in-requires c κs = search needs
+headers-in-requires c κs = tt
 
 mul-total : tie.Need-mul-total
 mul-total c = search needs
@@ -56,7 +56,7 @@ add-total-4 c =
     omega (arith, k, c .before .before .before .before .measure .ensures .1, c .before .before .before .headers-in .ensures .1)
 
 header-bytes-requires : tie.Need-header-bytes-requires
-header-bytes-requires c κs = search needs
+header-bytes-requires c κs = tt
 
 add-total-5 : tie.Need-add-total-5
 add-total-5 c = search needs
