@@ -3,17 +3,22 @@ use crate::notes;
 use jkf::Figures;
 use libc::STDERR_FILENO;
 
-// The kinds that can be held, in the order of the hands.
+// The kinds that can be held, in the order of the hands: rows of 8 bytes.
 fn say_kind(kind: u64) -> bool {
-    match kind {
-        0 => io::write_all(STDERR_FILENO, b"pawns"),
-        1 => io::write_all(STDERR_FILENO, b"lances"),
-        2 => io::write_all(STDERR_FILENO, b"knights"),
-        3 => io::write_all(STDERR_FILENO, b"silvers"),
-        4 => io::write_all(STDERR_FILENO, b"golds"),
-        5 => io::write_all(STDERR_FILENO, b"bishops"),
-        _ => io::write_all(STDERR_FILENO, b"rooks"),
-    }
+    let at = if kind < 6 { 8 * (kind as usize) } else { 48 };
+    io::write_all(
+        STDERR_FILENO,
+        shown::text_at(
+            b"\x05pawns  \
+              \x06lances \
+              \x07knights\
+              \x07silvers\
+              \x05golds  \
+              \x07bishops\
+              \x05rooks  ",
+            at,
+        ),
+    )
 }
 
 // A count that cannot be written.
@@ -28,74 +33,75 @@ fn say_hand(side: u64, kind: u64) -> bool {
     io::write_all(STDERR_FILENO, b" in hand")
 }
 
-// A sentence with one figure.
-fn one(before: &[u8], x: u64, after: &[u8]) -> bool {
-    notes::say(STDERR_FILENO, before, x, after)
-}
-
-// A sentence with two.
-fn two(before: &[u8], x: u64, between: &[u8], y: u64, after: &[u8]) -> bool {
-    notes::say_two(STDERR_FILENO, before, x, between, y, after)
-}
-
-// Refusals of a text.
-fn say_of_text(number: u64, x: u64, y: u64) -> bool {
-    match number {
-        1 => one(b"the text has ", x, b" bytes or more; 65535 is the most"),
-        2 => one(b"the text is not UTF-8 after its first ", x, b" bytes"),
-        3 => one(b"the hand line at byte ", x, b" cannot be read"),
-        4 => one(b"the block would have ", x, b" bytes; 65535 is the most"),
-        5 => one(b"the result has ", x, b" bytes, and there is no room"),
-        _ => two(
-            b"variation ",
-            x,
-            b" starts at ply ",
-            y,
-            b", where nothing stands that it could hang on",
-        ),
+// The place of the first #, or the end.
+fn mark(t: &[u8]) -> usize {
+    let mut i = 0;
+    while i < t.len() {
+        if t[i] == b'#' {
+            return i;
+        }
+        i += 1;
     }
+    i
 }
 
-// Refusals of a block.
-fn say_of_block(number: u64, x: u64, y: u64) -> bool {
-    match number {
-        7 => io::write_all(STDERR_FILENO, b"this is not a sound block"),
-        8 => say_hand(x, y),
-        9 => two(
-            b"line ",
-            x,
-            b", entry ",
-            y,
-            b" cannot be written: its square is off the board, or its time has no room beside it",
-        ),
-        _ => one(b"there is no such line: ", x, b""),
+// The end of a sentence, with a figure in the place of its mark, if it has one.
+fn say_end(t: &[u8], y: u64) -> bool {
+    let at = mark(t);
+    if t.len() <= at {
+        return io::write_all(STDERR_FILENO, t);
     }
+    notes::say(STDERR_FILENO, shown::front(t, at), y, &t[at + 1..])
 }
 
-// Refusals of an edit.
-fn say_of_edit(number: u64, x: u64, y: u64) -> bool {
-    match number {
-        11 => io::write_all(STDERR_FILENO, b"the text is not one variation"),
-        12 => two(b"line ", x, b" has no ply ", y, b" to put a variation at"),
-        13 => two(b"line ", x, b", ply ", y, b" already carries a variation"),
-        _ => one(b"the parent of line ", x, b" would change"),
+// A sentence, with its figures in the places of its marks: two, one or none.
+fn say(t: &[u8], x: u64, y: u64) -> bool {
+    let at = mark(t);
+    if t.len() <= at {
+        return io::write_all(STDERR_FILENO, t);
     }
+    io::write_all(STDERR_FILENO, shown::front(t, at));
+    io::print_decimal(STDERR_FILENO, x);
+    say_end(&t[at + 1..], y)
 }
 
-// The table.
+// The sentences by their numbers: rows of 98 bytes. That of refusal 8 names a side and a kind.
 fn say_refusal(number: u64, x: u64, y: u64) -> bool {
-    if number <= 6 {
-        return say_of_text(number, x, y);
+    if number == 8 {
+        return say_hand(x, y);
     }
-    if number <= 10 {
-        return say_of_block(number, x, y);
-    }
-    say_of_edit(number, x, y)
+    let at = if number < 14 {
+        98 * (number as usize)
+    } else {
+        1372
+    };
+    say(
+        shown::text_at(
+            b"\x00                                                                                                 \
+              \x2fthe text has # bytes or more; 65535 is the most                                                  \
+              \x2dthe text is not UTF-8 after its first # bytes                                                    \
+              \x26the hand line at byte # cannot be read                                                           \
+              \x2fthe block would have # bytes; 65535 is the most                                                  \
+              \x2cthe result has # bytes, and there is no room                                                     \
+              \x47variation # starts at ply #, where nothing stands that it could hang on                          \
+              \x19this is not a sound block                                                                        \
+              \x00                                                                                                 \
+              \x61line #, entry # cannot be written: its square is off the board, or its time has no room beside it\
+              \x18there is no such line: #                                                                         \
+              \x1dthe text is not one variation                                                                    \
+              \x29line # has no ply # to put a variation at                                                        \
+              \x29line #, ply # already carries a variation                                                        \
+              \x21the parent of line # would change                                                                ",
+            at,
+        ),
+        x,
+        y,
+    )
 }
 
 // Says in a line why a file was refused.
 pub(crate) fn tell(name: &[u8], f: Figures) {
     notes::say_name(b"kifu: refused: ", name);
     say_refusal(f.number, f.first, f.second);
-    one(b" (refusal ", f.number, b")\n");
+    notes::say(STDERR_FILENO, b" (refusal ", f.number, b")\n");
 }

@@ -23,7 +23,21 @@ pub enum Line {
     NoNumber,
 }
 
-// What the first word asks for.
+// What the first word asks for, of the words for an edit and for help.
+fn later_word_of(w: &[u8]) -> Word {
+    if check::same(w, b"put") {
+        return Word::Put;
+    }
+    if check::same(w, b"cut") {
+        return Word::Cut;
+    }
+    if check::same(w, b"help") {
+        return Word::Help;
+    }
+    Word::Unknown
+}
+
+// What the first word asks for, of all.
 pub(crate) fn word_of(w: &[u8]) -> Word {
     if check::same(w, b"list") {
         return Word::List;
@@ -40,16 +54,7 @@ pub(crate) fn word_of(w: &[u8]) -> Word {
     if check::same(w, b"check") {
         return Word::Check;
     }
-    if check::same(w, b"put") {
-        return Word::Put;
-    }
-    if check::same(w, b"cut") {
-        return Word::Cut;
-    }
-    if check::same(w, b"help") {
-        return Word::Help;
-    }
-    Word::Unknown
+    later_word_of(w)
 }
 
 // How many words there are with it, the program's name and itself among them.
@@ -93,39 +98,36 @@ pub(crate) fn line_of(word: Word) -> Line {
     }
 }
 
-// How a word is used, in a line.
-fn print_usage(fd: i32, word: Word) -> bool {
+// Where its row begins in the table of uses.
+fn use_of(word: Word) -> usize {
     match word {
-        Word::List => io::write_all(
-            fd,
-            b"kifu list FILE                the lines of play of a KIF file: number, start, entries, parent\n",
-        ),
-        Word::Tidy => io::write_all(
-            fd,
-            b"kifu tidy FILE                the file read and written anew, to standard output\n",
-        ),
-        Word::Block => io::write_all(
-            fd,
-            b"kifu block FILE OUT           the file's block, into the new file OUT\n",
-        ),
-        Word::Text => io::write_all(
-            fd,
-            b"kifu text BLOCK               a block's file as KIF text, to standard output\n",
-        ),
-        Word::Check => io::write_all(
-            fd,
-            b"kifu check FILE               how much of the file was taken, and what it holds\n",
-        ),
-        Word::Put => io::write_all(
-            fd,
-            b"kifu put FILE LINE VARIATION  the file with a variation put into a line, to standard output\n",
-        ),
-        Word::Cut => io::write_all(
-            fd,
-            b"kifu cut FILE LINE            the file without a line and all that hangs from it, to standard output\n",
-        ),
-        _ => io::write_all(fd, b"kifu help                     these lines\n"),
+        Word::List => 0,
+        Word::Tidy => 102,
+        Word::Block => 204,
+        Word::Text => 306,
+        Word::Check => 408,
+        Word::Put => 510,
+        Word::Cut => 612,
+        _ => 714,
     }
+}
+
+// How a word is used, in a line: rows of 102 bytes.
+fn print_usage(fd: i32, word: Word) -> bool {
+    io::write_all(
+        fd,
+        shown::text_at(
+            b"\x5ekifu list FILE                the lines of play of a KIF file: number, start, entries, parent\n       \
+              \x51kifu tidy FILE                the file read and written anew, to standard output\n                    \
+              \x46kifu block FILE OUT           the file's block, into the new file OUT\n                               \
+              \x4dkifu text BLOCK               a block's file as KIF text, to standard output\n                        \
+              \x50kifu check FILE               how much of the file was taken, and what it holds\n                     \
+              \x5ckifu put FILE LINE VARIATION  the file with a variation put into a line, to standard output\n         \
+              \x65kifu cut FILE LINE            the file without a line and all that hangs from it, to standard output\n\
+              \x2akifu help                     these lines\n                                                           ",
+            use_of(word),
+        ),
+    )
 }
 
 // Says how a word is used that came with too few words, too many or a line that is no number.

@@ -4,8 +4,8 @@ mod rows;
 pub use rows::put_read;
 pub use rows::put_refusal;
 ghost use mathlib.Core.Path.{_≡_};
-ghost use Prim.Native.Nat.{_*_, _≤_, _<_};
-ghost use lib.ListN.{length, take};
+ghost use Prim.Native.Nat.{_+_, _*_, _≤_, _<_};
+ghost use lib.ListN.{length, take, drop, getD};
 ghost use Rattle.lent.specs.Bytes.{Wrote};
 ghost use Rattle.shown.specs.Listing.{lineText, linesText, listed};
 
@@ -17,6 +17,16 @@ pub fn front(s: &[u8], n: usize) -> &[u8]
         return s;
     }
     &s[..n]
+}
+
+// The text that a table has at a place: how many bytes it has, and these. Nothing past the end.
+pub fn text_at(table: &[u8], at: usize) -> &[u8]
+    ensures { λ r. ⌜ now r ≡ take (getD (now (table .entry)) at 0) (drop (at + 1) (now (table .entry))) ⌝ }
+{
+    if table.len() <= at {
+        return &table[..0];
+    }
+    front(&table[at + 1..], lent::wide(table[at]))
 }
 
 // Line k of a block, for which there is room: each of its numbers has at most 5 digits.

@@ -1,5 +1,6 @@
 -- The loop has written the lines passed, in at most 48 bytes each; one line more is the text so far with that line behind it.
 -- Assumes nothing.
+use native.Mathlib.Nat.{le-refl}
 use Prim.Native.Nat.{_*_, _-_, _≤_, zero-le}
 use native.Mathlib.Omega.{arith}
 use mathlib.Core.Path.{_≡_}
@@ -30,7 +31,7 @@ part-put-line-start c =
     search needs
 
 part-put-line-end : tie.Need-part-put-line-end Inv-loop μ-loop
-part-put-line-end c = search needs
+part-put-line-end c = le-refl _
 
 cast-put-line : tie.Need-cast-put-line Inv-loop μ-loop
 cast-put-line c = search needs

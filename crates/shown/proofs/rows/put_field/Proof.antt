@@ -1,5 +1,6 @@
 -- The word has room where both have, and the number has what is left.
 -- Assumes nothing.
+use native.Mathlib.Nat.{le-refl}
 use denote.Ref.{now}
 use borrow.Author.Needs.{needs}
 use Rattle.lent.specs.Numbers.{decimal}
@@ -9,19 +10,19 @@ use Rattle.shown.proofs.rows.put_field.Statement.{statement}
 use Rattle.shown.proofs.rows.put_field.Tie as tie
 
 put-bytes-requires : tie.Need-put-bytes-requires
-put-bytes-requires c κs = search needs
+put-bytes-requires c κs = tt
 
 sub-put-decimal : tie.Need-sub-put-decimal
 sub-put-decimal c = search needs
 
 part-put-decimal-start : tie.Need-part-put-decimal-start
-part-put-decimal-start c = search needs
+part-put-decimal-start c = sub-put-decimal c
 
 part-put-decimal-end : tie.Need-part-put-decimal-end
-part-put-decimal-end c = search needs
+part-put-decimal-end c = le-refl _
 
 put-decimal-requires : tie.Need-put-decimal-requires
-put-decimal-requires c κs = search needs
+put-decimal-requires c κs = tt
 
 add-result : tie.Need-add-result
 add-result c = search needs

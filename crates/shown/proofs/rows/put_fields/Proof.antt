@@ -1,5 +1,6 @@
 -- The first field has room where both have, and the second has what is left.
 -- Assumes nothing.
+use native.Mathlib.Nat.{le-refl}
 use denote.Ref.{now}
 use borrow.Author.Needs.{needs}
 use Rattle.lent.proofs.Writes.{then, wrote-length}
@@ -17,10 +18,10 @@ sub-put-field : tie.Need-sub-put-field
 sub-put-field c = search needs
 
 part-put-field-start : tie.Need-part-put-field-start
-part-put-field-start c = search needs
+part-put-field-start c = sub-put-field c
 
 part-put-field-end : tie.Need-part-put-field-end
-part-put-field-end c = search needs
+part-put-field-end c = le-refl _
 
 put-field-requires-2 : tie.Need-put-field-requires-2
 put-field-requires-2 c κs =

@@ -1,5 +1,7 @@
 -- The number has room where all three have, and both figures have what is left.
 -- Assumes nothing.
+use mathlib.Core.Path.{refl}
+use native.Mathlib.Nat.{le-refl}
 use borrow.Author.Needs.{needs}
 use Rattle.lent.proofs.Writes.{then, wrote-length}
 use Rattle.shown.specs.Listing.{field, lastFields, refusedTag, spaceTag, refusalText}
@@ -8,7 +10,7 @@ use Rattle.shown.proofs.rows.put_figures.Statement.{statement}
 use Rattle.shown.proofs.rows.put_figures.Tie as tie
 
 slice-aggregate-put-field : tie.Need-slice-aggregate-put-field
-slice-aggregate-put-field c = search needs
+slice-aggregate-put-field c = refl
 
 put-field-requires : tie.Need-put-field-requires
 unfolding refusalText
@@ -20,16 +22,16 @@ sub-put-last : tie.Need-sub-put-last
 sub-put-last c = search needs
 
 part-put-last-start : tie.Need-part-put-last-start
-part-put-last-start c = search needs
+part-put-last-start c = sub-put-last c
 
 part-put-last-end : tie.Need-part-put-last-end
-part-put-last-end c = search needs
+part-put-last-end c = le-refl _
 
 slice-aggregate-put-last : tie.Need-slice-aggregate-put-last
-slice-aggregate-put-last c = search needs
+slice-aggregate-put-last c = refl
 
 slice-aggregate-put-last-2 : tie.Need-slice-aggregate-put-last-2
-slice-aggregate-put-last-2 c = search needs
+slice-aggregate-put-last-2 c = refl
 
 put-last-requires : tie.Need-put-last-requires
 unfolding refusalText

@@ -1,5 +1,7 @@
 -- Both fields have room where the line has, and its end has what is left.
 -- Assumes nothing.
+use mathlib.Core.Path.{refl}
+use native.Mathlib.Nat.{le-refl}
 use Rattle.lent.proofs.Writes.{wrote-length}
 use mathlib.Core.List.{[], _∷_}
 use denote.Ref.{now}
@@ -18,16 +20,16 @@ sub-put-bytes : tie.Need-sub-put-bytes
 sub-put-bytes c = search needs
 
 part-put-bytes-start : tie.Need-part-put-bytes-start
-part-put-bytes-start c = search needs
+part-put-bytes-start c = sub-put-bytes c
 
 part-put-bytes-end : tie.Need-part-put-bytes-end
-part-put-bytes-end c = search needs
+part-put-bytes-end c = le-refl _
 
 slice-aggregate-put-bytes : tie.Need-slice-aggregate-put-bytes
-slice-aggregate-put-bytes c = search needs
+slice-aggregate-put-bytes c = refl
 
 put-bytes-requires : tie.Need-put-bytes-requires
-put-bytes-requires c κs = search needs
+put-bytes-requires c κs = tt
 
 add-result : tie.Need-add-result
 add-result c = search needs

@@ -1,7 +1,7 @@
 -- The digits are counted before anything is written: a number below 2^64 has at most 20.
 -- Assumes nothing.
+use mathlib.Core.Path.{refl}
 use native.Mathlib.Omega.{arith}
-use borrow.Author.Needs.{needs}
 use Rattle.lent.proofs.Writes.{unwritten, wrote-length}
 use Rattle.lent.proofs.Digits.{digits-twenty}
 use Rattle.shown.proofs.Texts.{read-length, read-room, read-wrote}
@@ -9,13 +9,13 @@ use Rattle.shown.proofs.rows.put_read.Statement.{statement}
 use Rattle.shown.proofs.rows.put_read.Tie as tie
 
 decimal-len-requires : tie.Need-decimal-len-requires
-decimal-len-requires c κs = search needs
+decimal-len-requires c κs = tt
 
 add-if1 : tie.Need-add-if1
 add-if1 c = omega (arith, digits-twenty (c .before .before .args .taken) (omega arith))
 
 decimal-len-requires-2 : tie.Need-decimal-len-requires-2
-decimal-len-requires-2 c κs = search needs
+decimal-len-requires-2 c κs = tt
 
 add-if1-2 : tie.Need-add-if1-2
 add-if1-2 c = omega (arith, digits-twenty (c .before .before .before .args .taken) (omega arith), digits-twenty (c .before .before .before .args .len) (omega arith))
@@ -24,10 +24,10 @@ returns : tie.Need-returns
 returns c = unwritten _ _ (omega (arith, read-length (c .before .before .before .before .args .taken) (c .before .before .before .before .args .len)))
 
 slice-aggregate-put-last : tie.Need-slice-aggregate-put-last
-slice-aggregate-put-last c = search needs
+slice-aggregate-put-last c = refl
 
 slice-aggregate-put-last-2 : tie.Need-slice-aggregate-put-last-2
-slice-aggregate-put-last-2 c = search needs
+slice-aggregate-put-last-2 c = refl
 
 put-last-requires : tie.Need-put-last-requires
 put-last-requires c κs = read-room (c .before .before .before .before .before .before .before .args .taken) (c .before .before .before .before .before .before .before .args .len) (omega arith)

@@ -1,7 +1,6 @@
 -- The digits are counted before anything is written: a number below 2^64 has at most 20.
 -- Assumes nothing.
 use native.Mathlib.Omega.{arith}
-use borrow.Author.Needs.{needs}
 use Rattle.lent.proofs.Writes.{unwritten, written, wrote-length}
 use Rattle.lent.proofs.Digits.{digits-twenty}
 use Rattle.shown.proofs.Texts.{refusal-length}
@@ -9,10 +8,10 @@ use Rattle.shown.proofs.rows.put_refusal.Statement.{statement}
 use Rattle.shown.proofs.rows.put_refusal.Tie as tie
 
 decimal-len-requires : tie.Need-decimal-len-requires
-decimal-len-requires c κs = search needs
+decimal-len-requires c κs = tt
 
 decimal-len-requires-2 : tie.Need-decimal-len-requires-2
-decimal-len-requires-2 c κs = search needs
+decimal-len-requires-2 c κs = tt
 
 add-digits : tie.Need-add-digits
 add-digits c =
@@ -20,7 +19,7 @@ add-digits c =
     omega (arith, digits-twenty (a .number) (omega arith), digits-twenty (a .first) (omega arith))
 
 decimal-len-requires-3 : tie.Need-decimal-len-requires-3
-decimal-len-requires-3 c κs = search needs
+decimal-len-requires-3 c κs = tt
 
 add-digits-2 : tie.Need-add-digits-2
 add-digits-2 c =

@@ -1,5 +1,7 @@
 -- The first two fields have room where the line has, and the last two have what is left.
 -- Assumes nothing.
+use mathlib.Core.Path.{refl}
+use native.Mathlib.Nat.{le-refl}
 use borrow.Author.Needs.{needs}
 use Rattle.lent.proofs.Writes.{then, wrote-length}
 use Rattle.shown.specs.Listing.{fields, lastFields, lineTag, startTag, movesTag, parentTag, rowText}
@@ -8,10 +10,10 @@ use Rattle.shown.proofs.rows.put_row.Statement.{statement}
 use Rattle.shown.proofs.rows.put_row.Tie as tie
 
 slice-aggregate-put-fields : tie.Need-slice-aggregate-put-fields
-slice-aggregate-put-fields c = search needs
+slice-aggregate-put-fields c = refl
 
 slice-aggregate-put-fields-2 : tie.Need-slice-aggregate-put-fields-2
-slice-aggregate-put-fields-2 c = search needs
+slice-aggregate-put-fields-2 c = refl
 
 put-fields-requires : tie.Need-put-fields-requires
 unfolding rowText
@@ -23,16 +25,16 @@ sub-put-last : tie.Need-sub-put-last
 sub-put-last c = search needs
 
 part-put-last-start : tie.Need-part-put-last-start
-part-put-last-start c = search needs
+part-put-last-start c = sub-put-last c
 
 part-put-last-end : tie.Need-part-put-last-end
-part-put-last-end c = search needs
+part-put-last-end c = le-refl _
 
 slice-aggregate-put-last : tie.Need-slice-aggregate-put-last
-slice-aggregate-put-last c = search needs
+slice-aggregate-put-last c = refl
 
 slice-aggregate-put-last-2 : tie.Need-slice-aggregate-put-last-2
-slice-aggregate-put-last-2 c = search needs
+slice-aggregate-put-last-2 c = refl
 
 put-last-requires : tie.Need-put-last-requires
 unfolding rowText
