@@ -62,31 +62,34 @@ fn place_of(kind: u8) -> usize {
     }
 }
 
-// A row is a name's length and the name, with zeros to 32 bytes.
-const NAMES: [u8; 608] =
-    *b"\x0cUTF-8 counts\x00\x00\x00\x00\x00\x00\x00\x00\x00\x00\x00\x00\x00\x00\x00\x00\x00\x00\x00\x1eblanks, padding, tails, breaks\x00\x0cnumbers read\x00\x00\x00\x00\x00\x00\x00\x00\x00\x00\x00\x00\x00\x00\x00\x00\x00\x00\x00\x0espellings read\x00\x00\x00\x00\x00\x00\x00\x00\x00\x00\x00\x00\x00\x00\x00\x00\x00\x0dnumerals read\x00\x00\x00\x00\x00\x00\x00\x00\x00\x00\x00\x00\x00\x00\x00\x00\x00\x00\x10hand counts read\x00\x00\x00\x00\x00\x00\x00\x00\x00\x00\x00\x00\x00\x00\x00\x11spellings written\x00\x00\x00\x00\x00\x00\x00\x00\x00\x00\x00\x00\x00\x00\x13hand counts written\x00\x00\x00\x00\x00\x00\x00\x00\x00\x00\x00\x00\x0fnumbers written\x00\x00\x00\x00\x00\x00\x00\x00\x00\x00\x00\x00\x00\x00\x00\x00\x14blocks, sound or not\x00\x00\x00\x00\x00\x00\x00\x00\x00\x00\x00\x08look-ups\x00\x00\x00\x00\x00\x00\x00\x00\x00\x00\x00\x00\x00\x00\x00\x00\x00\x00\x00\x00\x00\x00\x00\x0amove lines\x00\x00\x00\x00\x00\x00\x00\x00\x00\x00\x00\x00\x00\x00\x00\x00\x00\x00\x00\x00\x00\x08comments\x00\x00\x00\x00\x00\x00\x00\x00\x00\x00\x00\x00\x00\x00\x00\x00\x00\x00\x00\x00\x00\x00\x00\x0askip lines\x00\x00\x00\x00\x00\x00\x00\x00\x00\x00\x00\x00\x00\x00\x00\x00\x00\x00\x00\x00\x00\x0atexts read\x00\x00\x00\x00\x00\x00\x00\x00\x00\x00\x00\x00\x00\x00\x00\x00\x00\x00\x00\x00\x00\x0eblocks written\x00\x00\x00\x00\x00\x00\x00\x00\x00\x00\x00\x00\x00\x00\x00\x00\x00\x11variations put in\x00\x00\x00\x00\x00\x00\x00\x00\x00\x00\x00\x00\x00\x00\x09lines cut\x00\x00\x00\x00\x00\x00\x00\x00\x00\x00\x00\x00\x00\x00\x00\x00\x00\x00\x00\x00\x00\x00\x0fof unknown kind\x00\x00\x00\x00\x00\x00\x00\x00\x00\x00\x00\x00\x00\x00\x00\x00";
-
-// The name in a row of a table, or nothing.
-fn named(table: &[u8], k: usize) -> &[u8] {
-    if 255 < k {
-        return &table[..0];
-    }
-    let at = k * 32;
-    if table.len() <= at {
-        return &table[..0];
-    }
-    let e = at + 1 + lent::wide(table[at]);
-    if table.len() < e {
-        return &table[..0];
-    }
-    &table[at + 1..e]
-}
-
-// The name of the kind at a place of the tally.
+// The name of the kind at a place of the tally: rows of 32 bytes.
 fn print_name(place: usize) {
-    let k = if place < 18 { place } else { 18 };
-    let names = NAMES;
-    io::write_all(STDOUT_FILENO, named(&names, k));
+    let at = if place < 18 { 32 * place } else { 576 };
+    io::write_all(
+        STDOUT_FILENO,
+        shown::text_at(
+            b"\x0cUTF-8 counts                   \
+              \x1eblanks, padding, tails, breaks \
+              \x0cnumbers read                   \
+              \x0espellings read                 \
+              \x0dnumerals read                  \
+              \x10hand counts read               \
+              \x11spellings written              \
+              \x13hand counts written            \
+              \x0fnumbers written                \
+              \x14blocks, sound or not           \
+              \x08look-ups                       \
+              \x0amove lines                     \
+              \x08comments                       \
+              \x0askip lines                     \
+              \x0atexts read                     \
+              \x0eblocks written                 \
+              \x11variations put in              \
+              \x09lines cut                      \
+              \x0fof unknown kind                ",
+            at,
+        ),
+    );
 }
 
 // Fills the front of out with the library's answer to a request, and answers how many bytes it has.
