@@ -1,23 +1,23 @@
 -- The two tests are the definition's.
 -- Assumes nothing.
+use mathlib.Core.Path.{refl}
 use borrow.Author.Tests.{eq-eqb, ne-eqb}
-use borrow.Author.Needs.{needs}
 use Rattle.text.specs.Text.{padWidth}
 use Rattle.text.proofs.pad_width.Statement.{statement}
 use Rattle.text.proofs.pad_width.Tie as tie
 
 peek-requires : tie.Need-peek-requires
-peek-requires c κs = search needs
+peek-requires c κs = tt
 
 returns : tie.Need-returns
 unfolding padWidth
 returns c = rw (← c .before .peek .ensures, eq-eqb _ _ (c .if1 .taken))
 
 slice-aggregate-stands : tie.Need-slice-aggregate-stands
-slice-aggregate-stands c = search needs
+slice-aggregate-stands c = refl
 
 stands-requires : tie.Need-stands-requires
-stands-requires c κs = search needs
+stands-requires c κs = tt
 
 returns-2 : tie.Need-returns-2
 unfolding padWidth

@@ -12,7 +12,7 @@ shared-slice-read-plain-one : tie.Need-shared-slice-read-plain-one
 shared-slice-read-plain-one c = search needs
 
 plain-one-requires : tie.Need-plain-one-requires
-plain-one-requires c κs = search needs
+plain-one-requires c κs = tt
 
 add-plain-one : tie.Need-add-plain-one
 add-plain-one c = search needs
@@ -21,7 +21,7 @@ shared-slice-read-plain-one-2 : tie.Need-shared-slice-read-plain-one-2
 shared-slice-read-plain-one-2 c = search needs
 
 plain-one-requires-2 : tie.Need-plain-one-requires-2
-plain-one-requires-2 c κs = search needs
+plain-one-requires-2 c κs = tt
 
 add-result : tie.Need-add-result
 add-result c = search needs
@@ -33,7 +33,7 @@ shared-slice-read-plain-one-3 : tie.Need-shared-slice-read-plain-one-3
 shared-slice-read-plain-one-3 c = search needs
 
 plain-one-requires-3 : tie.Need-plain-one-requires-3
-plain-one-requires-3 c κs = search needs
+plain-one-requires-3 c κs = tt
 
 add-result-2 : tie.Need-add-result-2
 add-result-2 c = search needs
@@ -45,7 +45,7 @@ shared-slice-read-plain-one-4 : tie.Need-shared-slice-read-plain-one-4
 shared-slice-read-plain-one-4 c = search needs
 
 plain-one-requires-4 : tie.Need-plain-one-requires-4
-plain-one-requires-4 c κs = search needs
+plain-one-requires-4 c κs = tt
 
 add-result-3 : tie.Need-add-result-3
 add-result-3 c = search needs

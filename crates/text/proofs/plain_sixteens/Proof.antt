@@ -3,7 +3,6 @@
 use Prim.Native.Nat.{_-_}
 use native.Mathlib.Omega.{arith}
 use lib.ListN.{length}
-use borrow.Author.Needs.{needs}
 use Rattle.text.specs.Runs.{Run}
 use Rattle.text.specs.Text.{textAt}
 use Rattle.text.proofs.Passing.{run-none, run-on}
@@ -20,7 +19,7 @@ loop-holds : tie.Need-loop-holds Inv-loop μ-loop
 loop-holds c = run-none _ _ _
 
 is-plain-requires : tie.Need-is-plain-requires Inv-loop μ-loop
-is-plain-requires c κs = search needs
+is-plain-requires c κs = tt
 
 add-at : tie.Need-add-at Inv-loop μ-loop
 add-at c = let t = c .before .is-plain .ensures (c .if1 .taken) in omega (arith, t .within)

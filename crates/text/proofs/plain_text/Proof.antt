@@ -3,7 +3,6 @@
 use Prim.Native.Nat.{_-_, _≤_}
 use native.Mathlib.Omega.{arith}
 use lib.ListN.{length}
-use borrow.Author.Needs.{needs}
 use Rattle.text.specs.Runs.{Run}
 use Rattle.text.specs.Text.{textAt}
 use Rattle.text.proofs.Passing.{run-none, run-on}
@@ -20,13 +19,13 @@ returns : tie.Need-returns Inv-loop μ-loop
 returns c = run-none _ _ _
 
 plain-sixteens-requires : tie.Need-plain-sixteens-requires Inv-loop μ-loop
-plain-sixteens-requires c κs = search needs
+plain-sixteens-requires c κs = tt
 
 loop-holds : tie.Need-loop-holds Inv-loop μ-loop
 loop-holds c = (c .plain-sixteens .ensures, omega arith)
 
 text-of-eight-requires : tie.Need-text-of-eight-requires Inv-loop μ-loop
-text-of-eight-requires c κs = search needs
+text-of-eight-requires c κs = tt
 
 add-if2 : tie.Need-add-if2 Inv-loop μ-loop
 add-if2 c = omega arith

@@ -4,7 +4,6 @@ use Prim.Native.Nat.{_-_}
 use native.Mathlib.Omega.{arith}
 use mathlib.Core.Path.{_≡_, refl, sym, _∙_}
 use lib.ListN.{length}
-use borrow.Author.Needs.{needs}
 use borrow.Author.Tests.{not-true, not-false}
 use Rattle.text.specs.Text.{blanksAt}
 use Rattle.text.proofs.Laws.{span-end, span-on, span-off}
@@ -24,7 +23,7 @@ shared-slice-read-is-blank : tie.Need-shared-slice-read-is-blank Inv-loop μ-loo
 shared-slice-read-is-blank c = omega arith
 
 is-blank-requires : tie.Need-is-blank-requires Inv-loop μ-loop
-is-blank-requires c κs = search needs
+is-blank-requires c κs = tt
 
 returns : tie.Need-returns Inv-loop μ-loop
 returns c =

@@ -2,14 +2,13 @@
 -- Assumes nothing.
 use native.Mathlib.Omega.{arith}
 use borrow.Author.Tests.{eq-eqb, ne-eqb}
-use borrow.Author.Needs.{needs}
 use Rattle.text.specs.Utf8.{charWidth, characterAt}
 use Rattle.text.proofs.Widths.{turn, char-within}
 use Rattle.text.proofs.Cursor.character.Statement.{statement}
 use Rattle.text.proofs.Cursor.character.Tie as tie
 
 char-width-requires : tie.Need-char-width-requires
-char-width-requires c κs = search needs
+char-width-requires c κs = tt
 
 returns : tie.Need-returns
 unfolding characterAt

@@ -4,7 +4,6 @@ use native.Mathlib.Omega.{arith}
 use mathlib.Core.Path.{_≡_, sym, _∙_}
 use mathlib.Core.Bool.{true}
 use denote.Ref.{now}
-use borrow.Author.Needs.{needs}
 use borrow.Author.Tests.{not-true, not-false}
 use Rattle.text.specs.Text.{isDigit}
 use Rattle.text.proofs.Laws.{digit-bounds}
@@ -26,10 +25,10 @@ returns : tie.Need-returns
 returns c = c .digits-on .ensures
 
 peek-requires : tie.Need-peek-requires
-peek-requires c κs = search needs
+peek-requires c κs = tt
 
 is-digit-requires : tie.Need-is-digit-requires
-is-digit-requires c κs = search needs
+is-digit-requires c κs = tt
 
 returns-2 : tie.Need-returns-2
 returns-2 c = sym (no-digit _ _ _ _ (c .before .before .peek .ensures) (sym (c .before .is-digit .ensures) ∙ not-true _ (c .if2 .taken)))
@@ -38,10 +37,10 @@ add-peek : tie.Need-add-peek
 add-peek c = omega (arith, digit-in (now (c .before .before .before .before .before .args .s)) (c .before .before .before .before .before .args .self .at) _ (c .before .before .peek .ensures) (first c))
 
 peek-requires-2 : tie.Need-peek-requires-2
-peek-requires-2 c κs = search needs
+peek-requires-2 c κs = tt
 
 is-digit-requires-2 : tie.Need-is-digit-requires-2
-is-digit-requires-2 c κs = search needs
+is-digit-requires-2 c κs = tt
 
 sub-t11 : tie.Need-sub-t11
 sub-t11 c = omega (arith, digit-bounds (c .before .before .before .before .before .peek .result) (first (c .before .before .before)))
@@ -74,10 +73,10 @@ add-peek-2 : tie.Need-add-peek-2
 add-peek-2 c = omega (arith, digit-in (now (c .before .before .before .before .before .before .before .before .args .s)) (c .before .before .before .before .before .before .before .before .args .self .at) _ (c .before .before .before .before .before .peek .ensures) (first (c .before .before .before)))
 
 peek-requires-3 : tie.Need-peek-requires-3
-peek-requires-3 c κs = search needs
+peek-requires-3 c κs = tt
 
 is-digit-requires-3 : tie.Need-is-digit-requires-3
-is-digit-requires-3 c κs = search needs
+is-digit-requires-3 c κs = tt
 
 add-digits-on : tie.Need-add-digits-on
 add-digits-on c = omega (arith, digit-in (now (c .before .before .before .before .before .before .before .before .before .before .before .args .s)) (c .before .before .before .before .before .before .before .before .before .before .before .args .self .at) _ (c .before .before .before .before .before .before .before .before .peek .ensures) (first (c .before .before .before .before .before .before)))

@@ -3,7 +3,6 @@
 use native.Mathlib.Omega.{arith}
 use mathlib.Core.Path.{sym, _∙_}
 use denote.Ref.{now}
-use borrow.Author.Needs.{needs}
 use Rattle.lists.proofs.Laws.{in-list}
 use Rattle.text.specs.Text.{lineEndAt}
 use Rattle.text.proofs.Laws.{line-end-here}
@@ -11,7 +10,7 @@ use Rattle.text.proofs.Cursor.line_end.Statement.{statement}
 use Rattle.text.proofs.Cursor.line_end.Tie as tie
 
 peek-requires : tie.Need-peek-requires
-peek-requires c κs = search needs
+peek-requires c κs = tt
 
 add-t7 : tie.Need-add-t7
 add-t7 c = omega (arith, in-list (now (c .before .before .before .args .s)) (c .before .before .before .args .self .at) (omega (arith, c .before .peek .ensures)))
@@ -20,20 +19,20 @@ returns : tie.Need-returns
 returns c = sym (line-end-here (now (c .before .before .before .args .s)) (c .before .before .before .args .self .at) (sym (c .before .peek .ensures) ∙ c .if1 .taken))
 
 tail-requires : tie.Need-tail-requires
-tail-requires c κs = search needs
+tail-requires c κs = tt
 
 enum-known-end : tie.Need-enum-known-end
-enum-known-end c = search needs
+enum-known-end c = c .match .keys1
 
 enum-told : tie.Need-enum-told
-enum-told c = search needs
+enum-told c = c .match .keys2
 
 returns-2 : tie.Need-returns-2
 unfolding lineEndAt
 returns-2 c = rw (← c .before .before .tail .ensures, c .enum-told .given .1)
 
 line-ending-requires : tie.Need-line-ending-requires
-line-ending-requires c κs = search needs
+line-ending-requires c κs = tt
 
 returns-3 : tie.Need-returns-3
 unfolding lineEndAt

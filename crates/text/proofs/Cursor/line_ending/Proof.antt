@@ -5,14 +5,13 @@ use native.Mathlib.Omega.{arith}
 use mathlib.Core.Path.{sym, _∙_}
 use denote.Ref.{now}
 use borrow.Author.Tests.{eq-eqb, ne-eqb}
-use borrow.Author.Needs.{needs}
 use Rattle.text.specs.Text.{breakAt}
 use Rattle.lists.proofs.Laws.{in-list}
 use Rattle.text.proofs.Cursor.line_ending.Statement.{statement}
 use Rattle.text.proofs.Cursor.line_ending.Tie as tie
 
 peek-requires : tie.Need-peek-requires
-peek-requires c κs = search needs
+peek-requires c κs = tt
 
 add-t6 : tie.Need-add-t6
 add-t6 c =
@@ -29,7 +28,7 @@ add-peek c =
     omega (arith, in-list (now (a .s)) (a .self .at) (omega arith))
 
 peek-requires-2 : tie.Need-peek-requires-2
-peek-requires-2 c κs = search needs
+peek-requires-2 c κs = tt
 
 add-t11 : tie.Need-add-t11
 add-t11 c =

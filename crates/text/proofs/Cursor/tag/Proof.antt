@@ -3,14 +3,13 @@
 use native.Mathlib.Omega.{arith}
 use mathlib.Core.Path.{sym, _∙_}
 use denote.Ref.{now}
-use borrow.Author.Needs.{needs}
 use Rattle.text.proofs.Laws.{stands-fits}
 use Rattle.text.specs.Text.{tagAt}
 use Rattle.text.proofs.Cursor.tag.Statement.{statement}
 use Rattle.text.proofs.Cursor.tag.Tie as tie
 
 stands-requires : tie.Need-stands-requires
-stands-requires c κs = search needs
+stands-requires c κs = tt
 
 add-t7 : tie.Need-add-t7
 add-t7 c = omega (arith, stands-fits (now (c .before .before .before .before .args .t)) (now (c .before .before .before .before .args .s)) (c .before .before .before .before .args .self .at) (sym (c .before .stands .ensures) ∙ c .if1 .taken))

@@ -4,17 +4,16 @@ use native.Mathlib.Omega.{arith}
 use mathlib.Core.Path.{sym, _∙_}
 use denote.Ref.{now}
 use borrow.Author.Tests.{eq-eqb, ne-eqb}
-use borrow.Author.Needs.{needs}
 use Rattle.text.specs.Text.{tailAt}
 use Rattle.lists.proofs.Laws.{in-list}
 use Rattle.text.proofs.Cursor.tail.Statement.{statement}
 use Rattle.text.proofs.Cursor.tail.Tie as tie
 
 text-requires : tie.Need-text-requires
-text-requires c κs = search needs
+text-requires c κs = tt
 
 peek-requires : tie.Need-peek-requires
-peek-requires c κs = search needs
+peek-requires c κs = tt
 
 add-peek : tie.Need-add-peek
 add-peek c =
@@ -22,7 +21,7 @@ add-peek c =
     omega (arith, in-list (now (t .before .before .args .s)) (t .text .result .at) (omega arith))
 
 peek-requires-2 : tie.Need-peek-requires-2
-peek-requires-2 c κs = search needs
+peek-requires-2 c κs = tt
 
 returns : tie.Need-returns
 unfolding tailAt

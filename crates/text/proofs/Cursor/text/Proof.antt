@@ -4,7 +4,6 @@ use Prim.Native.Nat.{_-_}
 use native.Mathlib.Omega.{arith}
 use mathlib.Core.Path.{_≡_, refl, sym, _∙_}
 use lib.ListN.{length}
-use borrow.Author.Needs.{needs}
 use borrow.Author.Tests.{not-true, not-false}
 use Rattle.text.specs.Text.{textAt}
 use Rattle.text.proofs.Laws.{span-end, span-on, span-off}
@@ -24,10 +23,10 @@ shared-slice-read-is-text : tie.Need-shared-slice-read-is-text Inv-loop μ-loop
 shared-slice-read-is-text c = omega arith
 
 plain-text-requires : tie.Need-plain-text-requires Inv-loop μ-loop
-plain-text-requires c κs = search needs
+plain-text-requires c κs = tt
 
 is-text-requires : tie.Need-is-text-requires Inv-loop μ-loop
-is-text-requires c κs = search needs
+is-text-requires c κs = tt
 
 returns : tie.Need-returns Inv-loop μ-loop
 returns c =

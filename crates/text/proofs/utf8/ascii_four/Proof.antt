@@ -13,7 +13,7 @@ shared-slice-read-ascii-one : tie.Need-shared-slice-read-ascii-one
 shared-slice-read-ascii-one c = search needs
 
 ascii-one-requires : tie.Need-ascii-one-requires
-ascii-one-requires c κs = search needs
+ascii-one-requires c κs = tt
 
 add-ascii-one : tie.Need-add-ascii-one
 add-ascii-one c = search needs
@@ -22,7 +22,7 @@ shared-slice-read-ascii-one-2 : tie.Need-shared-slice-read-ascii-one-2
 shared-slice-read-ascii-one-2 c = search needs
 
 ascii-one-requires-2 : tie.Need-ascii-one-requires-2
-ascii-one-requires-2 c κs = search needs
+ascii-one-requires-2 c κs = tt
 
 add-result : tie.Need-add-result
 add-result c = search needs
@@ -34,7 +34,7 @@ shared-slice-read-ascii-one-3 : tie.Need-shared-slice-read-ascii-one-3
 shared-slice-read-ascii-one-3 c = search needs
 
 ascii-one-requires-3 : tie.Need-ascii-one-requires-3
-ascii-one-requires-3 c κs = search needs
+ascii-one-requires-3 c κs = tt
 
 add-result-2 : tie.Need-add-result-2
 add-result-2 c = search needs
@@ -46,7 +46,7 @@ shared-slice-read-ascii-one-4 : tie.Need-shared-slice-read-ascii-one-4
 shared-slice-read-ascii-one-4 c = search needs
 
 ascii-one-requires-4 : tie.Need-ascii-one-requires-4
-ascii-one-requires-4 c κs = search needs
+ascii-one-requires-4 c κs = tt
 
 add-result-3 : tie.Need-add-result-3
 add-result-3 c = search needs

@@ -3,7 +3,6 @@
 use Prim.Native.Nat.{_-_}
 use native.Mathlib.Omega.{arith}
 use lib.ListN.{length}
-use borrow.Author.Needs.{needs}
 use Rattle.text.specs.Runs.{Run}
 use Rattle.text.specs.Text.{pastAll}
 use Rattle.text.specs.Utf8.{charWidth}
@@ -21,7 +20,7 @@ loop-holds : tie.Need-loop-holds Inv-loop μ-loop
 loop-holds c = run-none _ _ _
 
 is-ascii-requires : tie.Need-is-ascii-requires Inv-loop μ-loop
-is-ascii-requires c κs = search needs
+is-ascii-requires c κs = tt
 
 add-at : tie.Need-add-at Inv-loop μ-loop
 add-at c = let t = c .before .is-ascii .ensures (c .if1 .taken) in omega (arith, t .within)

@@ -14,7 +14,7 @@ shared-slice-read-b : tie.Need-shared-slice-read-b
 shared-slice-read-b c = search needs
 
 size-requires : tie.Need-size-requires
-size-requires c κs = search needs
+size-requires c κs = tt
 
 returns-2 : tie.Need-returns-2
 unfolding charWidth
@@ -26,10 +26,10 @@ add-peek : tie.Need-add-peek
 add-peek c = search needs
 
 peek-requires : tie.Need-peek-requires
-peek-requires c κs = search needs
+peek-requires c κs = tt
 
 second-requires : tie.Need-second-requires
-second-requires c κs = search needs
+second-requires c κs = tt
 
 returns-3 : tie.Need-returns-3
 unfolding charWidth
@@ -52,10 +52,10 @@ add-peek-2 : tie.Need-add-peek-2
 add-peek-2 c = search needs
 
 peek-requires-2 : tie.Need-peek-requires-2
-peek-requires-2 c κs = search needs
+peek-requires-2 c κs = tt
 
 is-next-requires : tie.Need-is-next-requires
-is-next-requires c κs = search needs
+is-next-requires c κs = tt
 
 returns-5 : tie.Need-returns-5
 unfolding charWidth
@@ -84,10 +84,10 @@ add-peek-3 : tie.Need-add-peek-3
 add-peek-3 c = search needs
 
 peek-requires-3 : tie.Need-peek-requires-3
-peek-requires-3 c κs = search needs
+peek-requires-3 c κs = tt
 
 is-next-requires-2 : tie.Need-is-next-requires-2
-is-next-requires-2 c κs = search needs
+is-next-requires-2 c κs = tt
 
 returns-7 : tie.Need-returns-7
 unfolding charWidth

@@ -4,21 +4,20 @@ use native.Mathlib.Omega.{arith}
 use denote.Ref.{now}
 use Rattle.text.proofs.Widths.{char-within}
 use Rattle.text.proofs.Passing.{run-on, char-run}
-use borrow.Author.Needs.{needs}
 use Rattle.text.proofs.utf8.characters.Statement.{statement}
 use Rattle.text.proofs.utf8.characters.Tie as tie
 
 ascii-requires : tie.Need-ascii-requires
-ascii-requires c κs = search needs
+ascii-requires c κs = tt
 
 threes-requires : tie.Need-threes-requires
-threes-requires c κs = search needs
+threes-requires c κs = tt
 
 returns : tie.Need-returns
 returns c = (run-on (c .before .before .ascii .ensures) (c .before .threes .ensures), λ e. absurd (c .if1 .taken e))
 
 char-width-requires : tie.Need-char-width-requires
-char-width-requires c κs = search needs
+char-width-requires c κs = tt
 
 add-result : tie.Need-add-result
 add-result c = omega (arith, char-within (now (c .before .before .before .before .before .args .s)) (c .before .before .before .before .before .args .at), c .char-width .ensures)

@@ -1,20 +1,19 @@
 -- The tests are the definition's.
 -- Assumes nothing.
 use borrow.Author.Tests.{lt-ltb, le-ltb}
-use borrow.Author.Needs.{needs}
 use Rattle.text.specs.Utf8.{secondOf}
 use Rattle.text.proofs.utf8.second.Statement.{statement}
 use Rattle.text.proofs.utf8.second.Tie as tie
 
 lowest-requires : tie.Need-lowest-requires
-lowest-requires c κs = search needs
+lowest-requires c κs = tt
 
 returns : tie.Need-returns
 unfolding secondOf
 returns c = simp (← c .before .lowest .ensures, lt-ltb _ _ (c .if1 .taken))
 
 highest-requires : tie.Need-highest-requires
-highest-requires c κs = search needs
+highest-requires c κs = tt
 
 returns-2 : tie.Need-returns-2
 unfolding secondOf

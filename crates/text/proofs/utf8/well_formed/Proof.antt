@@ -5,7 +5,6 @@ use native.Mathlib.Omega.{arith}
 use mathlib.Core.Path.{_≡_, refl, sym, _∙_}
 use lib.ListN.{length}
 use denote.Ref.{now}
-use borrow.Author.Needs.{needs}
 use Rattle.text.specs.Text.{pastAll}
 use Rattle.text.specs.Utf8.{charWidth}
 use Rattle.text.proofs.Widths.{past-stop}
@@ -22,7 +21,7 @@ loop-holds : tie.Need-loop-holds Inv-loop μ-loop
 loop-holds c = refl
 
 characters-requires : tie.Need-characters-requires Inv-loop μ-loop
-characters-requires c κs = search needs
+characters-requires c κs = tt
 
 returns : tie.Need-returns Inv-loop μ-loop
 returns c = let l = c .before .before in sym (l .loop .inv ∙ past-stop charWidth (now (l .before .before .args .s)) (l .loop .at) (c .before .characters .ensures .1 (c .if1 .taken)))
