@@ -5,7 +5,7 @@ use mathlib.Core.Path.{sym, ap, refl}
 use borrow.Author.Needs.{needs}
 use Rattle.spell.specs.Tables.{numerals, files}
 use Rattle.spell.specs.Spell.{spelled}
-use Rattle.lent.proofs.Writes.{as-text, wrote-length, then, sum-fits, within}
+use Rattle.lent.proofs.Writes.{as-text, wrote-length, sum-fits, within}
 use Rattle.converter.specs.Entries.{targetText}
 use Rattle.converter.proofs.Worded.{room-of, arm}
 use Rattle.converter.proofs.kif.put_target.Statement.{statement}

@@ -2,7 +2,7 @@
 -- Assumes nothing.
 use mathlib.Core.Path.{refl}
 use native.Mathlib.Nat.{le-refl}
-use Rattle.lent.proofs.Writes.{wrote-length, then, sum-fits, within}
+use Rattle.lent.proofs.Writes.{wrote-length, sum-fits, within}
 use mathlib.Core.List.{[], _∷_}
 use Rattle.spell.specs.Spell.{spelled}
 use Rattle.spell.specs.Tables.{kinds}
