@@ -232,7 +232,7 @@ fn is_three(s: &[u8], at: usize) -> bool
     three_one(s[at], s[at + 1], s[at + 2]) == 1
 }
 
-// Whether sixteen of them stand there: they are counted, which is one test of vectors. The last is looked at first.
+// Whether sixteen of them stand there: they are counted, which is one test of vectors. The ninth is looked at first.
 fn are_threes(s: &[u8], at: usize) -> bool
     ensures { λ r. ⌜ (r ≡ true → Run (pastAll charWidth (now (s .entry))) (now (s .entry)) at (at + 48)) ⌝ }
 {
@@ -242,7 +242,7 @@ fn are_threes(s: &[u8], at: usize) -> bool
     if s.len() - 48 < at {
         return false;
     }
-    if s[at + 45] < 225 {
+    if s[at + 24] < 225 {
         return false;
     }
     let mut n = 0;
