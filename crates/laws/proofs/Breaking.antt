@@ -7,6 +7,7 @@ use mathlib.Core.List.{List, [], _∷_, _++_}
 use mathlib.Core.Bool.{true, false≢true}
 use lib.ListN.{length}
 use lib.Dec.{eqb}
+use Rattle.lists.specs.All.{All, none, next}
 use Rattle.lists.specs.Repeat.{Step, more, stop, ended, onStep, manyFrom}
 use Rattle.lists.proofs.Laws.{by-pick}
 use Rattle.text.specs.Text.{cursor, onPlace, tagAt, breakAt, tailAt, lineEndAt, paddingAt, wideColon, keyAt}
@@ -35,7 +36,7 @@ use Rattle.kakinoki.specs.declared.Board.{Board}
 use Rattle.kakinoki.proofs.Lines.{OnHeld, HeaderLine}
 use Rattle.kakinoki.proofs.Items.{lineAt, item, keyed-line}
 use Rattle.kakinoki.proofs.Places.{placeAt}
-use Rattle.parser.proofs.Alls.{All, none, next, all-append}
+use Rattle.parser.proofs.Alls.{all-append}
 use Rattle.parser.proofs.Items.{on-more, no-more}
 
 -- what every item keeps holds where the items end

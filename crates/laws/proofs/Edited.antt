@@ -13,6 +13,7 @@ use lib.ListN.{length, take, drop}
 use lib.Seq.{take-at}
 use lib.Dec.{eqb, ltb}
 use borrow.Author.Tests.{eqb-false, ltb-true, ltb-false}
+use Rattle.lists.specs.All.{next}
 use Rattle.lists.proofs.Laws.{by-pick}
 use Rattle.jkf.specs.declared.Answer.{Answer}
 use Rattle.jkf.specs.declared.Answer.the-variants.{Done, BlockTooLong, BufferShort, NotSound, ParentChanges}
@@ -31,10 +32,9 @@ use Rattle.edit.proofs.Placing.{PutsIn, place-past}
 use Rattle.edit.proofs.Keeping.{still-lines, no-parent-changes}
 use Rattle.edit.proofs.Cutting.{CutsOut, lines-after-cut}
 use Rattle.edit.proofs.Sounds.{lines-hang, lines-afresh, puts-in}
-use Rattle.parser.proofs.Alls.{next}
 use Rattle.edit.proofs.Played.{plays-long}
 use Rattle.edit.proofs.Outcomes.{lines-counted}
-use Rattle.laws.proofs.Parts.{Bytes}
+use Rattle.laws.specs.Blocks.{Bytes}
 use Rattle.laws.proofs.Forming.{refused as not-done, done-second}
 use Rattle.laws.proofs.Firsts.{led-take, led-drop, led-append}
 use Rattle.laws.proofs.Relining.{Standing, relined-formed, block-lines, text-line}

@@ -43,7 +43,7 @@ use Rattle.edit.proofs.Keeping.{kept-after-put, new-parent}
 use Rattle.edit.proofs.Cutting.{HangsFrom as HangsIn, itself as itselfIn, on as onIn, cut-length, run-within, kept-after-cut, run-is-what-hangs}
 use Rattle.edit.proofs.Sounds.{lines-afresh, plays-back, parent-is}
 use Rattle.edit.proofs.Undoing.{cut-undoes}
-use Rattle.laws.proofs.Parts.{Bytes}
+use Rattle.laws.specs.Blocks.{Bytes, blockIn}
 use Rattle.laws.proofs.Fields.{lines-are, start-is, entry-count-is}
 use Rattle.laws.proofs.Decoded.{formed-fits, decode-encode}
 use Rattle.laws.proofs.Encoded.{encode-decode}
@@ -52,10 +52,6 @@ use Rattle.laws.proofs.Edited.{putPlace, putLines, PutDone, put-done, p
 use Rattle.laws.proofs.Fewer.{same-record}
 
 -- ---- words
-
--- The first n bytes of the buffer.
-abbrev pub blockIn : ℕ → Outcome → List ℕ
-blockIn n x = take n (x .buffer)
 
 -- A line with this parent.
 abbrev pub withParent : ℕ → Line → Line

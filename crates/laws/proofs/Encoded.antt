@@ -21,7 +21,8 @@ use Rattle.block.specs.Sound.{sum, Sound, headerBytes, commentBytes, commentsBe
 use Rattle.block.proofs.Sums.{sum-none, sum-suc}
 use Rattle.block.proofs.Tabling.{length-run, table-grows, concat-grows}
 use Rattle.block.proofs.Within.{key-length, value-length}
-use Rattle.laws.proofs.Parts.{Part, then, part-from, part-as, part-of, part-length, Bytes, number-part, two-part, four-part}
+use Rattle.laws.proofs.Parts.{Part, then, part-from, part-as, part-of, part-length, number-part, two-part, four-part}
+use Rattle.laws.specs.Blocks.{Bytes}
 use Rattle.laws.proofs.Positions.{position-bytes}
 use Rattle.laws.proofs.Held.{whole-length, key-part, value-part, comment-part, comment-length, entry-is, all-entries, all-comments}
 

@@ -18,7 +18,7 @@ use Rattle.parser.proofs.Hung.{attach-length, attach-entries}
 use Rattle.edit.specs.Edit.{playsIn, fresh, without}
 use Rattle.edit.proofs.Sounds.{lines-afresh}
 use Rattle.edit.proofs.Assembled.{position-long}
-use Rattle.laws.proofs.Parts.{Bytes}
+use Rattle.laws.specs.Blocks.{Bytes}
 use Rattle.laws.proofs.Encoded.{encode-decode}
 
 -- ---- a list with a run left out

@@ -5,12 +5,10 @@ use Prim.Native.Nat.{ℕ, zero, suc, _+_, _≤_, _<_}
 use native.Mathlib.Omega.{arith}
 use mathlib.Core.List.{List, _∷_, _++_}
 use lib.ListN.{take, drop}
+use Rattle.lists.specs.All.{All, none, next, Led, leads}
 use Rattle.block.specs.Encode.{concat}
 use Rattle.block.specs.Decode.{run}
-use Rattle.parser.proofs.Alls.{All, none, next, all-append, all-concat}
-
-pub data Led {A : Type 0} (P Q : A → Type 0) : List A → Type 0 where
-  leads : {x : A} {l : List A} → P x → All Q l → Led P Q (x ∷ l)
+use Rattle.parser.proofs.Alls.{all-append, all-concat}
 
 module _ {A : Type 0} {P : A → Type 0} where
   all-take : {l : List A} (n : ℕ) → All P l → All P (take n l)

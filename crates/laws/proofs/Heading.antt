@@ -10,6 +10,7 @@ use mathlib.Core.Bool.{Bool, true, false, true≢false}
 use lib.ListN.{length, getD}
 use lib.Dec.{eqb, ltb}
 use borrow.Author.Tests.{ltb-true, ltb-false, eq-eqb}
+use Rattle.lists.specs.All.{All, none, next}
 use Rattle.lists.specs.Pick.{pick}
 use Rattle.lists.specs.Test.{each, claim}
 use Rattle.lists.proofs.Laws.{by-pick}
@@ -33,7 +34,7 @@ use Rattle.kakinoki.specs.declared.KeyValue.{KeyValue}
 use Rattle.kakinoki.specs.declared.KeyValue.the-variants.{Pair, NoPair}
 use Rattle.kakinoki.proofs.Heads.{headers-said}
 use Rattle.parser.specs.Parse.{byHeader, headersOf}
-use Rattle.parser.proofs.Alls.{All, none, next, all-at, all-any}
+use Rattle.parser.proofs.Alls.{all-at, all-any}
 use Rattle.laws.proofs.Smalling.{bytes-concat, bytes-table}
 use Rattle.laws.proofs.Breaking.{pair-parts, Headline, headlines}
 

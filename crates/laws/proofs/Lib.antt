@@ -15,5 +15,9 @@ pub mod Reading
 pub mod Firsts
 pub mod Relining
 pub mod Fewer
+pub mod Formed
 pub mod Edited
 pub mod Editing
+pub mod Unique
+pub mod Back
+pub mod Cases

@@ -10,6 +10,7 @@ use lib.ListN.{length, getD, take, drop, take-append-drop, length-drop}
 use lib.Seq.{take-length, take-at, drop-at, take-add, drop-drop, length-take-le}
 use Rattle.lists.proofs.Laws.{drop-step}
 use Rattle.lent.specs.Bytes.{le16, bytes16}
+use Rattle.laws.specs.Blocks.{Bytes}
 use Rattle.block.proofs.Lining.{le16-drop}
 
 -- t is the n bytes of b from o on
@@ -78,10 +79,6 @@ part-number {b} {t} {o} {n} i p = sym (le16-drop b o i) ∙ ap (λ (l : List ℕ
 
 pub part-number₀ : {b t : List ℕ} {o n : ℕ} → Part b o n t → le16 b o ≡ le16 (t ++ drop n (drop o b)) 0
 part-number₀ {b} {t} {o} {n} p = number-at b o ∙ ap (λ (l : List ℕ). le16 l 0) (from-part p .is)
-
--- every byte is below 256
-abbrev pub Bytes : List ℕ → Type 0
-Bytes b = (k : ℕ) → getD b k 0 < 256
 
 pub number-small : (b : List ℕ) → Bytes b → (i : ℕ) → le16 b i < 65536
 number-small b u i = omega (arith, u i, u (i + 1))

@@ -8,6 +8,7 @@ use mathlib.Core.List.{List, [], _∷_, _++_}
 use lib.ListN.{length, getD}
 use lib.Dec.{eqb}
 use borrow.Author.Tests.{eqb-false}
+use Rattle.lists.specs.All.{All, next}
 use Rattle.lists.specs.Test.{each, claim}
 use Rattle.lists.specs.Repeat.{more, stop}
 use Rattle.lists.proofs.Laws.{by-pick}
@@ -27,10 +28,11 @@ use Rattle.moves.specs.declared.Remark.the-variants.{Stands, NoRemark}
 use Rattle.moves.specs.declared.MoveLine.{MoveLine}
 use Rattle.moves.specs.declared.MoveLine.the-variants.{Numbered, NoLine}
 use Rattle.moves.proofs.Answers.{line-is}
-use Rattle.moves.proofs.Fits.{EntryFits, playFits, endFits, move-line-fits}
+use Rattle.moves.specs.Fits.{EntryFits, playFits, endFits}
+use Rattle.moves.proofs.Fits.{move-line-fits}
 use Rattle.moves.proofs.Worded.{remark-well}
 use Rattle.parser.specs.Plays.{noted, commentItem, commentsAt, entryItem, entriesAt, skippedAt, plyAt, skipsAt, playItem, variationItem, variationsAt, slotAt, pastMain, mainAt, playsAt}
-use Rattle.parser.proofs.Alls.{All, next, OnStep, goes, stops, all-at, all-append, all-concat, many-all}
+use Rattle.parser.proofs.Alls.{OnStep, goes, stops, all-at, all-append, all-concat, many-all}
 use Rattle.parser.proofs.Hung.{attach-length, attach-entries, starts-small, lines-hang}
 use Rattle.parser.proofs.Items.{textOf}
 

@@ -13,6 +13,7 @@ use lib.ListN.{length, take, drop, length-drop}
 use lib.Seq.{getD-drop}
 use lib.Dec.{eqb, ltb}
 use borrow.Author.Tests.{ltb-true, lt-ltb, ne-eqb}
+use Rattle.lists.specs.All.{All, Led, leads}
 use Rattle.lists.specs.Pick.{pick}
 use Rattle.lists.specs.Test.{each, claim}
 use Rattle.lists.proofs.Laws.{by-pick}
@@ -34,7 +35,7 @@ use Rattle.block.proofs.Within.{first-comment, some-entry, entries-within, firs
 use Rattle.moves.proofs.Answers.{line-is}
 use Rattle.moves.proofs.Fits.{move-line-fits, entry-bytes-small}
 use Rattle.moves.proofs.Smalls.{Bytes as AllBytes, empty, each as eachByte, bytes-at, bytes-from, bytes-take, bytes-drop, bytes-join, bytes-16}
-use Rattle.parser.proofs.Alls.{All, all-at, all-concat}
+use Rattle.parser.proofs.Alls.{all-at, all-concat}
 use Rattle.parser.proofs.Hung.{attach-length, attach-entries, lines-hang}
 use Rattle.moves.proofs.Worded.{remark-well}
 use Rattle.edit.specs.Edit.{playsIn, fresh, isVariation, variationOf}
@@ -42,14 +43,14 @@ use Rattle.edit.specs.Splicing.{Lines, playIn}
 use Rattle.edit.proofs.Played.{plays-are}
 use Rattle.edit.proofs.Sounds.{first-is}
 use Rattle.edit.proofs.Texts.{variation-says}
-use Rattle.laws.proofs.Parts.{Bytes}
+use Rattle.laws.specs.Blocks.{Bytes}
 use Rattle.laws.proofs.Positions.{position-bytes}
 use Rattle.laws.proofs.Held.{entry-is}
 use Rattle.laws.proofs.Playing.{comments-all, entries-all, later-kind}
 use Rattle.laws.proofs.Smalling.{bytes-concat, bytes-table, lines-bytes, remarks-bytes}
 use Rattle.laws.proofs.Heading.{headers-bytes}
 use Rattle.laws.proofs.Forming.{head-bytes}
-use Rattle.laws.proofs.Firsts.{Led, leads, all-so, all-run, led-run, led-concat, led-so}
+use Rattle.laws.proofs.Firsts.{all-so, all-run, led-run, led-concat, led-so}
 
 -- ---- entries and lines that can stand in a block
 

@@ -1,3 +1,4 @@
+pub mod All
 pub mod Pick
 pub mod Repeat
 pub mod Test

@@ -34,6 +34,7 @@ use Rattle.jkf.specs.declared.Move.{Move}
 use Rattle.jkf.specs.declared.Entry.{Entry}
 use Rattle.jkf.specs.declared.Entry.the-variants.{Slot, Play, End}
 use Rattle.moves.specs.Moves.{sameWord, promotes, declines, drops, squareAt, moveToAt, promoteAt, originAt, moveFromAt, moved, pieceAt, moveAt, whatAt, hmsAt, msAt, clockAt, spacedAt, clocksAt, timing, timeAt, colorOf, finished, moveLineAt}
+use Rattle.moves.specs.Fits.{ClockFits, hmsFits, msFits, TimeFits, untimedFits, timedFits, TargetFits, sameFits, squareFits, OriginFits, fromFits, MoveFits, EntryFits, playFits, endFits}
 use Rattle.moves.specs.declared.Aim.{Aim}
 use Rattle.moves.specs.declared.Source.{Source}
 use Rattle.moves.specs.declared.Mark.{Mark}
@@ -44,38 +45,6 @@ use Rattle.moves.specs.declared.Timing.{Timing}
 use Rattle.moves.proofs.Figures.{figure-fits}
 use Rattle.moves.proofs.Smalls.{Bytes, each, byte, nought, bytes-at, bytes-join, bytes-one, bytes-16, zeros}
 use Rattle.moves.proofs.Answers.{OnAim, to, noAim, OnSource, out, noSource, OnClocked, shows, noClock, OnWhat, is, nothing, OnMoveLine, numbered, noLine, by-aim, by-source, by-clocked, by-what}
-
--- ---- what is fit
-
-pub data ClockFits : Clock → Type 0 where
-  hmsFits : {h m s : ℕ} → h ≤ 255 → m ≤ 255 → s ≤ 255 → ClockFits (Hms h m s)
-  msFits : {m s : ℕ} → m ≤ 255 → s ≤ 255 → ClockFits (Ms m s)
-
-pub data TimeFits : Time → Type 0 where
-  untimedFits : TimeFits Untimed
-  timedFits : {now total : Clock} → ClockFits now → ClockFits total → TimeFits (Timed now total)
-
-pub data TargetFits : Target → Type 0 where
-  sameFits : TargetFits Same
-  squareFits : {x y : ℕ} → 1 ≤ x → x ≤ 9 → 1 ≤ y → y ≤ 9 → TargetFits (Square x y)
-
--- the two figures were one number up to 255
-pub data OriginFits : Origin → Type 0 where
-  fromFits : {x y : ℕ} → x ≤ 25 → y ≤ 9 → x * 10 + y ≤ 255 → OriginFits (From x y)
-
-pub record MoveFits (m : Move) : Type 0 where
-  pub side : m .color ≤ 1
-  pub some : 1 ≤ m .piece
-  pub kind : m .piece ≤ 14
-  pub mark : m .promote ≤ 2
-  pub target : TargetFits (m .to)
-  pub origin : OriginFits (m .from)
-  pub taken : TimeFits (m .time)
-
--- a move or an ending of those that are read, never a slot
-pub data EntryFits : Entry → Type 0 where
-  playFits : {m : Move} → MoveFits m → EntryFits (Play m)
-  endFits : {x : Special} {t : Time} → hasNumber specials (specialNumber x) ≡ true → TimeFits t → EntryFits (End x t)
 
 -- ---- an answer that is fit and goes on from its place
 
@@ -170,7 +139,7 @@ piece-fits t f s b at g =
         let z : 0 ≤ 1 = omega arith in
         let j : k ≤ 14 = omega arith in
         record {
-          fit = playFits (record { side = z; some = i; kind = j; mark = u; target = f; origin = w .fit; taken = untimedFits });
+          fit = playFits (record { side = z; some = i; kind = j; mark = u; target = f; origin = w .fit; time = untimedFits });
           past = omega arith;
         }
 
@@ -258,7 +227,7 @@ time-fits s at =
 finished-fits : (c : ℕ) (t : Time) (e : Entry) → c ≤ 1 → TimeFits t → EntryFits e → EntryFits (finished c t e)
 unfolding finished
 finished-fits c t (Play m) h f (playFits g) =
-    playFits (record { side = h; some = g .some; kind = g .kind; mark = g .mark; target = g .target; origin = g .origin; taken = f })
+    playFits (record { side = h; some = g .some; kind = g .kind; mark = g .mark; target = g .target; origin = g .origin; time = f })
 finished-fits c t (End x u) h f (endFits g _) = endFits g f
 
 -- a line's number, its entry and its end
@@ -391,7 +360,7 @@ unfolding headBytes
 slot-head = zeros 9
 
 time-of : {e : Entry} → EntryFits e → TimeFits (timeOf e)
-time-of (playFits f) = f .taken
+time-of (playFits f) = f .time
 time-of (endFits _ f) = f
 
 with-numbers : (e : Entry) → Bytes (headBytes e) → Bytes (timeBytes (timeOf e)) → (f n k : ℕ) → getD (entryBytes e f n) k 0 < 256

@@ -5,12 +5,9 @@ use native.Mathlib.Nat.{not-suc-le-zero}
 use native.Mathlib.Omega.{arith}
 use mathlib.Core.List.{List, [], _∷_, _++_}
 use lib.ListN.{length, getD}
+use Rattle.lists.specs.All.{All, none, next}
 use Rattle.lists.specs.Repeat.{Step, more, stop, ended, onStep, manyFrom}
 use Rattle.block.specs.Encode.{concat}
-
-pub data All {A : Type 0} (P : A → Type 0) : List A → Type 0 where
-  none : All P []
-  next : {x : A} {l : List A} → P x → All P l → All P (x ∷ l)
 
 -- of what a step answers
 pub data OnStep {A : Type 0} (P : A → Type 0) : Step A → Type 0 where

@@ -9,6 +9,7 @@ use mathlib.Core.Bool.{Bool, true, false, false≢true}
 use lib.ListN.{length, getD, replicate, length-append}
 use lib.Dec.{eqb, leb, ltb}
 use borrow.Author.Tests.{leb-true, ltb-false}
+use Rattle.lists.specs.All.{All, none, next}
 use Rattle.lists.specs.Test.{equals, both, each, claim}
 use Rattle.lists.specs.Repeat.{stop}
 use Rattle.lists.proofs.Laws.{by-pick}
@@ -41,7 +42,7 @@ use Rattle.kakinoki.specs.declared.Board.{Board}
 use Rattle.kakinoki.proofs.Filled.{Filled, filled-zeros}
 use Rattle.kakinoki.proofs.Pieces.{Byte, hand-bytes}
 use Rattle.kakinoki.proofs.Cells.{Cell, board-made}
-use Rattle.parser.proofs.Alls.{All, none, next, OnStep, goes, stops, many-all}
+use Rattle.parser.proofs.Alls.{OnStep, goes, stops, many-all}
 
 -- ---- what a line says
 

@@ -1,0 +1,40 @@
+-- What a reading gives can be said, and edits by text keep that.
+-- Assumes nothing.
+use Prim.Native.Nat.{ℕ, _+_, _<_}
+use native.Mathlib.Omega.{arith}
+use mathlib.Core.Path.{_≡_, sym, subst}
+use mathlib.Core.List.{List}
+use lib.ListN.{length, drop}
+use lib.Dec.{eqb, ltb}
+use borrow.Author.Tests.{eqb-false}
+use Rattle.lists.specs.All.{All, next}
+use Rattle.jkf.specs.declared.Answer.the-variants.{ParentChanges}
+use Rattle.lists.proofs.Laws.{by-pick}
+use Rattle.jkf.specs.declared.Answer.{Answer}
+use Rattle.block.specs.Model.{Record}
+use Rattle.block.specs.Attach.{Play, starts, counts}
+use Rattle.parser.specs.Parse.{parse, recordOf}
+use Rattle.edit.specs.Edit.{playsIn, fresh, Edited, edited, refused, isVariation, variationOf, isPlyOf, carries, putIn, Changed, none, line, changedFrom, onChanged, insertAt, insertOn, insert, without, remove}
+use Rattle.edit.proofs.Sounds.{plays-back}
+use Rattle.laws.proofs.Firsts.{led-take, led-drop, led-append}
+use Rattle.laws.specs.Sayable.{NotedSayable, PlaysSayable, Sayable}
+use Rattle.laws.proofs.Back.ReadPlays.{entries-sayable, plays-sayable}
+use Rattle.laws.proofs.Back.ReadHeaders.{headers-sayable}
+
+-- ---- a reading
+
+pub read-sayable : (s : List ℕ) → Sayable (recordOf (parse s))
+unfolding parse
+read-sayable s = record { headers = headers-sayable s; plays = subst PlaysSayable (sym (plays-back _)) (plays-sayable s _) }
+
+-- ---- edits
+
+pub fresh-sayable : (r : Record) (ps : List Play) → Sayable r → PlaysSayable ps → Sayable (fresh r ps)
+unfolding fresh
+fresh-sayable r ps s p = record { headers = s .headers; plays = subst PlaysSayable (sym (plays-back ps)) p }
+
+pub put-sayable : (n : ℕ) (v : Play) (ps : List Play) → 0 < n → All NotedSayable (v .entries) → PlaysSayable ps → PlaysSayable (putIn n v ps)
+put-sayable n v ps z h p = led-append (led-take n z p) (next h (led-drop n z p))
+
+pub without-sayable : (k m : ℕ) (ps : List Play) → 0 < k → PlaysSayable ps → PlaysSayable (without k m ps)
+without-sayable k m ps z p = led-append (led-take k z p) (led-drop (k + m) (omega arith) p)

@@ -1,0 +1,262 @@
+-- A move line reads back.
+-- Assumes nothing.
+use Prim.Native.Nat.{ℕ, _+_, _*_, _/_, _%_, _≤_}
+use native.Mathlib.Omega.{arith}
+use mathlib.Core.Path.{_≡_, refl, ap, _∙_}
+use mathlib.Core.List.{List, [], _∷_, _++_, append-assoc}
+use mathlib.Core.Bool.{Bool, true, false, false≢true}
+use lib.ListN.{getD}
+use lib.Dec.{eqb}
+use borrow.Author.Tests.{eqb-true, eqb-false}
+use Rattle.lists.specs.Pick.{pick}
+use Rattle.lists.proofs.Laws.{range-at, pick-both}
+use Rattle.lists.proofs.Stand.{Stands, Came, Reads, Any, Off, then, came}
+use Rattle.lent.specs.Numbers.{decimal}
+use Rattle.text.specs.Text.{cursor, isBlank, wideSpace}
+use Rattle.spell.specs.Tables.{moveKinds, specials, writtenSpecials, numerals, files}
+use Rattle.spell.specs.Spell.{firstOf, spelled, hasNumber}
+use Rattle.spell.specs.declared.Spelled.the-variants.{Not}
+use Rattle.spell.proofs.Written.{same, first-fails, move-kind-reads, special-reads, numeral-reads, file-reads, file-bytes}
+use Rattle.spell.proofs.Counts.{tag-reads}
+use Rattle.jkf.specs.Entries.{specialNumber, specialOf, timeOf}
+use Rattle.jkf.specs.declared.Special.{Special}
+use Rattle.jkf.specs.declared.Special.the-variants.{Toryo, Chudan, Sennichite, TimeUp, IllegalMove, IllegalActionBlack, IllegalActionWhite, Jishogi, Kachi, Hikiwake, Matta, Tsumi, Fuzumi, Error}
+use Rattle.jkf.specs.declared.Time.the-variants.{Untimed}
+use Rattle.jkf.specs.declared.Target.{Target}
+use Rattle.jkf.specs.declared.Target.the-variants.{Same, Square}
+use Rattle.jkf.specs.declared.Origin.{Origin}
+use Rattle.jkf.specs.declared.Origin.the-variants.{From}
+use Rattle.jkf.specs.declared.Move.{Move}
+use Rattle.jkf.specs.declared.Entry.{Entry}
+use Rattle.jkf.specs.declared.Entry.the-variants.{Slot, Play, End}
+use Rattle.moves.specs.Moves.{sameWord, promotes, declines, squareAt, moveToAt, mark, promoteAt, originAt, moveFromAt, moved, pieceAt, moveAt, whatAt, colorOf, finished, moveLineAt}
+use Rattle.moves.specs.declared.Aim.the-variants.{To}
+use Rattle.moves.specs.declared.Source.the-variants.{Out}
+use Rattle.moves.specs.declared.What.the-variants.{Is}
+use Rattle.moves.specs.declared.MoveLine.the-variants.{Numbered}
+use Rattle.moves.specs.Fits.{TargetFits, sameFits, squareFits, OriginFits, fromFits, MoveFits, EntryFits, playFits, endFits, TimeFits}
+use Rattle.converter.specs.Entries.{targetText, originText, specialText, widthOf}
+use Rattle.laws.specs.Whole.{markText, wholeMove, wholePlay, wholeLine}
+use Rattle.laws.specs.Sayable.{Follows, slot, move, ending}
+use Rattle.laws.proofs.Back.Leaves.{tag-fails, byte-fails, blanks-read, digits-read, decimal-reads, pair-digits, padded-blanks, line-end-reads}
+use Rattle.laws.proofs.Back.Times.{time-reads}
+
+-- ---- a move
+
+file-has : (n : ℕ) → 1 ≤ n → n ≤ 9 → hasNumber files n ≡ true
+unfolding hasNumber
+file-has n h k = range-at (hasNumber files) 9 1 n refl h (omega arith)
+
+numeral-has : (n : ℕ) → 1 ≤ n → n ≤ 9 → hasNumber numerals n ≡ true
+unfolding hasNumber
+numeral-has n h k = range-at (hasNumber numerals) 9 1 n refl h (omega arith)
+
+kind-has : (n : ℕ) → 1 ≤ n → n ≤ 14 → hasNumber moveKinds n ≡ true
+unfolding hasNumber
+kind-has n h k = range-at (hasNumber moveKinds) 14 1 n refl h (omega arith)
+
+target-reads : (t : Target) → TargetFits t → Reads moveToAt (λ e. To t (cursor e)) (targetText t) Any
+unfolding moveToAt squareAt targetText
+target-reads Same sameFits = record {
+  run = λ s at r st c.
+      then (tag-reads sameWord) st tt λ e₁ i₁ l₁.
+      then (tag-reads wideSpace) l₁ tt λ e₂ i₂ l₂.
+      record { end = e₂; is = rw (i₁, i₂); left = l₂ };
+}
+target-reads (Square x y) (squareFits a b g h) = record {
+  run = λ s at r st c.
+      let st′ = simp append-assoc at st in
+      let z = byte-fails 229 (144 ∷ 140 ∷ []) (rw (file-bytes x a b) at st′) refl in
+      then (file-reads x (file-has x a b)) st′ tt λ e₁ i₁ l₁.
+      then (numeral-reads y (numeral-has y g h)) l₁ tt λ e₂ i₂ l₂.
+      record { end = e₂; is = rw (z, i₁, i₂); left = l₂ };
+}
+
+-- a mark before a bracket
+mark-reads : (p : ℕ) → p ≤ 2 → Reads promoteAt (λ e. mark p (cursor e)) (markText p) (λ r. getD r 0 0 ≡ 40)
+unfolding promoteAt markText
+mark-reads p h = record { run = λ s at r st c. go (eqb p 2) (eqb p 1) refl refl s at r st c }
+  where
+    go : (t u : Bool) → eqb p 2 ≡ t → eqb p 1 ≡ u → (s : List ℕ) (at : ℕ) (r : List ℕ) → Stands s at (pick t promotes (pick u declines []) ++ r) → getD r 0 0 ≡ 40
+        → Came (promoteAt s at) (λ e. mark p (cursor e)) s r
+    go true u e f s at r st c =
+        let q : p ≡ 2 = eqb-true p 2 e in
+        then (tag-reads promotes) st tt λ e₁ i₁ l₁.
+        record { end = e₁; is = rw (i₁, q); left = l₁ }
+    go false true e f s at r st c =
+        let q : p ≡ 1 = eqb-true p 1 f in
+        then (tag-reads declines) st tt λ e₁ i₁ l₁.
+        record { end = e₁; is = rw (tag-fails promotes declines refl r st, i₁, q); left = l₁ }
+    go false false e f s at r st c =
+        let n₂ : p ≡ 2 → ⊥ = eqb-false p 2 e in
+        let n₁ : p ≡ 1 → ⊥ = eqb-false p 1 f in
+        let q : p ≡ 0 = omega arith in
+        let z₁ : eqb (getD r 0 0) 230 ≡ false = rw c in
+        let z₂ : eqb (getD r 0 0) 228 ≡ false = rw c in
+        record { end = at; is = rw (byte-fails 230 (136 ∷ 144 ∷ []) st z₁, byte-fails 228 (184 ∷ 141 ∷ 230 ∷ 136 ∷ 144 ∷ []) st z₂, q); left = st }
+
+origin-reads : (o : Origin) → OriginFits o → Reads moveFromAt (λ e. Out o (cursor e)) (originText o) Any
+unfolding moveFromAt originAt originText
+origin-reads (From x y) (fromFits h k v) = record {
+  run = λ s at r st c.
+      let st′ = simp append-assoc at st in
+      let a : (x * 10 + y) / 10 ≡ x = omega arith in
+      let b : (x * 10 + y) % 10 ≡ y = omega arith in
+      let z = byte-fails 230 (137 ∷ 147 ∷ []) st′ refl in
+      then (tag-reads (40 ∷ [])) st′ tt λ e₁ i₁ l₁.
+      then (digits-read 255 (decimal x ++ decimal y) (x * 10 + y) (pair-digits x y k) v) (simp (← append-assoc (decimal x) (decimal y)) at l₁) refl λ e₂ i₂ l₂.
+      then (tag-reads (41 ∷ [])) l₂ tt λ e₃ i₃ l₃.
+      record { end = e₃; is = rw (z, i₁, i₂, i₃, a, b); left = l₃ };
+}
+
+origin-begins : (o : Origin) → OriginFits o → (r : List ℕ) → getD (originText o ++ r) 0 0 ≡ 40
+unfolding originText
+origin-begins (From x y) (fromFits h k v) r = refl
+
+-- what a move begins with: no blank, and no ending
+target-off : (t : Target) → TargetFits t → (r : List ℕ) → Off isBlank (targetText t ++ r)
+unfolding targetText
+target-off Same sameFits r = refl
+target-off (Square x y) (squareFits a b g h) r = rw (file-bytes x a b)
+
+target-ends : (t : Target) → TargetFits t → {s : List ℕ} {at : ℕ} (r : List ℕ) → Stands s at (targetText t ++ r) → firstOf specials s at ≡ Not
+unfolding targetText
+target-ends Same sameFits r st = first-fails specials (sameWord ++ wideSpace) refl r st
+target-ends (Square x y) (squareFits a b g h) r st = first-fails specials (239 ∷ 188 ∷ []) refl _ (rw (file-bytes x a b) at st)
+
+move-reads : (m : Move) → MoveFits m → Reads whatAt (λ e. Is (moved (m .to) (m .piece) (m .promote) (m .from)) (cursor e)) (wholeMove m) Any
+unfolding whatAt moveAt pieceAt wholeMove
+move-reads m f = record {
+  run = λ s at r st c.
+      let st′ = simp append-assoc at st in
+      let z = target-ends (m .to) (f .target) _ st′ in
+      then (target-reads (m .to) (f .target)) st′ tt λ e₁ i₁ l₁.
+      then (move-kind-reads (m .piece) (kind-has (m .piece) (f .some) (f .kind))) l₁ tt λ e₂ i₂ l₂.
+      then (mark-reads (m .promote) (f .mark)) l₂ (origin-begins (m .from) (f .origin) r) λ e₃ i₃ l₃.
+      then (origin-reads (m .from) (f .origin)) l₃ tt λ e₄ i₄ l₄.
+      record { end = e₄; is = rw (z, i₁, i₂, i₃, i₄); left = l₄ };
+}
+
+-- ---- an ending
+
+special-low : (x : Special) → specialNumber x ≤ 13
+special-low Toryo = omega arith
+special-low Chudan = omega arith
+special-low Sennichite = omega arith
+special-low TimeUp = omega arith
+special-low IllegalMove = omega arith
+special-low IllegalActionBlack = omega arith
+special-low IllegalActionWhite = omega arith
+special-low Jishogi = omega arith
+special-low Kachi = omega arith
+special-low Hikiwake = omega arith
+special-low Matta = omega arith
+special-low Tsumi = omega arith
+special-low Fuzumi = omega arith
+special-low Error = omega arith
+
+special-back : (x : Special) → specialOf (specialNumber x) ≡ x
+special-back Toryo = refl
+special-back Chudan = refl
+special-back Sennichite = refl
+special-back TimeUp = refl
+special-back IllegalMove = refl
+special-back IllegalActionBlack = refl
+special-back IllegalActionWhite = refl
+special-back Jishogi = refl
+special-back Kachi = refl
+special-back Hikiwake = refl
+special-back Matta = refl
+special-back Tsumi = refl
+special-back Fuzumi = refl
+special-back Error = refl
+
+same-is : (a b : List ℕ) → same a b ≡ true → a ≡ b
+same-is [] [] h = refl
+same-is [] (y ∷ b) h = absurd (false≢true h)
+same-is (x ∷ a) [] h = absurd (false≢true h)
+same-is (x ∷ a) (y ∷ b) h =
+    let (p, q) = pick-both (eqb x y) (same a b) h in
+    ap (λ (z : ℕ). z ∷ a) (eqb-true x y p) ∙ ap (λ (l : List ℕ). y ∷ l) (same-is a b q)
+
+special-test : (n : ℕ) → n ≤ 13 → pick (hasNumber specials n) (same (spelled writtenSpecials n) (spelled specials n)) true ≡ true
+unfolding hasNumber spelled
+special-test n l = range-at (λ n. pick (hasNumber specials n) (same (spelled writtenSpecials n) (spelled specials n)) true) 14 0 n refl (omega arith) (omega arith)
+
+-- an ending that is read is written by the table that it is read by
+special-text : (x : Special) → hasNumber specials (specialNumber x) ≡ true → specialText x ≡ spelled specials (specialNumber x)
+unfolding specialText
+special-text x h = same-is _ _ (go (hasNumber specials (specialNumber x)) h (special-test (specialNumber x) (special-low x)))
+  where
+    go : (t : Bool) → t ≡ true → pick t (same (spelled writtenSpecials (specialNumber x)) (spelled specials (specialNumber x))) true ≡ true
+        → same (spelled writtenSpecials (specialNumber x)) (spelled specials (specialNumber x)) ≡ true
+    go true e k = k
+    go false e k = absurd (false≢true e)
+
+ending-reads : (x : Special) → hasNumber specials (specialNumber x) ≡ true → Reads whatAt (λ e. Is (End x Untimed) (cursor e)) (specialText x) Any
+unfolding whatAt
+ending-reads x h = record {
+  run = λ s at r st c.
+      then (special-reads (specialNumber x) h) (rw (special-text x h) at st) tt λ e₁ i₁ l₁.
+      record { end = e₁; is = rw (i₁, special-back x); left = l₁ };
+}
+
+ending-off : (x : Special) → hasNumber specials (specialNumber x) ≡ true → (r : List ℕ) → Off isBlank (specialText x ++ r)
+unfolding specialText spelled
+ending-off Toryo h r = refl
+ending-off Chudan h r = refl
+ending-off Sennichite h r = refl
+ending-off TimeUp h r = refl
+ending-off IllegalMove h r = refl
+ending-off IllegalActionBlack h r = refl
+ending-off IllegalActionWhite h r = refl
+ending-off Jishogi h r = refl
+ending-off Kachi h r = refl
+ending-off Hikiwake h r = refl
+ending-off Matta h r = refl
+ending-off Tsumi h r = refl
+ending-off Fuzumi h r = refl
+ending-off Error h r = refl
+
+-- ---- either
+
+-- an entry before its colour and its time are read
+abbrev bare : Entry → Entry
+bare Slot = Slot
+bare (Play m) = moved (m .to) (m .piece) (m .promote) (m .from)
+bare (End x t) = End x Untimed
+
+play-reads : (e : Entry) → EntryFits e → Reads whatAt (λ c. Is (bare e) (cursor c)) (wholePlay e) Any
+unfolding wholePlay
+play-reads (Play m) (playFits f) = move-reads m f
+play-reads (End x t) (endFits h f) = ending-reads x h
+
+play-off : (e : Entry) → EntryFits e → (r : List ℕ) → Off isBlank (wholePlay e ++ r)
+unfolding wholePlay wholeMove
+play-off (Play m) (playFits f) r = simp append-assoc (target-off (m .to) (f .target) _)
+play-off (End x t) (endFits h f) r = ending-off x h r
+
+time-fits-of : {e : Entry} → EntryFits e → TimeFits (timeOf e)
+time-fits-of (playFits f) = f .time
+time-fits-of (endFits h f) = f
+
+finished-is : (ply : ℕ) (e : Entry) → Follows ply e → finished (colorOf ply) (timeOf e) (bare e) ≡ e
+unfolding finished
+finished-is ply Slot slot = refl
+finished-is ply (Play m) (move h) = rw (← h)
+finished-is ply (End x t) ending = refl
+
+pub line-reads : (ply : ℕ) (e : Entry) → ply ≤ 18446744073709551615 → EntryFits e → Follows ply e
+    → Reads moveLineAt (λ c. Numbered ply e (cursor c)) (wholeLine ply e) Any
+unfolding moveLineAt wholeLine
+line-reads ply e n f g = record {
+  run = λ s at r st c.
+      let st′ = simp append-assoc at st in
+      came (padded-blanks 4 ply _ st′) λ e₀ i₀ l₀.
+      then (decimal-reads ply n) l₀ refl λ e₁ i₁ l₁.
+      then (blanks-read 1) l₁ (play-off e f _) λ e₂ i₂ l₂.
+      then (play-reads e f) l₂ tt λ e₃ i₃ l₃.
+      then (time-reads (widthOf e) (timeOf e) (time-fits-of f)) l₃ refl λ e₄ i₄ l₄.
+      then (line-end-reads [] refl) l₄ tt λ e₅ i₅ l₅.
+      record { end = e₅; is = rw (i₀, i₁, i₂, i₃, i₄, i₅, finished-is ply e g); left = l₅ };
+}

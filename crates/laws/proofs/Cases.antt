@@ -1,0 +1,3 @@
+pub mod Opened
+pub mod Roomy
+pub mod Hold

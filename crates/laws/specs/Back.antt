@@ -1,0 +1,94 @@
+-- Reading back: what was written is read as the same record, but for what its text loses. Each statement is a type, and the theorem of its
+-- name is proved in proofs/Back.                                                                      (demand 2; 01, Writing, and what is lost)
+-- Assumes nothing: these are definitions.
+use Prim.Native.Nat.{ℕ, _≤_}
+use mathlib.Core.Path.{_≡_}
+use mathlib.Core.List.{List, _++_}
+use lib.ListN.{length, drop}
+use Rattle.jkf.specs.Answers.{Outcome}
+use Rattle.jkf.specs.Attaching.{all}
+use Rattle.jkf.specs.declared.Answer.the-variants.{Done}
+use Rattle.block.specs.Model.{Record}
+use Rattle.block.specs.Attach.{attach, allHung}
+use Rattle.block.specs.Encode.{encode}
+use Rattle.block.specs.Decode.{decode}
+use Rattle.block.specs.Sound.{Sound}
+use Rattle.block.specs.Formed.{Formed}
+use Rattle.kakinoki.specs.Starts.{startOf}
+use Rattle.kakinoki.specs.declared.Fault.the-variants.{NoFault}
+use Rattle.parser.specs.Parse.{Parsed, parse}
+use Rattle.parser.specs.Read.{readOf}
+use Rattle.converter.specs.Show.{recordText, handsObstacle, linesObstacle}
+use Rattle.converter.specs.Writing.{writeOf}
+use Rattle.converter.specs.declared.Obstacle.the-variants.{Clear}
+use Rattle.edit.specs.Edit.{playsIn}
+use Rattle.edit.specs.Editing.{putInOf, cutOf}
+use Rattle.laws.specs.Blocks.{Bytes, blockIn}
+use Rattle.laws.specs.Whole.{wholeText}
+use Rattle.laws.specs.Left.{left}
+use Rattle.laws.specs.Sayable.{Sayable, ColorsFollow}
+use Rattle.laws.specs.Modes.{Mode, whole, textIn, leftIn, AllWritten, ByHand}
+
+-- ---- demand 2
+
+-- The blocks of which it is promised: one that the reader answered, and what a later put-in or cut answered of such a block.
+pub data OnceRead : List ℕ → Type 0 where
+  read : (s o : List ℕ) (t n : ℕ) → Bytes s → readOf s o .answer ≡ Done t n → OnceRead (blockIn n (readOf s o))
+  put : (b : List ℕ) (k : ℕ) (t o : List ℕ) (n i : ℕ) → OnceRead b → Bytes t → putInOf b k t o .answer ≡ Done n i → OnceRead (blockIn n (putInOf b k t o))
+  cut : (b : List ℕ) (k : ℕ) (o : List ℕ) (n m : ℕ) → OnceRead b → cutOf b k o .answer ≡ Done n m → OnceRead (blockIn n (cutOf b k o))
+
+-- A reading that takes n bytes and finds r in them: the block of r at the front of the lent buffer, and the rest as it was.
+abbrev pub readInto : ℕ → Record → List ℕ → Outcome
+readInto n r o = record { answer = Done n (length (encode r)); buffer = encode r ++ drop (length (encode r)) o }
+
+-- Where the colours of such a block follow their plies, and `write` is done with a text of at most 65,535 bytes, `read` takes all of that text
+-- and answers the block of what the text leaves of the record, for every buffer that has room for it; and that block holds what is left.
+abbrev pub ReadsBack : Type 0
+ReadsBack =
+    (b : List ℕ) → OnceRead b → ColorsFollow (decode b)
+    → (o : List ℕ) (n l : ℕ) → writeOf b o .answer ≡ Done n l → n ≤ 65535
+    → (o′ : List ℕ) → length (encode (left (decode b))) ≤ length o′
+    → (readOf (blockIn n (writeOf b o)) o′ ≡ readInto n (left (decode b)) o′) × (decode (encode (left (decode b))) ≡ left (decode b))
+
+-- Nothing more is lost the second time, and the text is then the same.
+abbrev pub LosesOnce : Type 0
+LosesOnce = (r : Record) → (left (left r) ≡ left r) × (recordText (left r) ≡ recordText r)
+
+-- ---- in either mode
+
+-- Why one proof does for both: the plain text of a record is the whole text of what is left of it.
+abbrev pub PlainIsWhole : Type 0
+PlainIsWhole = (r : Record) → recordText r ≡ wholeText (left r)
+
+-- What n bytes say whose header entries, position and lines of play are a record's.
+abbrev pub saidBy : Record → ℕ → Parsed
+saidBy r n = record { headers = r .headers; position = r .position; plays = playsIn (r .lines); taken = n }
+
+-- A text says, to its last byte, the lines of play without their parents, and no hand line of it fails.
+abbrev pub SaysBack : Type 0
+SaysBack =
+    (m : Mode) (r : Record) → Formed r → Sayable r → ColorsFollow r → handsObstacle (r .position) ≡ Clear → AllWritten m r
+    → (parse (textIn m r) ≡ saidBy (leftIn m r) (length (textIn m r))) × (startOf (textIn m r) .fault ≡ NoFault)
+
+-- The parents, in a step of its own: these lines of play all hang, and where they did.                 (01, Attaching rule)
+abbrev pub HangsBack : Type 0
+HangsBack =
+    (m : Mode) (r : Record) → Formed r
+    → (allHung (playsIn (leftIn m r .lines)) ≡ all) × (attach (playsIn (leftIn m r .lines)) ≡ leftIn m r .lines)
+
+-- So the text is read to the block of what it leaves.
+abbrev pub ReadsBackIn : Type 0
+ReadsBackIn =
+    (m : Mode) (r : Record) → Formed r → Sayable r → ColorsFollow r → handsObstacle (r .position) ≡ Clear → AllWritten m r
+    → length (textIn m r) ≤ 65535 → (o : List ℕ) → length (encode (leftIn m r)) ≤ length o
+    → readOf (textIn m r) o ≡ readInto (length (textIn m r)) (leftIn m r) o
+
+-- ---- by hand                                                                                         (02, xi: records made by hand)
+
+-- A sound block that was made by hand: its whole text is read to the block itself.
+abbrev pub RestoresByHand : Type 0
+RestoresByHand =
+    (b : List ℕ) → Bytes b → Sound b → ByHand (decode b) → ColorsFollow (decode b) → AllWritten whole (decode b)
+    → handsObstacle (decode b .position) ≡ Clear → linesObstacle (decode b .lines) ≡ Clear
+    → length (wholeText (decode b)) ≤ 65535 → (o : List ℕ) → length b ≤ length o
+    → readOf (wholeText (decode b)) o ≡ record { answer = Done (length (wholeText (decode b))) (length b); buffer = b ++ drop (length b) o }

@@ -1,0 +1,2 @@
+pub mod TextLines
+pub mod LinesPassed
