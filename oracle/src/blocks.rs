@@ -18,22 +18,31 @@ const BYTES: [u8; 8] = [0, 1, 9, 10, 25, 99, 100, 255];
 
 /// Any slice at all: mostly a sound block.
 pub fn block(r: &mut Rng) -> Vec<u8> {
+    block_and_origin(r).0
+}
+
+/// And whether it came of reading a text.
+pub fn block_and_origin(r: &mut Rng) -> (Vec<u8>, bool) {
     match r.below(10) {
-        0..=1 => spoiled(r),
-        _ => sound_block(r),
+        0..=1 => (spoiled(r), false),
+        _ => sound_block_and_origin(r),
     }
 }
 
 pub fn sound_block(r: &mut Rng) -> Vec<u8> {
-    let block = match r.below(300) {
-        0 => crowded(r),
-        1 => full(r),
-        2 => encode(&most_moves(r)),
-        3..=150 => read_block(r),
-        _ => encode(&record(r)),
+    sound_block_and_origin(r).0
+}
+
+fn sound_block_and_origin(r: &mut Rng) -> (Vec<u8>, bool) {
+    let (block, from_text) = match r.below(300) {
+        0 => (crowded(r), false),
+        1 => (full(r), false),
+        2 => (encode(&most_moves(r)), false),
+        3..=150 => (read_block(r), true),
+        _ => (encode(&record(r)), false),
     };
     assert!(sound(&block), "not as sound as it should be");
-    block
+    (block, from_text)
 }
 
 /// A block with as many lines as one can hold, or one fewer.
@@ -48,8 +57,13 @@ pub fn full(r: &mut Rng) -> Vec<u8> {
 
 /// A block that the reader answered, and so one that can be written and read back.
 pub fn read_block(r: &mut Rng) -> Vec<u8> {
+    read_from(r, texts::text)
+}
+
+/// The block of the first of these texts that is read.
+pub fn read_from(r: &mut Rng, text: fn(&mut Rng) -> Vec<u8>) -> Vec<u8> {
     loop {
-        if let Outcome::Made { result, .. } = judge::read(&texts::text(r)) {
+        if let Outcome::Made { result, .. } = judge::read(&text(r)) {
             return result;
         }
     }

@@ -4,12 +4,13 @@ use crate::judge::{self, Answer, Outcome};
 use crate::sound::sound;
 use std::fmt;
 
+/// An edit's `from_text` tells whether its block came of reading a text, and of edits after that, if any.
 #[derive(Clone, PartialEq, Eq)]
 pub enum Call {
     Read { text: Vec<u8> },
     Write { block: Vec<u8> },
-    PutIn { block: Vec<u8>, line: u64, text: Vec<u8> },
-    Cut { block: Vec<u8>, line: u64 },
+    PutIn { block: Vec<u8>, line: u64, text: Vec<u8>, from_text: bool },
+    Cut { block: Vec<u8>, line: u64, from_text: bool },
     Comment { block: Vec<u8>, k: u64 },
     Key { block: Vec<u8>, k: u64 },
     Value { block: Vec<u8>, k: u64 },
@@ -22,8 +23,8 @@ impl Call {
         match self {
             Call::Read { text } => judge::read(text),
             Call::Write { block } => judge::write(block),
-            Call::PutIn { block, line, text } => judge::put_in(block, *line, text),
-            Call::Cut { block, line } => judge::cut(block, *line),
+            Call::PutIn { block, line, text, .. } => judge::put_in(block, *line, text),
+            Call::Cut { block, line, .. } => judge::cut(block, *line),
             Call::Comment { block, k } => Outcome::Answered(judge::comment(block, *k).0),
             Call::Key { block, k } => Outcome::Answered(judge::key(block, *k).0),
             Call::Value { block, k } => Outcome::Answered(judge::value(block, *k).0),
@@ -45,8 +46,8 @@ impl fmt::Display for Call {
         match self {
             Call::Read { text } => write!(f, "read {}", Quoted(text)),
             Call::Write { block } => write!(f, "write {}", Hex(block)),
-            Call::PutIn { block, line, text } => write!(f, "put_in {} {line} {}", Hex(block), Quoted(text)),
-            Call::Cut { block, line } => write!(f, "cut {} {line}", Hex(block)),
+            Call::PutIn { block, line, text, .. } => write!(f, "put_in {} {line} {}", Hex(block), Quoted(text)),
+            Call::Cut { block, line, .. } => write!(f, "cut {} {line}", Hex(block)),
             Call::Comment { block, k } => write!(f, "comment {} {k}", Hex(block)),
             Call::Key { block, k } => write!(f, "key {} {k}", Hex(block)),
             Call::Value { block, k } => write!(f, "value {} {k}", Hex(block)),

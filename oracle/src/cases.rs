@@ -18,6 +18,21 @@ pub fn any_text(seed: u64) -> Call {
     Call::Read { text: texts::text(&mut Rng::new(seed)) }
 }
 
+pub fn numbered_text(seed: u64) -> Call {
+    let r = &mut Rng::new(seed);
+    Call::Read { text: if r.one_in(200) { written_to_the_limit(r) } else { texts::numbered(r) } }
+}
+
+/// A text with so long a comment that what is written of it is as long as a text may be, or has up to two bytes fewer
+/// or more. With nine moves or more its block stays within the limit.
+fn written_to_the_limit(r: &mut Rng) -> Vec<u8> {
+    let moves: String = (1..10 + r.below(1_700)).map(|ply| format!("{ply}同歩打(0:0/0:0)\n")).collect();
+    let commented = |length| format!("手数\n*{}\n{moves}", "x".repeat(length)).into_bytes();
+    let Outcome::Made { result: block, .. } = judge::read(&commented(0)) else { unreachable!() };
+    let Outcome::Made { result: written, .. } = judge::write(&block) else { unreachable!() };
+    commented(LIMIT - 2 + r.below(5) - written.len())
+}
+
 pub fn altered_block(seed: u64) -> Call {
     Call::Sound { block: blocks::altered(seed) }
 }
@@ -50,16 +65,16 @@ pub fn to_put_in(seed: u64) -> Call {
 }
 
 fn drawn_put_in(r: &mut Rng) -> Call {
-    let block = to_be_edited(r);
-    put_in(r, block)
+    let (block, from_text) = to_be_edited(r);
+    put_in(r, block, from_text)
 }
 
-/// Any slice, more often than elsewhere a block with the most lines or the most bytes.
-fn to_be_edited(r: &mut Rng) -> Vec<u8> {
+/// Any slice, more often than elsewhere a block with the most lines or the most bytes; and whether it came of a text.
+fn to_be_edited(r: &mut Rng) -> (Vec<u8>, bool) {
     match r.below(60) {
-        0 => blocks::crowded(r),
-        1 => blocks::full(r),
-        _ => blocks::block(r),
+        0 => (blocks::crowded(r), false),
+        1 => (blocks::full(r), false),
+        _ => blocks::block_and_origin(r),
     }
 }
 
@@ -68,47 +83,75 @@ fn at_the_end(r: &mut Rng) -> Call {
     let block = blocks::crowded(r);
     let shape = decode(&block).expect("a sound block holds a record").shape();
     let line = shape.len() - 1;
-    Call::PutIn { block, line: line as u64, text: format!("{}投了\n", shape[line].0).into_bytes() }
+    let text = format!("{}投了\n", shape[line].0).into_bytes();
+    Call::PutIn { block, line: line as u64, text, from_text: false }
 }
 
 /// A put-in into a block with so long a comment that what it makes is as long as a block can be, or has up to two bytes
 /// fewer or more. One that is refused stays as it is.
 fn filled_up(r: &mut Rng) -> Call {
     let call = drawn_put_in(r);
-    let Call::PutIn { block, line, text } = &call else { unreachable!() };
+    let Call::PutIn { block, line, text, .. } = &call else { unreachable!() };
     let Outcome::Made { result, .. } = judge::put_in(block, *line, text) else {
         return call;
     };
     let mut record = decode(block).expect("a sound block holds a record");
     let comment = "x".repeat((LIMIT - 2 + r.below(5)).saturating_sub(result.len() + 4));
     record.lines[0].entries[0].comments.push(comment);
-    Call::PutIn { block: encode(&record), line: *line, text: text.clone() }
+    Call::PutIn { block: encode(&record), line: *line, text: text.clone(), from_text: false }
 }
 
 /// A put-in into a block that the reader answered.
 pub fn to_edit(seed: u64) -> Call {
     let r = &mut Rng::new(seed);
     let block = blocks::read_block(r);
-    put_in(r, block)
+    put_in(r, block, true)
+}
+
+/// An edit of a block that came of reading a text and of up to three edits.
+pub fn to_edit_again(seed: u64) -> Call {
+    let r = &mut Rng::new(seed);
+    let text = if r.one_in(4) { texts::text } else { texts::numbered };
+    let mut block = blocks::read_from(r, text);
+    for _ in 0..r.below(4) {
+        if let Outcome::Made { result, .. } = edit(r, block.clone()).judged() {
+            block = result;
+        }
+    }
+    edit(r, block)
+}
+
+/// A put-in, or as often a cut where there is something to cut.
+fn edit(r: &mut Rng, block: Vec<u8>) -> Call {
+    let variations = u16_at(&block, 8).is_some_and(|lines| lines > 1);
+    if variations && r.one_in(2) {
+        cut(r, block, true)
+    } else {
+        put_in(r, block, true)
+    }
 }
 
 /// Mostly into a line that there is, at a ply that it has.
-fn put_in(r: &mut Rng, block: Vec<u8>) -> Call {
+fn put_in(r: &mut Rng, block: Vec<u8>, from_text: bool) -> Call {
     let shape = decode(&block).map_or(vec![], |record| record.shape());
     let line = some_line(r, 0, shape.len());
     let (start, count) = shape.get(line as usize).copied().unwrap_or((0, 0));
     let first = start.max(1);
     let plies = (start + count as u64).saturating_sub(first) as usize;
     let ply = if r.one_in(10) { r.below(20) as u64 } else { first + r.below(plies.max(1)) as u64 };
-    Call::PutIn { block, line, text: texts::variation(r, ply) }
+    Call::PutIn { block, line, text: texts::variation(r, ply), from_text }
 }
 
 pub fn to_cut(seed: u64) -> Call {
     let r = &mut Rng::new(seed);
-    let block = to_be_edited(r);
+    let (block, from_text) = to_be_edited(r);
+    cut(r, block, from_text)
+}
+
+fn cut(r: &mut Rng, block: Vec<u8>, from_text: bool) -> Call {
     let lines = decode(&block).map_or(0, |record| record.lines.len());
     let line = some_line(r, 1, lines);
-    Call::Cut { block, line }
+    Call::Cut { block, line, from_text }
 }
 
 /// Mostly a line from the first to the last, if there are any.

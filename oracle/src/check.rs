@@ -6,13 +6,14 @@ use crate::cases;
 use crate::edits::EDITS;
 use crate::judge::{self, Answer, Outcome};
 use crate::known;
-use crate::record::{decode, encode, Clock, Record, What, LIMIT};
+use crate::left::{colours_follow, left};
+use crate::record::{decode, encode, Record, LIMIT};
 use crate::runner::{caught, run, Kind};
 use crate::short::SHORT;
 use crate::small::SMALL;
 use crate::sound::sound;
 
-const KINDS: [Kind; 13] = [
+const KINDS: [Kind; 15] = [
     Kind { name: "short texts", share: 17, all: Some(SHORT), make: cases::short_text, test: reading },
     Kind { name: "texts", share: 20, all: None, make: cases::any_text, test: reading },
     Kind { name: "bytes", share: 13, all: None, make: cases::altered_block, test: soundness },
@@ -26,6 +27,8 @@ const KINDS: [Kind; 13] = [
     Kind { name: "comments", share: 2, all: None, make: cases::a_comment, test: looking_up },
     Kind { name: "keys", share: 2, all: None, make: cases::a_key, test: looking_up },
     Kind { name: "values", share: 2, all: None, make: cases::a_value, test: looking_up },
+    Kind { name: "numbered", share: 4, all: None, make: cases::numbered_text, test: reading },
+    Kind { name: "edits again", share: 4, all: None, make: cases::to_edit_again, test: editing_again },
 ];
 
 /// Whether all known answers and all generated cases hold.
@@ -120,7 +123,7 @@ fn putting_in(call: &Call) -> u64 {
 
 /// Just the run goes; the kept lines keep their entries and, renumbered, their parents; the rule made afresh agrees.
 fn cutting(call: &Call) -> u64 {
-    let Call::Cut { block, line } = call else { unreachable!() };
+    let Call::Cut { block, line, .. } = call else { unreachable!() };
     let outcome = call.judged();
     let number = buffers(&outcome);
     let Outcome::Made { result, answer } = outcome else {
@@ -152,6 +155,14 @@ fn editing(call: &Call) -> u64 {
         reads_back(result);
     }
     buffers(&outcome)
+}
+
+/// After several edits too; and each keeps what an edit must keep.
+fn editing_again(call: &Call) -> u64 {
+    if let Outcome::Made { result, .. } = call.judged() {
+        reads_back(&result);
+    }
+    small_editing(call)
 }
 
 /// The part is the text that the record has by this number, and lies in the block where the figures say.
@@ -208,41 +219,17 @@ fn buffers(outcome: &Outcome) -> u64 {
 
 /// Reading back what is written of a block that a reader gave is the record again, but for what 01 says is lost.
 fn reads_back(block: &[u8]) {
-    let mut record = decode(block).unwrap();
     let Outcome::Made { result: text, answer } = judge::write(block) else {
         return;
     };
-    record.lines.truncate(judge::written_lines(&record));
-    if text.len() > LIMIT || !colours_follow_plies(&record) {
+    let left = left(&decode(block).unwrap());
+    // Colours in lines that are left out do not matter.
+    if text.len() > LIMIT || !colours_follow(&left) {
         return;
     }
-    lose(&mut record);
     let Outcome::Made { result: again, answer: taken } = judge::read(&text) else {
         panic!("what was written is refused");
     };
     assert_eq!(taken.first, answer.first, "what was written is not wholly taken");
-    assert_eq!(decode(&again).unwrap(), record, "not the same record");
-}
-
-/// Now hour, 不成, and that a total hour is absent.
-fn lose(record: &mut Record) {
-    for entry in record.lines.iter_mut().flat_map(|line| &mut line.entries) {
-        if let What::Move(m) = &mut entry.what {
-            m.promote = if m.promote == 1 { 0 } else { m.promote };
-        }
-        if let Some(time) = &mut entry.time {
-            time.now.h = None;
-            time.total = Clock { h: Some(time.total.h.unwrap_or(0)), ..time.total };
-        }
-    }
-}
-
-fn colours_follow_plies(record: &Record) -> bool {
-    record.lines.iter().all(|line| {
-        let plies = line.entries.iter().zip(line.start..);
-        plies.into_iter().all(|(entry, ply)| match &entry.what {
-            What::Move(m) => m.colour == u8::from(ply % 2 == 0),
-            _ => true,
-        })
-    })
+    assert_eq!(decode(&again).unwrap(), left, "not the same record");
 }

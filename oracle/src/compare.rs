@@ -1,5 +1,6 @@
-//! The port against the judge: the same calls, every answer and every byte.
+//! The port against the judge: the same calls, every answer and every byte; and what the port writes, read back by it.
 
+use crate::back::Tally;
 use crate::call::Call;
 use crate::cases;
 use crate::judge::{Outcome, LONGEST};
@@ -16,6 +17,8 @@ const STACK: usize = 1 << 20;
 thread_local! {
     /// The buffer from case to case. A case that fails leaves none behind.
     static LENT: Cell<Option<Lent>> = const { Cell::new(None) };
+    /// What was read back in all cases so far.
+    static BACK: Cell<Tally> = Cell::default();
 }
 
 const KINDS: &[Kind] = &[
@@ -43,11 +46,16 @@ const KINDS: &[Kind] = &[
     Kind { name: "put_in", share: 7, all: None, make: cases::to_put_in, test: compared },
     #[cfg(feature = "kif_cut")]
     Kind { name: "cut", share: 4, all: None, make: cases::to_cut, test: compared },
+    #[cfg(feature = "kif_read")]
+    Kind { name: "numbered", share: 10, all: None, make: cases::numbered_text, test: compared },
+    #[cfg(all(feature = "kif_put_in", feature = "kif_cut"))]
+    Kind { name: "edits again", share: 10, all: None, make: cases::to_edit_again, test: compared },
 ];
 
 /// Whether the port answers every case as the judge does.
 pub fn compare(cases: u64, seed: u64) -> bool {
     let (passed, failed) = run("compare", KINDS, cases, seed, Some(|calls| all_compared(calls).ok()));
+    BACK.get().print();
     println!("{passed} passed, {failed} failed");
     failed == 0
 }
@@ -57,26 +65,42 @@ fn compared(call: &Call) -> u64 {
     all_compared(slice::from_ref(call)).unwrap_or_else(|difference| panic!("{difference}"))[0]
 }
 
-/// The numbers that the longest buffer gets, if answers and bytes are the same for all calls with every buffer; or how
-/// they first differ. One small stack serves all of them, since it takes longer to make than a call.
+/// The numbers that the longest buffer gets, if answers and bytes are the same for all calls with every buffer and what
+/// they make of texts reads back as it should; or how port and judge first differ.
 fn all_compared(calls: &[Call]) -> Result<Vec<u64>, String> {
-    let outcomes: Vec<_> = calls.iter().map(Call::judged).collect();
-    let given = black_box(calls.to_vec());
-    let mut lent = LENT.take().unwrap_or_else(Lent::new);
-    let difference = on_small_stack(|| {
-        let mut cases = given.iter().zip(&outcomes);
-        cases.find_map(|(call, outcome)| {
-            lengths(call, outcome).iter().find_map(|&length| difference(call, outcome, &mut lent, length))
-        })
-    });
-    if let Some(difference) = difference {
+    let asked: Vec<_> = calls.iter().map(|call| (call.clone(), call.judged())).collect();
+    if let Some((_, difference)) = first_difference(&asked, lengths) {
         return Err(difference);
     }
-    if *black_box(&given) != *calls {
-        return Err("the port changed what it was given to read".into());
+    let mut tally = BACK.get();
+    let back: Vec<_> = asked.iter().flat_map(|(call, outcome)| tally.calls(call, outcome)).collect();
+    if let Some((call, difference)) = first_difference(&back, just_enough) {
+        return Err(format!("then {call}\n  {difference}"));
+    }
+    BACK.set(tally);
+    Ok(asked.iter().map(|(_, outcome)| outcome.answer_in(LONGEST).number).collect())
+}
+
+/// The first call that the port does not answer as it should with one of these lengths lent, and how. One small stack
+/// serves all calls, since it takes longer to make than a call.
+fn first_difference(cases: &[(Call, Outcome)], lengths: fn(&Call, &Outcome) -> Vec<usize>) -> Option<(&Call, String)> {
+    let given: Vec<_> = black_box(cases.iter().map(|(call, _)| call.clone()).collect());
+    let mut lent = LENT.take().unwrap_or_else(Lent::new);
+    let found = on_small_stack(|| {
+        given.iter().zip(cases).find_map(|(given, (call, outcome))| {
+            let mut lengths = lengths(call, outcome).into_iter();
+            Some((call, lengths.find_map(|length| difference(given, outcome, &mut lent, length))?))
+        })
+    });
+    if found.is_some() {
+        return found;
+    }
+    let changed = black_box(&given).iter().zip(cases).find(|(given, (call, _))| *given != call);
+    if let Some((_, (call, _))) = changed {
+        return Some((call, "the port changed what it was given to read".into()));
     }
     LENT.set(Some(lent));
-    Ok(outcomes.iter().map(|outcome| outcome.answer_in(LONGEST).number).collect())
+    None
 }
 
 /// How the port and the judge differ with so many bytes lent.
@@ -100,6 +124,11 @@ fn lengths(call: &Call, outcome: &Outcome) -> Vec<usize> {
         }
         _ => vec![0],
     }
+}
+
+/// Room for the result and no more; other lengths are lent where such a call is a case of its own.
+fn just_enough(_: &Call, outcome: &Outcome) -> Vec<usize> {
+    vec![outcome.needed().unwrap_or(0)]
 }
 
 fn on_small_stack<T: Send>(run: impl FnOnce() -> T + Send) -> T {

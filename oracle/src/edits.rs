@@ -61,9 +61,9 @@ pub fn edit(n: u64) -> Call {
     let (line, ply) = ((place - before) / OF_A_LINE, (place - before) % OF_A_LINE);
     let block = encode(&shaped(shape));
     if ply == OF_A_LINE - 1 {
-        return Call::Cut { block, line };
+        return Call::Cut { block, line, from_text: false };
     }
-    Call::PutIn { block, line, text: format!("{ply}同歩打\n*new\n").into_bytes() }
+    Call::PutIn { block, line, text: format!("{ply}同歩打\n*new\n").into_bytes(), from_text: false }
 }
 
 /// A record of this shape in which no two entries are alike.

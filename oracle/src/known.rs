@@ -1,6 +1,7 @@
 //! The answers that 01 itself gives, and those at the points where its words meet the original: all by hand.
 
 use crate::judge::{self, Outcome};
+use crate::left::left;
 use crate::listing::listing;
 use crate::record::{decode, encode, Diagram, Record, What, LIMIT};
 
@@ -23,7 +24,7 @@ line 1 start 2 moves 1 parent 0
 ";
 
 /// Each group by name; a group panics at the first answer that is not the known one.
-pub const GROUPS: [(&str, fn()); 7] = [
+pub const GROUPS: [(&str, fn()); 8] = [
     ("worked example", worked_example),
     ("positions", positions),
     ("put-ins and cuts", put_ins_and_cuts),
@@ -31,6 +32,7 @@ pub const GROUPS: [(&str, fn()); 7] = [
     ("texts", texts),
     ("writing", writing),
     ("orders", orders),
+    ("what is left", what_is_left),
 ];
 
 fn worked_example() {
@@ -217,4 +219,19 @@ fn orders() {
     assert_eq!(cut(&block, 1), (5, block.len() as u64 - 68, 0));
     let look_up = |block: &[u8]| judge::comment(block, u64::MAX).0;
     assert_eq!((look_up(&block[1..]).number, look_up(&block).number, look_up(&block).first), (7, 10, u64::MAX));
+}
+
+/// Each of 01's losses alone, and a record that has nothing to lose: a text, and one of the record that is left.
+fn what_is_left() {
+    let moved = |how: &str| format!("手合割：香落ち\na：b\n手数\n*c\n1 ７六銀{how}\n*d\n2 投了\n");
+    let known = [
+        (game(&[(8, 1), (0, 3), (2, 1), (0, 1)]), game(&[(8, 1)])),
+        (moved("成(77)(1:2:3/4:5:6)"), moved("成(77)(2:3/4:5:6)")),
+        (moved("不成(77)"), moved("(77)")),
+        (moved("成(77)(2:3/5:6)"), moved("成(77)(2:3/0:5:6)")),
+        (WORKED_EXAMPLE.into(), WORKED_EXAMPLE.into()),
+    ];
+    for (before, after) in known {
+        assert_eq!(left(&record(&before)), record(&after), "{before:?}");
+    }
 }

@@ -3,6 +3,8 @@
 // The original's types, under the path by which its own files name them.
 include!(concat!(env!("OUT_DIR"), "/jkf.rs"));
 mod attach;
+#[cfg(feature = "linked")]
+mod back;
 #[cfg(feature = "kif_read")]
 mod bench;
 mod blocks;
@@ -14,6 +16,7 @@ mod compare;
 mod edits;
 mod judge;
 mod known;
+mod left;
 #[cfg(feature = "linked")]
 mod lent;
 mod listing;

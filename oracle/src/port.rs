@@ -59,11 +59,11 @@ pub fn answer(call: &Call, out: &mut [u8]) -> Answer {
         #[cfg(feature = "kif_write")]
         Call::Write { block } => lend(|n, a, b| unsafe { kif_write(block.as_ptr(), block.len(), at, room, n, a, b) }),
         #[cfg(feature = "kif_put_in")]
-        Call::PutIn { block, line, text } => lend(|n, a, b| unsafe {
+        Call::PutIn { block, line, text, .. } => lend(|n, a, b| unsafe {
             kif_put_in(block.as_ptr(), block.len(), *line, text.as_ptr(), text.len(), at, room, n, a, b)
         }),
         #[cfg(feature = "kif_cut")]
-        Call::Cut { block, line } => {
+        Call::Cut { block, line, .. } => {
             lend(|n, a, b| unsafe { kif_cut(block.as_ptr(), block.len(), *line, at, room, n, a, b) })
         }
         #[cfg(feature = "kif_comment")]

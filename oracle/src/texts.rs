@@ -50,6 +50,13 @@ pub fn text(r: &mut Rng) -> Vec<u8> {
     }
 }
 
+/// A text without a step beside the rules, so that mostly each move has the number of its ply.
+pub fn numbered(r: &mut Rng) -> Vec<u8> {
+    let mut maker = Maker { strays: usize::MAX, ..Maker::new(r) };
+    maker.whole();
+    maker.text.into_bytes()
+}
+
 /// A variation to put in, mostly at this ply and mostly well formed.
 pub fn variation(r: &mut Rng, ply: u64) -> Vec<u8> {
     let mut maker = Maker::new(r);

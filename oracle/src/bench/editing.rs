@@ -7,9 +7,10 @@ use crate::record::{decode, LIMIT};
 pub fn bench() {
     let mut out = vec![0; LIMIT];
     println!("\nputting a move in on the last entry of the same blocks; the port's answer and time");
-    made_slow(edits(|block, line, ply| Call::PutIn { block, line, text: format!("{ply}同歩打\n").into() }), &mut out);
+    let text = |ply: u64| format!("{ply}同歩打\n").into();
+    made_slow(edits(|block, line, ply| Call::PutIn { block, line, text: text(ply), from_text: true }), &mut out);
     println!("\ncutting the last line out of those that have variations; the port's answer and time");
-    let cuts = edits(|block, line, _| Call::Cut { block, line });
+    let cuts = edits(|block, line, _| Call::Cut { block, line, from_text: true });
     made_slow(cuts.into_iter().filter(|(_, _, cut)| !matches!(cut, Call::Cut { line: 0, .. })).collect(), &mut out);
 }
 

@@ -132,8 +132,8 @@ fn add_small(sample: &mut Sample, made: usize, refused: usize, is_asked_for: fn(
 
 fn add_once(sample: &mut Sample, call: &Call) {
     let given = match call {
-        Call::PutIn { block, line, text } => asked(block, *line, text),
-        Call::Cut { block, line } => asked(block, *line, &[]),
+        Call::PutIn { block, line, text, .. } => asked(block, *line, text),
+        Call::Cut { block, line, .. } => asked(block, *line, &[]),
         _ => unreachable!("no edit"),
     };
     sample.add_lent_once(&given, &call.judged());
