@@ -43,7 +43,7 @@ use Rattle.edit.proofs.Keeping.{kept-after-put, new-parent}
 use Rattle.edit.proofs.Cutting.{HangsFrom as HangsIn, itself as itselfIn, on as onIn, cut-length, run-within, kept-after-cut, run-is-what-hangs}
 use Rattle.edit.proofs.Sounds.{lines-afresh, plays-back, parent-is}
 use Rattle.edit.proofs.Undoing.{cut-undoes}
-use Rattle.laws.specs.Blocks.{Bytes, blockIn}
+use Rattle.laws.specs.Blocks.{Bytes, frontOf}
 use Rattle.laws.proofs.Fields.{lines-are, start-is, entry-count-is}
 use Rattle.laws.proofs.Decoded.{formed-fits, decode-encode}
 use Rattle.laws.proofs.Encoded.{encode-decode}
@@ -118,28 +118,28 @@ remove-made r k z h = rw (ne-eqb k 0 (λ e. omega arith), lt-ltb k (length (r .l
 -- ---- put-in
 
 module _ (b t o : List ℕ) (bs : Bytes b) (ts : Bytes t) (k n i : ℕ) (done : putInOf b k t o .answer ≡ Done n i) where
-  puts : PutDone b k t (blockIn n (putInOf b k t o)) i
+  puts : PutDone b k t (frontOf n (putInOf b k t o)) i
   puts = put-done b t o bs ts k n i done
 
   put-long : length (putLines b k t) ≡ linesIn b + 1
   put-long = put-length (playsOf b) (putPlace b k t) (variationOf t) (place-within (playsOf b) k (plyAt t 0) (puts .put)) ∙ ap (λ (x : ℕ). x + 1) (plays-long b)
 
-  pub put-sound : Sound (blockIn n (putInOf b k t o))
-  put-sound = relined-sound b (putLines b k t) (blockIn n (putInOf b k t o)) (puts .formed) (puts .front)
+  pub put-sound : Sound (frontOf n (putInOf b k t o))
+  put-sound = relined-sound b (putLines b k t) (frontOf n (putInOf b k t o)) (puts .formed) (puts .front)
 
-  pub put-rest : (linesIn (blockIn n (putInOf b k t o)) ≡ linesIn b + 1)
-      × (decode (blockIn n (putInOf b k t o)) .headers ≡ decode b .headers)
-      × (decode (blockIn n (putInOf b k t o)) .position ≡ decode b .position)
+  pub put-rest : (linesIn (frontOf n (putInOf b k t o)) ≡ linesIn b + 1)
+      × (decode (frontOf n (putInOf b k t o)) .headers ≡ decode b .headers)
+      × (decode (frontOf n (putInOf b k t o)) .position ≡ decode b .position)
   put-rest =
-      let c = blockIn n (putInOf b k t o) in
+      let c = frontOf n (putInOf b k t o) in
       let (h, p) = relined-rest b (putLines b k t) c (puts .formed) (puts .front) in
       (relined-many b (putLines b k t) c (puts .formed) (puts .front) ∙ put-long, h, p)
 
   pub put-keeps : (l : ℕ) → l < linesIn b
-      → lineOf (decode (blockIn n (putInOf b k t o)) .lines) (renumbered i l)
+      → lineOf (decode (frontOf n (putInOf b k t o)) .lines) (renumbered i l)
       ≡ withParent (renumbered i (lineOf (decode b .lines) l .parent)) (lineOf (decode b .lines) l)
   put-keeps l h =
-      let c = blockIn n (putInOf b k t o) in
+      let c = frontOf n (putInOf b k t o) in
       let a : l < length (playsOf b) = omega (arith, plays-long b) in
       let (e, p) = kept-after-put (playsOf b) k (variationOf t) (puts .put) l (play 0 []) a in
       subst (λ (x : ℕ). lineOf (decode c .lines) (renumbered x l) ≡ withParent (renumbered x (lineOf (decode b .lines) l .parent)) (lineOf (decode b .lines) l)) (sym (puts .place))
@@ -152,18 +152,18 @@ module _ (b t o : List ℕ) (bs : Bytes b) (ts : Bytes t) (k n i : ℕ) (done : 
           by-pick (λ (q : ℕ). q < length (putLines b k t)) (leb (putPlace b k t) l) (l + 1) l (λ _. omega (arith, put-long)) (λ _. omega (arith, put-long))
 
   -- the new line
-  new-line : lineOf (decode (blockIn n (putInOf b k t o)) .lines) (putPlace b k t)
+  new-line : lineOf (decode (frontOf n (putInOf b k t o)) .lines) (putPlace b k t)
       ≡ record { start = plyAt t 0; parent = k; entries = entriesAt t 0 .state }
   new-line =
       let qs = putLines b k t in
       let fits = place-within (playsOf b) k (plyAt t 0) (puts .put) in
-      ap (λ (ls : List Line). lineOf ls (putPlace b k t)) (relined-lines b qs (blockIn n (putInOf b k t o)) (puts .formed) (puts .front))
+      ap (λ (ls : List Line). lineOf ls (putPlace b k t)) (relined-lines b qs (frontOf n (putInOf b k t o)) (puts .formed) (puts .front))
       ∙ attach-line qs (putPlace b k t) (omega (arith, put-long, plays-long b))
       ∙ ap₂ (λ (x : Play) (y : ℕ). record { start = x .start; parent = y; entries = x .entries })
       (put-list (playsOf b) (putPlace b k t) (variationOf t) fits (play 0 []) .new) (new-parent (playsOf b) k (variationOf t) (puts .put))
 
   -- where the attaching rule finds that it hangs
-  new-hang : hangs (startOf (blockIn n (putInOf b k t o))) (entryCount (blockIn n (putInOf b k t o))) (plyAt t 0) (putPlace b k t)
+  new-hang : hangs (startOf (frontOf n (putInOf b k t o))) (entryCount (frontOf n (putInOf b k t o))) (plyAt t 0) (putPlace b k t)
       ≡ On k (plyAt t 0 - startOf b k)
   new-hang =
       let v = variationOf t in
@@ -177,7 +177,7 @@ module _ (b t o : List ℕ) (bs : Bytes b) (ts : Bytes t) (k n i : ℕ) (done : 
       ∙ simp (le-leb (startOf b k) (plyAt t 0) (omega (arith, ply-low (playsOf b) k (plyAt t 0) (puts .put))), lt-ltb (plyAt t 0 - startOf b k) (entryCount b k) (omega (arith, ply-within (playsOf b) k (plyAt t 0) (puts .put))))
     where
       c : List ℕ
-      c = blockIn n (putInOf b k t o)
+      c = frontOf n (putInOf b k t o)
 
       qs : List Play
       qs = putLines b k t
@@ -194,16 +194,16 @@ module _ (b t o : List ℕ) (bs : Bytes b) (ts : Bytes t) (k n i : ℕ) (done : 
       ct : (j : ℕ) → j < length qs → entryCount c j ≡ counts qs j
       ct = relined-counts b qs c (puts .formed) (puts .front)
 
-  pub put-hangs : (lineOf (decode (blockIn n (putInOf b k t o)) .lines) i ≡ record { start = plyAt t 0; parent = k; entries = entriesAt t 0 .state })
-      × (hangs (startOf (blockIn n (putInOf b k t o))) (entryCount (blockIn n (putInOf b k t o))) (plyAt t 0) i ≡ On k (plyAt t 0 - startOf b k))
+  pub put-hangs : (lineOf (decode (frontOf n (putInOf b k t o)) .lines) i ≡ record { start = plyAt t 0; parent = k; entries = entriesAt t 0 .state })
+      × (hangs (startOf (frontOf n (putInOf b k t o))) (entryCount (frontOf n (putInOf b k t o))) (plyAt t 0) i ≡ On k (plyAt t 0 - startOf b k))
   put-hangs =
-      let c = blockIn n (putInOf b k t o) in (
+      let c = frontOf n (putInOf b k t o) in (
         subst (λ (x : ℕ). lineOf (decode c .lines) x ≡ record { start = plyAt t 0; parent = k; entries = entriesAt t 0 .state }) (sym (puts .place)) new-line,
         subst (λ (x : ℕ). hangs (startOf c) (entryCount c) (plyAt t 0) x ≡ On k (plyAt t 0 - startOf b k)) (sym (puts .place)) new-hang,
       )
 
   -- cut, the new line leaves the record that there was
-  taken-back : remove (decode (blockIn n (putInOf b k t o))) (putPlace b k t) ≡ edited (decode b) 1
+  taken-back : remove (decode (frontOf n (putInOf b k t o))) (putPlace b k t) ≡ edited (decode b) 1
   unfolding fresh
   taken-back =
       let qs = putLines b k t in
@@ -212,17 +212,17 @@ module _ (b t o : List ℕ) (bs : Bytes b) (ts : Bytes t) (k n i : ℕ) (done : 
       let past = place-past (playsOf b) k (plyAt t 0) (puts .put) in
       let fits = place-within (playsOf b) k (plyAt t 0) (puts .put) in
       let (alone, back) = cut-undoes (playsOf b) k (variationOf t) (puts .put) in
-      ap (λ (x : Record). remove x i) (relined-is b qs (blockIn n (putInOf b k t o)) (puts .formed) (puts .front))
+      ap (λ (x : Record). remove x i) (relined-is b qs (frontOf n (putInOf b k t o)) (puts .formed) (puts .front))
       ∙ remove-made r i (omega arith) (omega (arith, attach-length qs, put-long, plays-long b))
       ∙ ap (λ (l : List Play). edited (fresh r (without i (removedFrom l i) l)) (removedFrom l i)) (plays-back qs)
       ∙ ap (λ (m : ℕ). edited (fresh r (without i m qs)) m) alone
       ∙ ap (λ (l : List Play). edited (fresh r l) 1) back
       ∙ ap (λ (x : Record). edited x 1) (same-record b (puts .sound))
 
-  pub put-undone : (o′ : List ℕ) → cutOf (blockIn n (putInOf b k t o)) i o′ ≡ storedOf b 1 o′
+  pub put-undone : (o′ : List ℕ) → cutOf (frontOf n (putInOf b k t o)) i o′ ≡ storedOf b 1 o′
   unfolding cutOf editedOf
   put-undone o′ =
-      let c = blockIn n (putInOf b k t o) in
+      let c = frontOf n (putInOf b k t o) in
       ap (λ (x : Bool). pick x (editedOf (remove (decode c) i) o′) (refuse NotSound o′)) (sound-answers c put-sound)
       ∙ ap (λ (x : ℕ). editedOf (remove (decode c) x) o′) (puts .place)
       ∙ ap (λ (x : Edited). editedOf x o′) taken-back
@@ -239,7 +239,7 @@ unfolding figures
 no-cut-too-long b o k n bs e = cut-not-long b o bs k (ap (λ (x : Answer). figures x .number) e)
 
 module _ (b o : List ℕ) (bs : Bytes b) (k n m : ℕ) (done : cutOf b k o .answer ≡ Done n m) where
-  cuts : CutDone b k (blockIn n (cutOf b k o)) m
+  cuts : CutDone b k (frontOf n (cutOf b k o)) m
   cuts = cut-done b o bs k n m done
 
   cut-within : k + cutMany b k ≤ length (playsOf b)
@@ -256,19 +256,19 @@ module _ (b o : List ℕ) (bs : Bytes b) (k n m : ℕ) (done : cutOf b k o .answ
 
   -- ---- the block after it
 
-  pub cut-sound : Sound (blockIn n (cutOf b k o))
-  cut-sound = relined-sound b (cutLines b k) (blockIn n (cutOf b k o)) (cuts .formed) (cuts .front)
+  pub cut-sound : Sound (frontOf n (cutOf b k o))
+  cut-sound = relined-sound b (cutLines b k) (frontOf n (cutOf b k o)) (cuts .formed) (cuts .front)
 
-  pub cut-rest : (linesIn (blockIn n (cutOf b k o)) + m ≡ linesIn b)
-      × (decode (blockIn n (cutOf b k o)) .headers ≡ decode b .headers)
-      × (decode (blockIn n (cutOf b k o)) .position ≡ decode b .position)
+  pub cut-rest : (linesIn (frontOf n (cutOf b k o)) + m ≡ linesIn b)
+      × (decode (frontOf n (cutOf b k o)) .headers ≡ decode b .headers)
+      × (decode (frontOf n (cutOf b k o)) .position ≡ decode b .position)
   cut-rest =
-      let c = blockIn n (cutOf b k o) in
+      let c = frontOf n (cutOf b k o) in
       let (h, p) = relined-rest b (cutLines b k) c (cuts .formed) (cuts .front) in
       (omega (arith, relined-many b (cutLines b k) c (cuts .formed) (cuts .front), cut-long, cut-within, cuts .many, plays-long b), h, p)
 
   pub cut-keeps : (l : ℕ) → l < linesIn b → Kept k m l
-      → (lineOf (decode (blockIn n (cutOf b k o)) .lines) (lowered k m l)
+      → (lineOf (decode (frontOf n (cutOf b k o)) .lines) (lowered k m l)
       ≡ withParent (lowered k m (lineOf (decode b .lines) l .parent)) (lineOf (decode b .lines) l))
       × Kept k m (lineOf (decode b .lines) l .parent)
   cut-keeps l h =
@@ -276,7 +276,7 @@ module _ (b o : List ℕ) (bs : Bytes b) (k n m : ℕ) (done : cutOf b k o .answ
       (sym (cuts .many)) keeps
     where
       c : List ℕ
-      c = blockIn n (cutOf b k o)
+      c = frontOf n (cutOf b k o)
 
       a : l < length (playsOf b)
       a = omega (arith, plays-long b)

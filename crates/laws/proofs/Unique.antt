@@ -1,7 +1,7 @@
 -- No second result meets a promise.                                                                   (01, What the promises say)
 -- Every promise of a public function is made of the shapes below: an equation for the result, for a lent buffer or for a part, or one of
--- `Wrote`, `Stored`, `Entered` and `Told`. Of each, two results, buffers and numbers that meet it for the same input are equal, since every
--- field of it is an equation with the input alone on its right side. A look-up's part lies in the block where its figures say.
+-- `Wrote`, `Stored`, `Entered` and `Told`. Of each, two results, buffers and numbers that meet it for the same input are equal, since its
+-- equations give the count by the input, and all else by the input and the count. A look-up's part has the bytes that stand where its figures say.
 -- Assumes nothing.
 use Prim.Native.Nat.{ℕ, _+_, _≤_, _<_}
 use mathlib.Core.Path.{_≡_, refl, sym, ap, _∙_}
@@ -44,11 +44,13 @@ both-one s t = (equation-one (s .0) (t .0), equation-one (s .1) (t .1))
 
 -- ---- what is written
 
+-- a text at the front, and how many bytes it has
 pub wrote-one : {t o a b : List ℕ} {n m : ℕ} → Wrote t o a n → Wrote t o b m → (a ≡ b) × (n ≡ m)
 wrote-one {t} {o} w v =
     let e = equation-one (w .count) (v .count) in
     (w .bytes ∙ ap (λ (k : ℕ). t ++ drop k o) e ∙ sym (v .bytes), e)
 
+-- a text at a place, and the place past it
 pub stored-one : {t o a b : List ℕ} {at n m : ℕ} → Stored t o a at n → Stored t o b at m → (a ≡ b) × (n ≡ m)
 stored-one s u = (equation-one (s .bytes) (u .bytes), equation-one (s .end) (u .end))
 
@@ -69,6 +71,7 @@ walk-one : {a b c d e f a′ b′ c′ d′ e′ f′ : ℕ} {g g′ : Cursor} �
     → walk a b c d e f g ≡ walk a′ b′ c′ d′ e′ f′ g′
 walk-one h₀ h₁ h₂ h₃ h₄ h₅ h₆ = cc
 
+-- entries filled in, and the walk past them
 pub entered-one : {es : List Noted} {at : ℕ} {w u v : Walk} {o a b : List ℕ} → Entered es at w u o a → Entered es at w v o b → (a ≡ b) × (u ≡ v)
 entered-one s t = (
   equation-one (s .filled .bytes) (t .filled .bytes),
@@ -84,13 +87,14 @@ entered-one s t = (
 
 -- ---- the three lent numbers
 
+-- number and figures
 pub told-one : {a : Answer} {n m x y z w : ℕ} → Told a n x y → Told a m z w → (n ≡ m) × (x ≡ z) × (y ≡ w)
 told-one s t = (equation-one (s .number) (t .number), equation-one (s .first) (t .first), equation-one (s .second) (t .second))
 
--- the three numbers say the answer: a call that answers by them promises what one that answers an `Answer` does
 figured-one : {n x y m z w : ℕ} → n ≡ m → x ≡ z → y ≡ w → figured n x y ≡ figured m z w
 figured-one h₀ h₁ h₂ = cc
 
+-- the three numbers say the answer: a call that answers by them promises what one that answers an `Answer` does
 pub answer-one : {a b : Answer} {n x y : ℕ} → Told a n x y → Told b n x y → a ≡ b
 answer-one {a} {b} s t = figures-one a b (figured-one (sym (s .number) ∙ t .number) (sym (s .first) ∙ t .first) (sym (s .second) ∙ t .second))
 

@@ -1,5 +1,5 @@
 -- Reading back: what was written is read as the same record, but for what its text loses. Each statement is a type, and the theorem of its
--- name is proved in proofs/Back.                                                                      (demand 2; 01, Writing, and what is lost)
+-- name is proved in proofs/Back.                                                                      (01, Writing, and what is lost)
 -- Assumes nothing: these are definitions.
 use Prim.Native.Nat.{ℕ, _≤_}
 use mathlib.Core.Path.{_≡_}
@@ -23,19 +23,19 @@ use Rattle.converter.specs.Writing.{writeOf}
 use Rattle.converter.specs.declared.Obstacle.the-variants.{Clear}
 use Rattle.edit.specs.Edit.{playsIn}
 use Rattle.edit.specs.Editing.{putInOf, cutOf}
-use Rattle.laws.specs.Blocks.{Bytes, blockIn}
+use Rattle.laws.specs.Blocks.{Bytes, frontOf}
 use Rattle.laws.specs.Whole.{wholeText}
 use Rattle.laws.specs.Left.{left}
 use Rattle.laws.specs.Sayable.{Sayable, ColorsFollow}
 use Rattle.laws.specs.Modes.{Mode, whole, textIn, leftIn, AllWritten, ByHand}
 
--- ---- demand 2
+-- ---- a record once read, then written
 
--- The blocks of which it is promised: one that the reader answered, and what a later put-in or cut answered of such a block.
+-- The blocks of which reading back is promised: one that the reader answered, and what a later put-in or cut answered of such a block.
 pub data OnceRead : List ℕ → Type 0 where
-  read : (s o : List ℕ) (t n : ℕ) → Bytes s → readOf s o .answer ≡ Done t n → OnceRead (blockIn n (readOf s o))
-  put : (b : List ℕ) (k : ℕ) (t o : List ℕ) (n i : ℕ) → OnceRead b → Bytes t → putInOf b k t o .answer ≡ Done n i → OnceRead (blockIn n (putInOf b k t o))
-  cut : (b : List ℕ) (k : ℕ) (o : List ℕ) (n m : ℕ) → OnceRead b → cutOf b k o .answer ≡ Done n m → OnceRead (blockIn n (cutOf b k o))
+  read : (s o : List ℕ) (t n : ℕ) → Bytes s → readOf s o .answer ≡ Done t n → OnceRead (frontOf n (readOf s o))
+  put : (b : List ℕ) (k : ℕ) (t o : List ℕ) (n i : ℕ) → OnceRead b → Bytes t → putInOf b k t o .answer ≡ Done n i → OnceRead (frontOf n (putInOf b k t o))
+  cut : (b : List ℕ) (k : ℕ) (o : List ℕ) (n m : ℕ) → OnceRead b → cutOf b k o .answer ≡ Done n m → OnceRead (frontOf n (cutOf b k o))
 
 -- A reading that takes n bytes and finds r in them: the block of r at the front of the lent buffer, and the rest as it was.
 abbrev pub readInto : ℕ → Record → List ℕ → Outcome
@@ -48,7 +48,7 @@ ReadsBack =
     (b : List ℕ) → OnceRead b → ColorsFollow (decode b)
     → (o : List ℕ) (n l : ℕ) → writeOf b o .answer ≡ Done n l → n ≤ 65535
     → (o′ : List ℕ) → length (encode (left (decode b))) ≤ length o′
-    → (readOf (blockIn n (writeOf b o)) o′ ≡ readInto n (left (decode b)) o′) × (decode (encode (left (decode b))) ≡ left (decode b))
+    → (readOf (frontOf n (writeOf b o)) o′ ≡ readInto n (left (decode b)) o′) × (decode (encode (left (decode b))) ≡ left (decode b))
 
 -- Nothing more is lost the second time, and the text is then the same.
 abbrev pub LosesOnce : Type 0
@@ -60,11 +60,11 @@ LosesOnce = (r : Record) → (left (left r) ≡ left r) × (recordText (left r) 
 abbrev pub PlainIsWhole : Type 0
 PlainIsWhole = (r : Record) → recordText r ≡ wholeText (left r)
 
--- What n bytes say whose header entries, position and lines of play are a record's.
+-- What a reading finds in n bytes that say a record: its header entries, its position, its lines of play without their parents.
 abbrev pub saidBy : Record → ℕ → Parsed
 saidBy r n = record { headers = r .headers; position = r .position; plays = playsIn (r .lines); taken = n }
 
--- A text says, to its last byte, the lines of play without their parents, and no hand line of it fails.
+-- A text says, to its last byte, the header entries, the position and the lines of play of what it leaves, and no hand line of it fails.
 abbrev pub SaysBack : Type 0
 SaysBack =
     (m : Mode) (r : Record) → Formed r → Sayable r → ColorsFollow r → handsObstacle (r .position) ≡ Clear → AllWritten m r
@@ -85,7 +85,8 @@ ReadsBackIn =
 
 -- ---- by hand                                                                                         (02, xi: records made by hand)
 
--- A sound block that was made by hand: its whole text is read to the block itself.
+-- A sound block that was made by hand, whose colours follow their plies, in which no variation starts at 0, and which the writer does not
+-- refuse: its whole text, where it is within the limit, is read to the block itself.
 abbrev pub RestoresByHand : Type 0
 RestoresByHand =
     (b : List ℕ) → Bytes b → Sound b → ByHand (decode b) → ColorsFollow (decode b) → AllWritten whole (decode b)

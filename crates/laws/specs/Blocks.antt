@@ -10,5 +10,5 @@ abbrev pub Bytes : List ℕ → Type 0
 Bytes b = (k : ℕ) → getD b k 0 < 256
 
 -- The first n bytes of the lent buffer after a call.
-abbrev pub blockIn : ℕ → Outcome → List ℕ
-blockIn n x = take n (x .buffer)
+abbrev pub frontOf : ℕ → Outcome → List ℕ
+frontOf n x = take n (x .buffer)

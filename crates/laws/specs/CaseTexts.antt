@@ -12,33 +12,34 @@ abbrev pub pawn : List ℕ
 pawn = 230 ∷ 173 ∷ 169 ∷ []
 
 -- A move line: n 同歩打.
-unfoldable pub moveText : ℕ → List ℕ
-moveText n = decimal n ++ (32 ∷ []) ++ sameWord ++ pawn ++ drops ++ (10 ∷ [])
+unfoldable pub moveLine : ℕ → List ℕ
+moveLine n = decimal n ++ (32 ∷ []) ++ sameWord ++ pawn ++ drops ++ (10 ∷ [])
 
 -- So many move lines, the first of them with number n.
-unfoldable pub movesText : ℕ → ℕ → List ℕ
-movesText n moves = concat moveText (run (λ k. k) n moves)
+unfoldable pub moveLines : ℕ → ℕ → List ℕ
+moveLines n moves = concat moveLine (run (λ k. k) n moves)
 
 -- A move line with an origin: 1 同歩(n).
-unfoldable pub originText : ℕ → List ℕ
-originText n = (49 ∷ 32 ∷ []) ++ sameWord ++ pawn ++ (40 ∷ []) ++ decimal n ++ (41 ∷ 10 ∷ [])
+unfoldable pub originLine : ℕ → List ℕ
+originLine n = (49 ∷ 32 ∷ []) ++ sameWord ++ pawn ++ (40 ∷ []) ++ decimal n ++ (41 ∷ 10 ∷ [])
 
 -- A variation: the ply that it starts at, and how many moves it has.
 pub record Variation : Type 0 where
   pub start : ℕ
   pub moves : ℕ
 
+-- One that starts at this ply and has so many moves.
 abbrev pub from : ℕ → ℕ → Variation
 from start moves = record { start = start; moves = moves }
 
 -- 変化：n手 and its moves.
-unfoldable pub variationText : Variation → List ℕ
-variationText v =
-    (229 ∷ 164 ∷ 137 ∷ 229 ∷ 140 ∷ 150 ∷ 239 ∷ 188 ∷ 154 ∷ []) ++ decimal (v .start) ++ (230 ∷ 137 ∷ 139 ∷ 10 ∷ []) ++ movesText (v .start) (v .moves)
+unfoldable pub variationLines : Variation → List ℕ
+variationLines v =
+    (229 ∷ 164 ∷ 137 ∷ 229 ∷ 140 ∷ 150 ∷ 239 ∷ 188 ∷ 154 ∷ []) ++ decimal (v .start) ++ (230 ∷ 137 ∷ 139 ∷ 10 ∷ []) ++ moveLines (v .start) (v .moves)
 
 -- The main line, whose last ply is 8, and variations.
 unfoldable pub textOf : List Variation → List ℕ
-textOf vs = movesText 1 8 ++ concat variationText vs
+textOf vs = moveLines 1 8 ++ concat variationLines vs
 
 -- 九十九
 abbrev pub ninetyNine : List ℕ

@@ -4,7 +4,7 @@
 use Prim.Native.Nat.{ℕ, _-_, _≤_}
 use mathlib.Core.Path.{_≡_}
 use mathlib.Core.List.{List, [], _∷_}
-use lib.ListN.{length, take, replicate}
+use lib.ListN.{length, replicate}
 use lib.Dec.{eqb}
 use Rattle.lists.specs.All.{All}
 use Rattle.lists.specs.Pick.{pick}
@@ -22,21 +22,24 @@ use Rattle.moves.specs.declared.MoveLine.the-variants.{Numbered, NoLine}
 use Rattle.parser.specs.Read.{readOf}
 use Rattle.edit.specs.Editing.{putInOf, cutOf}
 use Rattle.shown.specs.Listing.{listingText, refusalText}
-use Rattle.laws.specs.CaseTexts.{moveText, originText, Variation, from, textOf, ninetyNine, workedText, workedListing}
+use Rattle.laws.specs.Blocks.{frontOf}
+use Rattle.laws.specs.CaseTexts.{moveLine, originLine, Variation, from, textOf, ninetyNine, workedText, workedListing}
 
 -- ---- the calls, with a lent buffer o
 
--- Reading a text of the main line and these variations; and the block that a reading stores.
+-- Reading a text of the main line and these variations.
 abbrev pub reading : List ℕ → List Variation → Outcome
 reading o vs = readOf (textOf vs) o
 
+-- The block that a reading stores: its second figure says how long it is.
 abbrev pub blockOf : Outcome → List ℕ
-blockOf r = take (figures (r .answer) .second) (r .buffer)
+blockOf r = frontOf (figures (r .answer) .second) r
 
--- Putting a variation of one move in on a line, with this ply printed; and cutting a line.
+-- Putting a variation of one move in on a line, with this ply printed.
 abbrev pub putting : List ℕ → List Variation → ℕ → ℕ → Outcome
-putting o vs line ply = putInOf (blockOf (reading o vs)) line (moveText ply) o
+putting o vs line ply = putInOf (blockOf (reading o vs)) line (moveLine ply) o
 
+-- Cutting a line out.
 abbrev pub cutting : List ℕ → List Variation → ℕ → Outcome
 cutting o vs line = cutOf (blockOf (reading o vs)) line o
 
@@ -53,6 +56,7 @@ pub record Place : Type 0 where
   pub line : ℕ
   pub entry : ℕ
 
+-- On this line, on its entry with this number.
 abbrev pub on : ℕ → ℕ → Place
 on line entry = record { line = line; entry = entry }
 
@@ -66,13 +70,15 @@ eachOf f r = run (f (r .buffer)) 1 (linesIn (r .buffer) - 1)
 
 -- ---- what a call gives
 
+-- The variations hang at places; a new line has a number, and then they hang so; so many lines are cut, and the others start at plies; a
+-- refusal has a number and two figures.
 pub data Result : Type 0 where
   hang : List Place → Result
   goesIn : ℕ → List Place → Result
   leaves : ℕ → List ℕ → Result
   refused : ℕ → ℕ → ℕ → Result
 
--- With a lent buffer o, the outcome r.
+-- What a result says of the outcome r of a call that was lent the buffer o.
 abbrev pub Gives : List ℕ → Result → Outcome → Type 0
 -- Success, and the variations hang at these places.
 Gives o (hang places) r = (figures (r .answer) .number ≡ 0) × (eachOf placeIn r ≡ places)
@@ -103,16 +109,18 @@ Holds o (reads vs given) = Gives o given (reading o vs)
 -- Put-in on this line at this ply, into the block of such a text; cutting this line out of it.
 Holds o (puts vs line ply given) = Gives o given (putting o vs line ply)
 Holds o (cuts vs line given) = Gives o given (cutting o vs line)
--- 1 同歩(n) is a move line, to its last byte, from (x, y); it is none.
+-- 1 同歩(n) is a move line, to its last byte, from (x, y).
 Holds o (isFrom n x y) =
-    moveLineAt (originText n) 0
-    ≡ Numbered 1 (Play (record { color = 0; piece = 1; promote = 0; to = Same; from = From x y; time = Untimed })) (cursor (length (originText n)))
-Holds o (isNoLine n) = moveLineAt (originText n) 0 ≡ NoLine
+    moveLineAt (originLine n) 0
+    ≡ Numbered 1 (Play (record { color = 0; piece = 1; promote = 0; to = Same; from = From x y; time = Untimed })) (cursor (length (originLine n)))
+-- It is no move line.
+Holds o (isNoLine n) = moveLineAt (originLine n) 0 ≡ NoLine
 -- The characters are this count, to their last byte.
 Holds o (counts t n) = countAt t 0 ≡ As n (cursor (length t))
 -- The listing program prints this of the text.
-Holds o (prints text listed) = listing (readOf text o) ≡ listed
+Holds o (prints t listed) = listing (readOf t o) ≡ listed
 
+-- The rows.
 unfoldable pub cases : List Case
 cases =
     -- what starts later may stand before what starts earlier: both are on the main line
@@ -143,7 +151,7 @@ cases =
     isNoLine 256 ∷
     -- the largest count
     counts ninetyNine 99 ∷
-    -- the worked example
+    -- the worked example: what is printed of it
     prints workedText workedListing ∷ []
 
 -- Every row holds, with any lent buffer of 600 bytes or more.

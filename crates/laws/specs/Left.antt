@@ -14,35 +14,39 @@ use Rattle.block.specs.Model.{Noted, Line, Record}
 use Rattle.converter.specs.Entries.{hour, minute, second}
 use Rattle.converter.specs.Show.{shown}
 
--- The first loss, 不成: it leaves no mark.
+-- Lost: 不成, which leaves no mark.
 unfoldable pub leftMark : ℕ → ℕ
 leftMark promote = pick (eqb promote 1) 0 promote
 
--- The second, the hour of a move's own time.
+-- Lost: the hour of what an entry itself took.
 unfoldable pub leftNow : Clock → Clock
 leftNow c = Ms (minute c) (second c)
 
--- The third, that a total has no hour: it comes back as 0.
+-- Lost: that a total has no hour; it comes back with the hour 0.
 unfoldable pub leftTotal : Clock → Clock
 leftTotal c = Hms (hour c) (minute c) (second c)
 
+-- Of a time, its two clocks.
 unfoldable pub leftTime : Time → Time
 leftTime Untimed = Untimed
 leftTime (Timed now total) = Timed (leftNow now) (leftTotal total)
 
+-- Of an entry, its mark and its time.
 unfoldable pub leftEntry : Entry → Entry
 leftEntry Slot = Slot
 leftEntry (Play m) =
     Play (record { color = m .color; piece = m .piece; promote = leftMark (m .promote); to = m .to; from = m .from; time = leftTime (m .time) })
 leftEntry (End s t) = End s (leftTime t)
 
+-- Comments are all kept.
 unfoldable pub leftNoted : Noted → Noted
 leftNoted e = record { what = leftEntry (e .what); comments = e .comments }
 
+-- So are a line's start, its parent and how many entries it has.
 unfoldable pub leftLine : Line → Line
 leftLine l = record { start = l .start; parent = l .parent; entries = map leftNoted (l .entries) }
 
--- The last, the first variation with start 0 and all lines after it.
+-- Lost: every line from the first later one on that starts at ply 0.
 unfoldable pub leftLines : List Line → List Line
 leftLines [] = []
 leftLines (l ∷ ls) = leftLine l ∷ map leftLine (shown ls)

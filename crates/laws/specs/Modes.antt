@@ -54,7 +54,7 @@ pub record NotedByHand (e : Noted) : Type 0 where
   pub entry : EntryByHand (e .what)
   pub comments : All OneLine (e .comments)
 
--- A record that was not read, and whose whole text can be.
+-- What 02 asks of the header entries and the entries of a record that was made by hand.
 pub record ByHand (r : Record) : Type 0 where
   pub headers : All HeaderSayable (r .headers)
   pub entries : All (λ l. All NotedByHand (l .entries)) (r .lines)

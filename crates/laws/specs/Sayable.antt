@@ -1,5 +1,5 @@
--- What a text can say: the records that are read as they were written. A reading gives such a record, and edits by text keep it so.
--- (01, Reading rules; 02, xi)
+-- What a text can say of a record's header and lines, so that it is read as it was written; and colours that follow their plies. A reading
+-- gives what can be said, and edits by text keep it so.                                               (01, Reading rules; 02, xi)
 -- Assumes nothing: these are definitions.
 use Prim.Native.Nat.{ℕ, _+_, _<_}
 use mathlib.Core.Path.{_≡_}
@@ -28,13 +28,13 @@ use Rattle.converter.specs.Headers.{headerLine}
 -- ---- header entries
 
 -- Every byte of a text is of a class.
-abbrev pub all : (ℕ → Bool) → List ℕ → Bool
-all f [] = true
-all f (b ∷ t) = pick (f b) (all f t) false
+abbrev pub everyByte : (ℕ → Bool) → List ℕ → Bool
+everyByte f [] = true
+everyByte f (b ∷ t) = pick (f b) (everyByte f t) false
 
 -- No CR and no LF.
 abbrev pub OneLine : List ℕ → Type 0
-OneLine t = all isText t ≡ true
+OneLine t = everyByte isText t ≡ true
 
 -- A text begins with a side and の持駒：.
 abbrev pub beginsHand : List Spelling → List ℕ → Bool
@@ -63,11 +63,11 @@ pub record SlotSayable (e : Noted) : Type 0 where
   pub slot : e .what ≡ Slot
   pub comments : All OneLine (e .comments)
 
--- The main line begins with the slot, and no other entry is one.
+-- The main line begins with the slot; every other entry of it and of the later lines is a move or a special that can be read.
 abbrev pub PlaysSayable : List Play → Type 0
 PlaysSayable = Led (λ p. Led SlotSayable NotedSayable (p .entries)) (λ p. All NotedSayable (p .entries))
 
--- All of it.
+-- Header entries and lines of play that a text can say.
 pub record Sayable (r : Record) : Type 0 where
   pub headers : All HeaderSayable (r .headers)
   pub plays : PlaysSayable (playsIn (r .lines))
@@ -85,6 +85,6 @@ pub data Colored : ℕ → List Noted → Type 0 where
   end : {ply : ℕ} → Colored ply []
   then : {ply : ℕ} {e : Noted} {es : List Noted} → Follows ply (e .what) → Colored (ply + 1) es → Colored ply (e ∷ es)
 
--- In every line of a record, from its start on.                                                       (demand 2)
+-- In every line of a record, from its start on.
 abbrev pub ColorsFollow : Record → Type 0
 ColorsFollow r = All (λ p. Colored (p .start) (p .entries)) (playsIn (r .lines))

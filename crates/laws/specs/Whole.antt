@@ -1,4 +1,4 @@
--- The text that loses nothing: as the plain text, but that it says 不成, the hour of a move's own time, and that a total has none.
+-- The text that loses nothing: as the plain text, but that it says 不成, the hour of what an entry itself took, and that a total has none.
 -- (02, xi)
 -- Assumes nothing: these are definitions.
 use Prim.Native.Nat.{ℕ, _+_}
@@ -81,5 +81,6 @@ wholeLines (l ∷ ls) = (numberLine ++ wholeMain l) ++ concat wholeVariation ls
 
 -- ---- the whole
 
+-- Header entries, position, lines.
 unfoldable pub wholeText : Record → List ℕ
 wholeText r = (headersText (r .headers) ++ positionText (r .position)) ++ wholeLines (r .lines)

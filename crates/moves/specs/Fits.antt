@@ -24,6 +24,7 @@ pub data ClockFits : Clock → Type 0 where
   hmsFits : {h m s : ℕ} → h ≤ 255 → m ≤ 255 → s ≤ 255 → ClockFits (Hms h m s)
   msFits : {m s : ℕ} → m ≤ 255 → s ≤ 255 → ClockFits (Ms m s)
 
+-- No time, or two clocks.
 pub data TimeFits : Time → Type 0 where
   untimedFits : TimeFits Untimed
   timedFits : {now total : Clock} → ClockFits now → ClockFits total → TimeFits (Timed now total)
@@ -37,6 +38,7 @@ pub data TargetFits : Target → Type 0 where
 pub data OriginFits : Origin → Type 0 where
   fromFits : {x y : ℕ} → x ≤ 25 → y ≤ 9 → x * 10 + y ≤ 255 → OriginFits (From x y)
 
+-- A move of either side, of one of the 14 kinds, with one of the three marks.
 pub record MoveFits (m : Move) : Type 0 where
   pub side : m .color ≤ 1
   pub some : 1 ≤ m .piece

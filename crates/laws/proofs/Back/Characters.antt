@@ -19,7 +19,7 @@ use Rattle.text.proofs.Widths.{past-stop, past-more, char-within}
 use Rattle.spell.specs.Tables.{Spelling}
 use Rattle.spell.specs.Spell.{spelled}
 use Rattle.block.specs.Encode.{concat}
-use Rattle.laws.specs.Sayable.{all}
+use Rattle.laws.specs.Sayable.{everyByte}
 use Rattle.laws.proofs.Back.Leaves.{byte-2, in-text, at-end}
 
 pub data Chars : List ℕ → Type 0 where
@@ -160,9 +160,9 @@ ascii-size : (b : ℕ) → ltb b 128 ≡ true → sizeOf b ≡ 1
 unfolding sizeOf
 ascii-size b h = rw h
 
-pub ascii-chars : (t : List ℕ) → all (λ b. ltb b 128) t ≡ true → Chars t
+pub ascii-chars : (t : List ℕ) → everyByte (λ b. ltb b 128) t ≡ true → Chars t
 ascii-chars [] h = empty
-ascii-chars (b ∷ t) h = let (p, q) = pick-both (ltb b 128) (all (λ b. ltb b 128) t) h in one (ascii-size b p) (ascii-chars t q)
+ascii-chars (b ∷ t) h = let (p, q) = pick-both (ltb b 128) (everyByte (λ b. ltb b 128) t) h in one (ascii-size b p) (ascii-chars t q)
 
 -- a test that antt computes
 abbrev pub wells : List Spelling → Bool

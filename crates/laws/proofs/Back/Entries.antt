@@ -24,7 +24,7 @@ use Rattle.parser.specs.Plays.{commentsAt, entriesAt, plyAt}
 use Rattle.parser.proofs.Items.{comments-more, comments-none, entries-more, entries-none}
 use Rattle.converter.specs.Entries.{starText, remarkText, remarksText}
 use Rattle.laws.specs.Whole.{wholeLine, wholeNoted, wholeEntries}
-use Rattle.laws.specs.Sayable.{all, OneLine, Follows}
+use Rattle.laws.specs.Sayable.{everyByte, OneLine, Follows}
 use Rattle.laws.proofs.Back.Leaves.{byte-fails, blanks-none, digits-fail, tail-reads, break-reads, decimal-reads, padded-blanks, padded-off}
 use Rattle.laws.proofs.Back.MoveLines.{line-reads}
 
@@ -60,7 +60,7 @@ remark-came t h {s} {at} r st k = go t (eqb (getD t 0 0) 38) refl h st k
         let st′ = simp append-assoc at st in
         let z : eqb b 42 ≡ false = rw q in
         then (tag-reads (38 ∷ [])) (rw q at st′) tt λ e₁ i₁ l₁.
-        then (tail-reads t (pick-both (isText b) (all isText t) h .1)) l₁ refl λ e₂ i₂ l₂.
+        then (tail-reads t (pick-both (isText b) (everyByte isText t) h .1)) l₁ refl λ e₂ i₂ l₂.
         then break-reads l₂ tt λ e₃ i₃ l₃.
         k at e₂ e₃ (rw (byte-fails 42 [] st′ z, i₁, i₂, i₃)) (stands-between (b ∷ t) st′ l₂) l₃
 

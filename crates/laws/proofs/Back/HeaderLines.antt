@@ -26,7 +26,7 @@ use Rattle.kakinoki.specs.Informations.{turnTag, handsTag, hashLinesAt, paddedE
 use Rattle.kakinoki.specs.declared.Held.the-variants.{NoHand}
 use Rattle.kakinoki.specs.declared.HandLine.{HandLine}
 use Rattle.converter.specs.Headers.{headerLine}
-use Rattle.laws.specs.Sayable.{all, OneLine, beginsHand, HeaderSayable}
+use Rattle.laws.specs.Sayable.{everyByte, OneLine, beginsHand, HeaderSayable}
 use Rattle.laws.proofs.Back.Leaves.{all-append, tail-reads, break-reads}
 use Rattle.laws.proofs.Back.PresetLines.{Break, lf, stands-local, prefix-split, one-line-rest, preset-alike, plain}
 use Rattle.laws.proofs.Back.Information.{hash-none}
@@ -72,7 +72,7 @@ key-from (b ∷ k) r h =
 
 -- what begins a key with another byte than the colon's lies in the key
 abbrev noColon : List ℕ → Bool
-noColon t = all (λ b. not (eqb 239 b)) t
+noColon t = everyByte (λ b. not (eqb 239 b)) t
 
 prefix-before : (t k v : List ℕ) → noColon t ≡ true → prefixFrom t (k ++ (wideColon ++ v)) ≡ true → (j : List ℕ) × (k ≡ t ++ j)
 unfolding prefixFrom
@@ -122,7 +122,7 @@ pad-colon-step n (b ∷ k) v ih h o s at st = go (eqb b 32) (prefixFrom wideSpac
     go : (t u : Bool) → eqb b 32 ≡ t → prefixFrom wideSpace ((b ∷ k) ++ (wideColon ++ v)) ≡ u → paddedEndAt s at ≡ Absent
     go true u e f = past (b ∷ []) k (omega arith) refl (rw (byte-0 st, e))
     go false true e f = let (j, q) = wide-none (b ∷ k) v f in past wideSpace j (omega arith) q (rw (byte-0 st, e, st .rest, f))
-    go false false e f = stays b _ (pick-both (isText b) (all isText k) o .0) st (rw (byte-0 st, e, st .rest, f))
+    go false false e f = stays b _ (pick-both (isText b) (everyByte isText k) o .0) st (rw (byte-0 st, e, st .rest, f))
 
 pad-colon : (n : ℕ) (k v : List ℕ) → length k ≤ n → OneLine k → (s : List ℕ) (at : ℕ) → Stands s at (k ++ (wideColon ++ v)) → paddedEndAt s at ≡ Absent
 pad-colon zero [] v h o s at st = colon-stays v st
@@ -182,7 +182,7 @@ module _ (u : List ℕ) {x : List ℕ} (b : Break x) {s : List ℕ} {at : ℕ} (
   unfolding firstOf tagAt
   hand-fails [] h n = refl
   hand-fails (e ∷ es) h n =
-      let (p, q) = pick-both (all isText (e .bytes)) (plain es) h in
+      let (p, q) = pick-both (everyByte isText (e .bytes)) (plain es) h in
       go (prefixFrom (e .bytes) u) refl (prefixFrom (e .bytes ++ handsTag) u) refl n p (hand-fails es q)
     where
       Held : Spelled → HandLine

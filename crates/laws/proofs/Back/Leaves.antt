@@ -19,7 +19,7 @@ use Rattle.text.specs.declared.Place.the-variants.{Past, Absent}
 use Rattle.text.specs.declared.Number.the-variants.{Value, NoDigit}
 use Rattle.text.proofs.Laws.{digit-bounds}
 use Rattle.spell.proofs.Written.{clash, stands-other}
-use Rattle.laws.specs.Sayable.{all}
+use Rattle.laws.specs.Sayable.{everyByte}
 use lib.Seq.{getD-drop}
 
 -- ---- what stands there
@@ -42,17 +42,17 @@ at-end {s} {e} st =
 
 -- ---- classes
 
-pub all-append : (f : ℕ → Bool) (t u : List ℕ) → all f t ≡ true → all f u ≡ true → all f (t ++ u) ≡ true
+pub all-append : (f : ℕ → Bool) (t u : List ℕ) → everyByte f t ≡ true → everyByte f u ≡ true → everyByte f (t ++ u) ≡ true
 all-append f [] u h k = k
-all-append f (b ∷ t) u h k = let (p, q) = pick-both (f b) (all f t) h in rw (p, all-append f t u q k)
+all-append f (b ∷ t) u h k = let (p, q) = pick-both (f b) (everyByte f t) h in rw (p, all-append f t u q k)
 
-pub all-replicate : (f : ℕ → Bool) (n b : ℕ) → f b ≡ true → all f (replicate n b) ≡ true
+pub all-replicate : (f : ℕ → Bool) (n b : ℕ) → f b ≡ true → everyByte f (replicate n b) ≡ true
 all-replicate f zero b h = refl
 all-replicate f (suc n) b h = rw (h, all-replicate f n b h)
 
-pub all-of : (f g : ℕ → Bool) → ((b : ℕ) → f b ≡ true → g b ≡ true) → (t : List ℕ) → all f t ≡ true → all g t ≡ true
+pub all-of : (f g : ℕ → Bool) → ((b : ℕ) → f b ≡ true → g b ≡ true) → (t : List ℕ) → everyByte f t ≡ true → everyByte g t ≡ true
 all-of f g k [] h = refl
-all-of f g k (b ∷ t) h = let (p, q) = pick-both (f b) (all f t) h in rw (k b p, all-of f g k t q)
+all-of f g k (b ∷ t) h = let (p, q) = pick-both (f b) (everyByte f t) h in rw (k b p, all-of f g k t q)
 
 -- what holds of each byte from 48 to 57, which antt computes, holds of each digit
 pub digit-is : (f : ℕ → Bool) → range f 48 10 ≡ true → (b : ℕ) → isDigit b ≡ true → f b ≡ true
@@ -75,16 +75,16 @@ byte-fails b t {r = x ∷ r} st h = rw (st .rest, h)
 
 -- ---- a span
 
-span-from : (f : ℕ → Bool) (t r : List ℕ) (at : ℕ) → all f t ≡ true → Off f r → spanFrom f (t ++ r) at ≡ at + length t
+span-from : (f : ℕ → Bool) (t r : List ℕ) (at : ℕ) → everyByte f t ≡ true → Off f r → spanFrom f (t ++ r) at ≡ at + length t
 unfolding spanFrom
 span-from f [] [] at h c = sym (add-zero at)
 span-from f [] (b ∷ r) at h c = rw c (sym (add-zero at))
 span-from f (b ∷ t) r at h c =
-    let (p, q) = pick-both (f b) (all f t) h in
+    let (p, q) = pick-both (f b) (everyByte f t) h in
     let z : at + 1 + length t ≡ at + suc (length t) = omega arith in
     rw p (span-from f t r (at + 1) q c ∙ z)
 
-pub span-reads : (f : ℕ → Bool) (t : List ℕ) → all f t ≡ true → Reads (spanAt f) (λ e. e) t (Off f)
+pub span-reads : (f : ℕ → Bool) (t : List ℕ) → everyByte f t ≡ true → Reads (spanAt f) (λ e. e) t (Off f)
 unfolding spanAt
 span-reads f t h = record { run = λ s at r st c. record { end = at + length t; is = rw (st .rest) (span-from f t r at h c); left = stands-past t r s at st } }
 
@@ -101,17 +101,17 @@ abbrev pub value : List ℕ → ℕ → ℕ
 value [] n = n
 value (b ∷ t) n = value t (n * 10 + (b - 48))
 
-number-from : (t r : List ℕ) (n : ℕ) → all isDigit t ≡ true → Off isDigit r → numberFrom (t ++ r) n ≡ value t n
+number-from : (t r : List ℕ) (n : ℕ) → everyByte isDigit t ≡ true → Off isDigit r → numberFrom (t ++ r) n ≡ value t n
 unfolding numberFrom
 number-from [] [] n h c = refl
 number-from [] (b ∷ r) n h c = rw c
 number-from (b ∷ t) r n h c =
-    let (p, q) = pick-both (isDigit b) (all isDigit t) h in
+    let (p, q) = pick-both (isDigit b) (everyByte isDigit t) h in
     rw p (number-from t r (n * 10 + (b - 48)) q c)
 
 -- a text is the digits of a number
 pub record Digits (t : List ℕ) (n : ℕ) : Type 0 where
-  pub digits : all isDigit t ≡ true
+  pub digits : everyByte isDigit t ≡ true
   pub some : 0 < length t
   pub makes : value t 0 ≡ n
 
@@ -153,7 +153,7 @@ digits-from (suc k) n h = go (ltb n 10) refl (digits-from k (n / 10))
     go false e ih =
         let g : 10 ≤ n = ltb-false _ _ e in
         let i = ih (omega arith) in
-        let d : all isDigit ((48 + n % 10) ∷ []) ≡ true = rw (digit-made (n % 10) (omega arith)) in
+        let d : everyByte isDigit ((48 + n % 10) ∷ []) ≡ true = rw (digit-made (n % 10) (omega arith)) in
         record {
           digits = all-append isDigit (digitsFrom k (n / 10)) ((48 + n % 10) ∷ []) (i .digits) d;
           some = omega (arith, length-append (digitsFrom k (n / 10)) ((48 + n % 10) ∷ []));
@@ -198,7 +198,7 @@ pair-digits x y h =
 -- how digits begin
 pub digits-off : (f : ℕ → Bool) → range (λ b. not (f b)) 48 10 ≡ true → (t : List ℕ) {n : ℕ} (r : List ℕ) → Digits t n → Off f (t ++ r)
 digits-off f h [] r d = let s = d .some in absurd (omega arith)
-digits-off f h (b ∷ t) r d = digit-off f h b (pick-both (isDigit b) (all isDigit t) (d .digits) .0)
+digits-off f h (b ∷ t) r d = digit-off f h b (pick-both (isDigit b) (everyByte isDigit t) (d .digits) .0)
 
 -- a number with blanks in front of it
 pub padded-blanks : (w n : ℕ) {s : List ℕ} {at : ℕ} (r : List ℕ) → Stands s at (padded w 32 n ++ r) → Came (blanksAt s at) (λ e. e) s (decimal n ++ r)
@@ -219,7 +219,7 @@ padded-off f w n r h k = go (w - length (decimal n)) (decimal n) (decimal-digits
 -- ---- the end of a line
 
 -- a tail before an LF, and the LF
-pub tail-reads : (t : List ℕ) → all isText t ≡ true → Reads tailAt (λ e. Past (cursor e)) t (λ r. getD r 0 0 ≡ 10)
+pub tail-reads : (t : List ℕ) → everyByte isText t ≡ true → Reads tailAt (λ e. Past (cursor e)) t (λ r. getD r 0 0 ≡ 10)
 unfolding tailAt
 tail-reads t h = record {
   run = λ s at r st c.
@@ -232,7 +232,7 @@ pub break-reads : Reads breakAt (λ e. Past (cursor e)) (10 ∷ []) Any
 unfolding breakAt
 break-reads = record { run = λ s at r st c. record { end = at + 1; is = rw (byte-0 st); left = stands-past (10 ∷ []) r s at st } }
 
-pub line-end-reads : (t : List ℕ) → all isText t ≡ true → Reads lineEndAt (λ e. Past (cursor e)) (t ++ (10 ∷ [])) Any
+pub line-end-reads : (t : List ℕ) → everyByte isText t ≡ true → Reads lineEndAt (λ e. Past (cursor e)) (t ++ (10 ∷ [])) Any
 unfolding lineEndAt
 line-end-reads t h = record {
   run = λ s at r st c.

@@ -29,7 +29,7 @@ use Rattle.parser.proofs.Variations.{variations-more, variations-none, main-is,
 use Rattle.converter.specs.Entries.{remarksText}
 use Rattle.converter.specs.Show.{numberLine, variationTag, variationHead}
 use Rattle.laws.specs.Whole.{wholeNoted, wholeEntries, wholeVariation, wholeLine}
-use Rattle.laws.specs.Sayable.{all, OneLine}
+use Rattle.laws.specs.Sayable.{everyByte, OneLine}
 use Rattle.laws.proofs.Back.Leaves.{all-append, all-of, digit-is, decimal-digits, line-end-reads, padded-off, byte-2, in-text}
 use Rattle.laws.proofs.Back.Entries.{isMark, comments-read, EntriesFit, done, also, After, entries-off, entries-read, ply-came}
 
@@ -71,7 +71,7 @@ unfolding variationHead
 head-skips n = record {
   run = λ s at r st c.
       let t : List ℕ = variationTag ++ (decimal n ++ (230 ∷ 137 ∷ 139 ∷ [])) in
-      let h : all isText t ≡ true = all-append isText (decimal n) (230 ∷ 137 ∷ 139 ∷ []) (all-of isDigit isText digit-text (decimal n) (decimal-digits n .digits)) refl in
+      let h : everyByte isText t ≡ true = all-append isText (decimal n) (230 ∷ 137 ∷ 139 ∷ []) (all-of isDigit isText digit-text (decimal n) (decimal-digits n .digits)) refl in
       let st′ : Stands s at (((10 ∷ t) ++ (10 ∷ [])) ++ r) = simp append-assoc (simp append-assoc at st) in
       lf-skips t h .run s at r st′ tt;
 }

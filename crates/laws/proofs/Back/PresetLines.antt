@@ -22,7 +22,7 @@ use Rattle.spell.specs.declared.Spelled.{Spelled}
 use Rattle.spell.specs.declared.Spelled.the-variants.{As, Not}
 use Rattle.spell.proofs.Written.{stands-here}
 use Rattle.kakinoki.specs.Informations.{presetTag, paddedEndAt, endsLine, presetLineAt}
-use Rattle.laws.specs.Sayable.{all, OneLine}
+use Rattle.laws.specs.Sayable.{everyByte, OneLine}
 
 -- a break, and what follows it
 pub data Break : List ℕ → Type 0 where
@@ -42,9 +42,9 @@ text-other b c h k = ne-eqb c b (λ e. true≢false (sym h ∙ ap isText (sym e)
 pub prefix-local : (t u : List ℕ) {x : List ℕ} → Break x → OneLine t → prefixFrom t (u ++ x) ≡ prefixFrom t u
 unfolding prefixFrom
 prefix-local [] u b h = refl
-prefix-local (c ∷ t) [] lf h = rw (text-other c 10 (pick-both (isText c) (all isText t) h .0) refl)
-prefix-local (c ∷ t) [] crlf h = rw (text-other c 13 (pick-both (isText c) (all isText t) h .0) refl)
-prefix-local (c ∷ t) (y ∷ u) b h = rw (prefix-local t u b (pick-both (isText c) (all isText t) h .1))
+prefix-local (c ∷ t) [] lf h = rw (text-other c 10 (pick-both (isText c) (everyByte isText t) h .0) refl)
+prefix-local (c ∷ t) [] crlf h = rw (text-other c 13 (pick-both (isText c) (everyByte isText t) h .0) refl)
+prefix-local (c ∷ t) (y ∷ u) b h = rw (prefix-local t u b (pick-both (isText c) (everyByte isText t) h .1))
 
 pub stands-local : (t u : List ℕ) {x : List ℕ} → Break x → OneLine t → {s : List ℕ} {at : ℕ} → Stands s at (u ++ x) → standsAt t s at ≡ prefixFrom t u
 unfolding standsAt
@@ -61,7 +61,7 @@ prefix-split (c ∷ t) (y ∷ u) h =
 
 pub one-line-rest : (t v : List ℕ) → OneLine (t ++ v) → OneLine v
 one-line-rest [] v h = h
-one-line-rest (c ∷ t) v h = one-line-rest t v (pick-both (isText c) (all isText (t ++ v)) h .1)
+one-line-rest (c ∷ t) v h = one-line-rest t v (pick-both (isText c) (everyByte isText (t ++ v)) h .1)
 
 nil-prefix : prefixFrom wideSpace [] ≡ false
 unfolding prefixFrom
@@ -70,7 +70,7 @@ nil-prefix = refl
 -- no spelling of a table has a break: a test that antt computes
 abbrev pub plain : List Spelling → Bool
 plain [] = true
-plain (e ∷ es) = pick (all isText (e .bytes)) (plain es) false
+plain (e ∷ es) = pick (everyByte isText (e .bytes)) (plain es) false
 
 -- ---- padding
 
@@ -135,7 +135,7 @@ unfolding breakAt
 break-is [] o lf {at = at} st = (at + 1, rw (byte-0 st))
 break-is [] o crlf {at = at} st = (at + 2, rw (byte-0 st, byte-1 st))
 break-is (c ∷ z) o b {at = at} st =
-    let h = pick-both (isText c) (all isText z) o .0 in
+    let h = pick-both (isText c) (everyByte isText z) o .0 in
     let z : eqb (suc (length z)) 0 ≡ false = ne-eqb (suc (length z)) 0 (λ e. omega arith) in
     (at, rw (byte-0 st, ten c h, thirteen c h, z))
   where
@@ -173,7 +173,7 @@ module _ {x y : List ℕ} (b : Break x) (c : Break y) where
   unfolding firstOf
   first-alike [] h v o st su = λ q. refl
   first-alike (e ∷ es) h v o {s} {s′} {at} {at′} st su =
-      let (p, k) = pick-both (all isText (e .bytes)) (plain es) h in
+      let (p, k) = pick-both (everyByte isText (e .bytes)) (plain es) h in
       go (prefixFrom (e .bytes) v) refl (stands-local (e .bytes) v b p st) (stands-local (e .bytes) v c p su) (first-alike es k v o st su)
     where
       Ended : List ℕ → Spelled → Spelled

@@ -44,7 +44,7 @@ use Rattle.parser.specs.Parse.{byHeader, headersOf}
 use Rattle.parser.proofs.Alls.{all-append}
 use Rattle.converter.specs.Headers.{headerLine}
 use Rattle.laws.proofs.Breaking.{pair-parts}
-use Rattle.laws.specs.Sayable.{all, OneLine, beginsHand, HeaderSayable}
+use Rattle.laws.specs.Sayable.{everyByte, OneLine, beginsHand, HeaderSayable}
 use Rattle.laws.proofs.Back.Leaves.{all-append as text-append, span-reads}
 use Rattle.laws.proofs.Back.PresetLines.{Break, lf, crlf, prefix-split, preset-alike, break-off}
 use Rattle.laws.proofs.Back.HeaderLines.{prefix-enough, key-text}
@@ -246,7 +246,7 @@ header-sayable s at e n = go (headerAt s at .value) (p .is)
 
     hash : (k : List ℕ) → 0 < length k → Stands s at ((((k ++ wideColon) ++ v)) ++ p .rest) → OneLine ((k ++ wideColon) ++ v) → eqb (getD k 0 0) 35 ≡ false
     hash [] z st o = absurd (omega arith)
-    hash (b ∷ k) z st o = no-hash b ((k ++ wideColon) ++ v) (pick-both (isText b) (all isText ((k ++ wideColon) ++ v)) o .1) (p .break) st n
+    hash (b ∷ k) z st o = no-hash b ((k ++ wideColon) ++ v) (pick-both (isText b) (everyByte isText ((k ++ wideColon) ++ v)) o .1) (p .break) st n
 
     go : (w : List ℕ) → w ≡ v → HeaderSayable (record { key = k; value = w })
     go w q =

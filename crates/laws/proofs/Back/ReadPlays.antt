@@ -26,7 +26,7 @@ use Rattle.moves.proofs.Fits.{move-line-fits}
 use Rattle.parser.specs.Plays.{commentsAt, entriesAt, skippedAt, slotAt, pastMain, mainAt, playsAt}
 use Rattle.parser.proofs.Items.{textOf}
 use Rattle.laws.proofs.Playing.{comments-all, entries-all, variations-all}
-use Rattle.laws.specs.Sayable.{all, OneLine, NotedSayable, PlaysSayable}
+use Rattle.laws.specs.Sayable.{everyByte, OneLine, NotedSayable, PlaysSayable}
 
 -- ---- a span is of its class
 
@@ -35,14 +35,14 @@ unfolding spanFrom
 span-ge f [] at = le-refl at
 span-ge f (b ∷ l) at = let h = span-ge f l (at + 1) in by-pick (λ (n : ℕ). at ≤ n) (f b) (spanFrom f l (at + 1)) at (λ _. omega arith) (λ _. le-refl at)
 
-span-all : (f : ℕ → Bool) (l : List ℕ) (at : ℕ) → all f (take (spanFrom f l at - at) l) ≡ true
+span-all : (f : ℕ → Bool) (l : List ℕ) (at : ℕ) → everyByte f (take (spanFrom f l at - at) l) ≡ true
 unfolding spanFrom
-span-all f [] at = ap (λ (m : List ℕ). all f m) (take-nil (at - at))
+span-all f [] at = ap (λ (m : List ℕ). everyByte f m) (take-nil (at - at))
 span-all f (b ∷ l) at =
     let ih = span-all f l (at + 1) in
     let h = span-ge f l (at + 1) in
     let z : at - at ≡ 0 = omega arith in
-    by-pick (λ (n : ℕ). all f (take (n - at) (b ∷ l)) ≡ true) (f b) (spanFrom f l (at + 1)) at
+    by-pick (λ (n : ℕ). everyByte f (take (n - at) (b ∷ l)) ≡ true) (f b) (spanFrom f l (at + 1)) at
     (λ t. let q : spanFrom f l (at + 1) - at ≡ suc (spanFrom f l (at + 1) - (at + 1)) = omega arith in rw (q, t) ih)
     (λ t. rw z)
 

@@ -39,7 +39,7 @@ use Rattle.converter.specs.Headers.{headerLine, linesOf, headersText, range}
 use Rattle.converter.specs.Diagrams.{presetLine, heldText, held, allHeld, handLine, cellText, cellsText, rowText, rowsText, boardText, turnText, diagramText, positionText}
 use Rattle.converter.specs.Entries.{targetText, originText, specialText, widthOf, starText, remarkText, remarksText}
 use Rattle.converter.specs.Show.{numberLine, variationTag, plyTag, slotComments, variationHead}
-use Rattle.laws.specs.Sayable.{all}
+use Rattle.laws.specs.Sayable.{everyByte}
 use Rattle.laws.specs.Whole.{markText, wholeMove, clockText, wholeTime, wholePlay, wholeLine, wholeNoted, wholeEntries, wholeMain, wholeVariation, wholeLines, wholeText}
 use Rattle.laws.proofs.Back.Leaves.{all-of, all-replicate, digit-is, decimal-digits}
 use Rattle.laws.proofs.Back.Characters.{Chars, empty, chars-append, chars-concat, well-chars, ascii-chars, spelled-chars}
@@ -97,7 +97,7 @@ module _ (n : ℕ) where
   unfolding pastAll repeatFrom charWidth sizeOf secondOf lowestOf highestOf isNext
   file-chars = spelled-chars files refl n
 
-  decimal-ascii : all (λ b. ltb b 128) (decimal n) ≡ true
+  decimal-ascii : everyByte (λ b. ltb b 128) (decimal n) ≡ true
   decimal-ascii = all-of isDigit (λ b. ltb b 128) (digit-is (λ b. ltb b 128) refl) (decimal n) (decimal-digits n .digits)
 
   decimal-chars : Chars (decimal n)

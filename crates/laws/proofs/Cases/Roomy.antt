@@ -24,7 +24,7 @@ use Rattle.parser.specs.Parse.{Parsed, parse, needed}
 use Rattle.parser.specs.Read.{onFault, filledWith, storedOf, startedOf, readOf}
 use Rattle.edit.specs.Edit.{Edited, edited, refused, insert, remove}
 use Rattle.edit.specs.Editing.{storedOf as keptOf, editedOf, putInOf, cutOf}
-use Rattle.laws.specs.CaseTexts.{moveText, textOf}
+use Rattle.laws.specs.CaseTexts.{moveLine, textOf}
 use Rattle.laws.specs.Cases.{blockOf, listing, Result, Gives, Case, reads, puts, cuts, isFrom, isNoLine, counts, prints, Holds}
 
 -- a test that fails does not pass
@@ -103,22 +103,22 @@ edit-gives f s o given h i p =
 abbrev pub Computed : List ℕ → Case → Type 0
 Computed o (reads vs given) = (isRead (textOf vs) ≡ true) × Gives o given (filledWith (parse (textOf vs)) o)
 Computed o (puts vs line ply given) =
-    (isRead (textOf vs) ≡ true) × Edits (λ r. insert r line (moveText ply)) (stored (textOf vs) o) o given
+    (isRead (textOf vs) ≡ true) × Edits (λ r. insert r line (moveLine ply)) (stored (textOf vs) o) o given
 Computed o (cuts vs line given) = (isRead (textOf vs) ≡ true) × Edits (λ r. remove r line) (stored (textOf vs) o) o given
 Computed o (isFrom n x y) = Holds o (isFrom n x y)
 Computed o (isNoLine n) = Holds o (isNoLine n)
 Computed o (counts t n) = Holds o (counts t n)
-Computed o (prints text listed) = (isRead text ≡ true) × (listing (filledWith (parse text) o) ≡ listed)
+Computed o (prints t listed) = (isRead t ≡ true) × (listing (filledWith (parse t) o) ≡ listed)
 
 row : (o : List ℕ) → 600 ≤ length o → (c : Case) → Computed o c → Holds o c
 unfolding putInOf cutOf
 row o h (reads vs given) p = subst (λ (r : Outcome). Gives o given r) (sym (read-is (textOf vs) o h (p .0))) (p .1)
-row o h (puts vs line ply given) p = edit-gives (λ r. insert r line (moveText ply)) (textOf vs) o given h (p .0) (p .1)
+row o h (puts vs line ply given) p = edit-gives (λ r. insert r line (moveLine ply)) (textOf vs) o given h (p .0) (p .1)
 row o h (cuts vs line given) p = edit-gives (λ r. remove r line) (textOf vs) o given h (p .0) (p .1)
 row o h (isFrom n x y) p = p
 row o h (isNoLine n) p = p
 row o h (counts t n) p = p
-row o h (prints text listed) p = ap listing (read-is text o h (p .0)) ∙ p .1
+row o h (prints t listed) p = ap listing (read-is t o h (p .0)) ∙ p .1
 
 pub rows : (o : List ℕ) → 600 ≤ length o → {cs : List Case} → All (Computed o) cs → All (Holds o) cs
 rows o h none = none
