@@ -28,9 +28,10 @@ use Rattle.jkf.specs.declared.Target.{Target}
 use Rattle.jkf.specs.declared.Target.the-variants.{Same, Square}
 use Rattle.jkf.specs.declared.Origin.{Origin}
 use Rattle.jkf.specs.declared.Origin.the-variants.{Unknown, From}
-use Rattle.jkf.proofs.EntriesBack.{entry-length}
-use Rattle.jkf.proofs.Entering.{target-length, origin-length, head-length, time-length}
-use Rattle.jkf.specs.Entries.{specialNumber, specialOf, fromMark, sameMark, hourMark, timeMark, targetBytes, originBytes, clockBytes, timeBytes, headBytes, timeOf, entryBytes, clockOf, timeIn, targetIn, originIn, moveIn, entryIn}
+use Rattle.block.proofs.EntriesBack.{entry-length}
+use Rattle.block.proofs.Entering.{target-length, origin-length, head-length, time-length}
+use Rattle.block.specs.EntryBytes.{fromMark, sameMark, hourMark, timeMark, targetBytes, originBytes, clockBytes, timeBytes, headBytes, entryBytes, clockOf, timeIn, targetIn, originIn, moveIn, entryIn}
+use Rattle.jkf.specs.Entries.{specialNumber, specialOf, timeOf}
 use Rattle.block.specs.Decode.{run, movePlace, commentCount}
 use Rattle.block.specs.Sound.{same, kindTest, entryTest, commentsBefore}
 use Rattle.block.proofs.Orders.{same-length}

@@ -6,11 +6,11 @@ use native.Mathlib.Omega.{arith}
 use mathlib.Core.Path.{_≡_, refl}
 use mathlib.Core.List.{List}
 use lib.ListN.{length, length-append}
-use Rattle.jkf.specs.Positions.{positionBytes}
-use Rattle.block.specs.Model.{Header, Noted, Line, Record}
+use Rattle.block.specs.PositionBytes.{positionBytes}
+use Rattle.jkf.specs.Model.{Header, Noted, Line, Record}
 use Rattle.block.specs.Encode.{encode, encodeFlat, headBytes, blockLength, headerRow, headerStep, lineRow, lineStep, entryRow, entryStep, commentRow, commentStep, headerText, entriesOf, commentsOf, commentText}
 use Rattle.block.proofs.Tabling.{table-length}
-use Rattle.block.proofs.Rows.{header-wide, line-wide, entry-wide, comment-wide}
+use Rattle.block.proofs.RowPlaces.{header-wide, line-wide, entry-wide, comment-wide}
 
 pub head-length : (v t h l m c : ℕ) → length (headBytes v t h l m c) ≡ 28
 unfolding headBytes

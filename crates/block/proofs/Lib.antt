@@ -6,10 +6,15 @@ pub mod Lining
 pub mod Hanging
 pub mod Looking
 pub mod Tabling
-pub mod Rows
 pub mod Lengths
 pub mod Fitting
 pub mod Pieces
 pub mod Spans
 pub mod Deciding
 pub mod Within
+pub mod Entering
+pub mod EntriesBack
+pub mod PositionsBack
+pub mod Joining
+pub mod ByteArrays
+pub mod RowPlaces

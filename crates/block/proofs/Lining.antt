@@ -7,7 +7,8 @@ use mathlib.Core.List.{List}
 use lib.ListN.{getD, take, drop}
 use lib.Seq.{getD-take, getD-drop}
 use Rattle.lent.specs.Bytes.{le16}
-use Rattle.jkf.specs.Attaching.{hangs, startAt, countAt, parentAt}
+use Rattle.jkf.specs.Attaching.{hangs}
+use Rattle.jkf.specs.Following.{startAt, countAt, parentAt}
 use Rattle.jkf.proofs.Nears.{hangs-same}
 use Rattle.block.specs.Decode.{linePlace, startOf, entryCount, parentOf}
 

@@ -12,8 +12,8 @@ use lib.Dec.{eqb}
 use Rattle.lists.specs.Pick.{pick}
 use Rattle.lists.proofs.Laws.{by-pick}
 use Rattle.lent.specs.Bytes.{le16}
-use Rattle.jkf.specs.Entries.{entryIn, entryBytes}
-use Rattle.jkf.proofs.EntriesBack.{first-back}
+use Rattle.block.specs.EntryBytes.{entryIn, entryBytes}
+use Rattle.block.proofs.EntriesBack.{first-back}
 use Rattle.block.specs.Decode.{headersIn, linesIn, movesIn, commentsIn, movePlace, textPlace, keyOffset, keyLength, valueOffset, valueLength, firstEntry, entryCount, firstComment, commentCount, commentLength, keyOf, valueOf, commentOf}
 use Rattle.block.specs.Sound.{Sound, headerBytes, entriesBefore, commentsBefore}
 use Rattle.block.proofs.Lining.{le16-drop}

@@ -4,9 +4,9 @@ use Prim.Native.Nat.{ℕ, zero, suc, _+_, _*_}
 use mathlib.Core.List.{List, [], _∷_}
 use lib.ListN.{take, drop}
 use Rattle.lent.specs.Bytes.{le16}
-use Rattle.jkf.specs.Entries.{entryIn}
-use Rattle.jkf.specs.Positions.{positionIn}
-use Rattle.block.specs.Model.{Header, Noted, Line, Record}
+use Rattle.block.specs.EntryBytes.{entryIn}
+use Rattle.block.specs.PositionBytes.{positionIn}
+use Rattle.jkf.specs.Model.{Header, Noted, Line, Record}
 
 -- ---- counts, and where the parts and their rows stand
 

@@ -6,9 +6,9 @@ use lib.ListN.{length}
 use lib.Dec.{eqb}
 use Rattle.lists.specs.Pick.{pick}
 use Rattle.lent.specs.Bytes.{bytes16}
-use Rattle.jkf.specs.Entries.{entryBytes}
-use Rattle.jkf.specs.Positions.{positionBytes}
-use Rattle.block.specs.Model.{Header, Noted, Line, Record}
+use Rattle.block.specs.EntryBytes.{entryBytes}
+use Rattle.block.specs.PositionBytes.{positionBytes}
+use Rattle.jkf.specs.Model.{Header, Noted, Line, Record}
 
 -- Rows one after the other, each made in a state that the rows before it moved on: where its text begins, which comment or entry is next.
 unfoldable pub table : {S X : Type 0} → (S → X → List ℕ) → (S → X → S) → S → List X → List ℕ

@@ -9,7 +9,7 @@ use lib.Dec.{ltb}
 use Rattle.lists.specs.Pick.{pick}
 use Rattle.lists.specs.Test.{Test, atMost, holds, both, each, claim}
 use Rattle.jkf.specs.declared.Entry.the-variants.{Slot}
-use Rattle.block.specs.Model.{Header, Noted, Line, Record}
+use Rattle.jkf.specs.Model.{Header, Noted, Line, Record}
 use Rattle.block.specs.Encode.{encode, entriesOf, commentsOf}
 use Rattle.block.specs.Sound.{valid, before, fitsTest, kindTest, hangTest}
 

@@ -10,8 +10,8 @@ use Rattle.lists.specs.Pick.{pick}
 use Rattle.lists.specs.Test.{Test, equals, atMost, holds, both, each, flag, claim}
 use Rattle.lent.specs.Bytes.{le16}
 use Rattle.text.specs.Utf8.{wellFormed}
-use Rattle.jkf.specs.Entries.{entryIn, entryBytes}
-use Rattle.jkf.specs.Positions.{positionIn}
+use Rattle.block.specs.EntryBytes.{entryIn, entryBytes}
+use Rattle.block.specs.PositionBytes.{positionIn}
 use Rattle.jkf.specs.Attaching.{hangs, onHang}
 use Rattle.jkf.specs.declared.Entry.{Entry}
 use Rattle.jkf.specs.declared.Entry.the-variants.{Slot, Play, End}

@@ -11,7 +11,8 @@ ghost use lib.Dec.{eqb};
 ghost use Rattle.lists.specs.Pick.{pick};
 ghost use Rattle.lists.specs.Test.{equals, atMost, holds, both, each, flag};
 ghost use Rattle.lent.specs.Bytes.{le16};
-ghost use Rattle.jkf.specs.Entries.{timeMark, targetBytes, originBytes, timeBytes, headBytes, timeOf, timeIn, targetIn, originIn, entryIn};
+ghost use Rattle.block.specs.EntryBytes.{timeMark, targetBytes, originBytes, timeBytes, headBytes, timeIn, targetIn, originIn, entryIn};
+ghost use Rattle.jkf.specs.Entries.{timeOf};
 ghost use Rattle.block.specs.Decode.{movesIn};
 ghost use Rattle.block.specs.Sound.{same, kindTest, entryTest, commentsBefore};
 

@@ -1,18 +1,30 @@
-// The block: whether one is sound, and its parts handed back.
+// The block: its rows both ways, whether one is sound, and its parts handed back.
 mod entries;
+mod entry_bytes;
 mod fields;
 mod looks;
 mod places;
+mod position_bytes;
+mod rows;
 mod tables;
 mod texts;
 mod views;
 
+pub use entry_bytes::entry_in;
+pub use entry_bytes::put_entry;
+pub use entry_bytes::put_slot;
 pub use looks::comment;
 pub use looks::key;
 pub use looks::line;
 pub use looks::lines;
 pub use looks::parent;
 pub use looks::value;
+pub use position_bytes::position_in;
+pub use position_bytes::put_position;
+pub use rows::put_comment;
+pub use rows::put_head;
+pub use rows::put_header;
+pub use rows::put_line;
 pub use texts::is_same;
 pub use views::comment_count;
 pub use views::comment_of;

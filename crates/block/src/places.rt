@@ -1,5 +1,6 @@
 // The tests of a sound block's position and lines.
 use crate::fields;
+use crate::position_bytes::position_in;
 use crate::texts;
 use jkf::Hang;
 use jkf::Position;
@@ -7,7 +8,7 @@ ghost use mathlib.Core.Path.{_≡_};
 ghost use Prim.Native.Nat.{_<_};
 ghost use lib.ListN.{length, drop, getD};
 ghost use Rattle.lists.specs.Test.{equals, holds, each, flag};
-ghost use Rattle.jkf.specs.Attaching.{Linked};
+ghost use Rattle.jkf.specs.Following.{Linked};
 ghost use Rattle.block.specs.Decode.{linesIn, linePlace, startOf, entryCount, parentOf};
 ghost use Rattle.block.specs.Sound.{isCell, diagramTest, fitsTest, positionTest, hangTest, lineTest, entriesBefore};
 
@@ -95,7 +96,7 @@ pub(crate) fn position_sound(b: &[u8]) -> bool
     if lent::peek(b, 127) != 0 {
         return false;
     }
-    position_fits(jkf::position_in(texts::rest(b, 28)))
+    position_fits(position_in(texts::rest(b, 28)))
 }
 
 // Line 0 starts at 0 and has no parent; any other hangs where the attaching rule says. The parents of the lines before are known right.

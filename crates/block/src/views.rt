@@ -1,13 +1,15 @@
 // The rows of a block by their numbers, for who knows that the block is sound; of any other slice they say what stands there, or 0.
+use crate::entry_bytes::entry_in;
 use crate::fields;
+use crate::position_bytes::position_in;
 use crate::texts;
 use jkf::Entry;
 use jkf::Position;
 ghost use mathlib.Core.Path.{_≡_};
 ghost use Prim.Native.Nat.{_<_};
 ghost use lib.ListN.{take, drop};
-ghost use Rattle.jkf.specs.Entries.{entryIn};
-ghost use Rattle.jkf.specs.Positions.{positionIn};
+ghost use Rattle.block.specs.EntryBytes.{entryIn};
+ghost use Rattle.block.specs.PositionBytes.{positionIn};
 ghost use Rattle.block.specs.Decode.{headersIn, linesIn, movesIn, commentsIn, movePlace, textPlace, keyOffset, keyLength, valueOffset, valueLength, startOf, firstEntry, entryCount, parentOf, firstComment, commentCount, keyOf, valueOf, commentOf};
 ghost use Rattle.block.specs.Sound.{headerBytes};
 
@@ -85,7 +87,7 @@ pub fn row_of(b: &[u8], k: u16) -> &[u8]
 pub fn entry_of(b: &[u8], k: u16) -> Entry
     ensures { λ r. ⌜ r ≡ entryIn (drop (movePlace (now (b .entry)) k) (now (b .entry))) ⌝ }
 {
-    jkf::entry_in(row_of(b, k))
+    entry_in(row_of(b, k))
 }
 
 // The number of its first comment.
@@ -148,5 +150,5 @@ pub fn comment_of(b: &[u8], k: u16) -> &[u8]
 pub fn position_of(b: &[u8]) -> Position
     ensures { λ r. ⌜ r ≡ positionIn (drop 28 (now (b .entry))) ⌝ }
 {
-    jkf::position_in(texts::rest(b, 28))
+    position_in(texts::rest(b, 28))
 }

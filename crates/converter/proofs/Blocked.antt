@@ -10,7 +10,7 @@ use lib.ListN.{length, getD}
 use lib.Dec.{ltb}
 use borrow.Author.Tests.{eq-eqb, ne-eqb}
 use Rattle.lists.specs.Pick.{pick}
-use Rattle.block.specs.Model.{Noted, Line}
+use Rattle.jkf.specs.Model.{Noted, Line}
 use Rattle.block.specs.Decode.{run, linesIn, firstEntry, entryCount, notedIn, lineIn, decode}
 use Rattle.block.proofs.Tabling.{length-run, run-first, run-more, run-next, run-end}
 use Rattle.converter.specs.Entries.{canWrite}

@@ -15,8 +15,7 @@ use Rattle.spell.specs.Spell.{spelled}
 use Rattle.spell.specs.Count.{tensText, countText}
 use Rattle.spell.proofs.Counts.{spelled-short, numeral-short, tens-short}
 use Rattle.jkf.specs.declared.Position.{Position}
-use Rattle.kakinoki.specs.Informations.{presetTag, turnTag, handsTag, noneTag}
-use Rattle.kakinoki.specs.Boards.{filesTag, ruleTag, emptyTag}
+use Rattle.spell.specs.Words.{presetTag, turnTag, handsTag, noneTag, filesTag, ruleTag, emptyTag}
 use Rattle.converter.specs.Diagrams.{presetLine, heldText, held, allHeld, orNone, handLine, cellText, cellsText, rowText, rowsText, boardText, turnText, diagramText, positionText}
 use Rattle.converter.proofs.Ranged.{ranged-short}
 use Rattle.converter.proofs.Cased.{heldPiece, cellPiece, moreText}

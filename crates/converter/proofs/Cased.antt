@@ -13,8 +13,7 @@ use Rattle.spell.specs.Tables.{kinds, sides}
 use Rattle.spell.specs.Spell.{spelled}
 use Rattle.spell.specs.Count.{countText}
 use Rattle.jkf.specs.declared.Position.{Position}
-use Rattle.kakinoki.specs.Informations.{turnTag, noneTag}
-use Rattle.kakinoki.specs.Boards.{emptyTag}
+use Rattle.spell.specs.Words.{turnTag, noneTag, emptyTag}
 use Rattle.converter.specs.Diagrams.{presetLine, heldText, held, orNone, cellText, turnText, diagramText, positionText}
 
 -- ---- what a turn of a loop writes

@@ -6,8 +6,8 @@ use mathlib.Core.Path.{_≡_, ap, _∙_}
 use mathlib.Core.List.{List, _∷_}
 use lib.ListN.{length, drop, length-append}
 use Rattle.lent.specs.Numbers.{decimal}
-use Rattle.jkf.specs.Positions.{positionIn}
-use Rattle.block.specs.Model.{Noted, Line}
+use Rattle.block.specs.PositionBytes.{positionIn}
+use Rattle.jkf.specs.Model.{Noted, Line}
 use Rattle.block.specs.Encode.{concat}
 use Rattle.block.specs.Decode.{run, linesIn, entryCount, commentLength, commentOf, notedIn, lineIn, decode}
 use Rattle.block.specs.Sound.{Sound, entriesBefore}

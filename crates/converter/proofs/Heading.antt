@@ -19,7 +19,7 @@ use lib.Dec.{eqb}
 use borrow.Author.Tests.{eq-eqb, ne-eqb, eqb-true, eqb-false}
 use Rattle.lists.specs.Pick.{pick}
 use Rattle.lent.specs.Bytes.{Wrote}
-use Rattle.block.specs.Model.{Header}
+use Rattle.jkf.specs.Model.{Header}
 use Rattle.block.specs.Encode.{concat}
 use Rattle.block.specs.Decode.{run, headersIn, headerIn, keyOf, textPlace, keyOffset, keyLength, valueOffset, valueLength}
 use Rattle.block.proofs.Cuts.{key-in, value-in}

@@ -27,7 +27,7 @@ use Rattle.jkf.specs.declared.Target.the-variants.{Same, Square}
 use Rattle.jkf.specs.declared.Move.{Move}
 use Rattle.jkf.specs.declared.Entry.{Entry}
 use Rattle.jkf.specs.declared.Entry.the-variants.{Slot, Play, End}
-use Rattle.jkf.proofs.EntriesBack.{special-back}
+use Rattle.block.proofs.EntriesBack.{special-back}
 use Rattle.converter.specs.Entries.{targetText, promoteText, originText, moveText, specialText, hour, minute, second, nowText, totalText, timeText, playText, widthOf, entryLine, starText, remarkText, within}
 
 -- ---- numbers

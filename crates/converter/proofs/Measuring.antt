@@ -9,7 +9,7 @@ use mathlib.Core.List.{List, [], _∷_, _++_}
 use lib.ListN.{length, length-append}
 use borrow.Author.Tests.{eq-eqb, ne-eqb}
 use Rattle.text.specs.Text.{wideColon}
-use Rattle.block.specs.Model.{Header}
+use Rattle.jkf.specs.Model.{Header}
 use Rattle.block.specs.Encode.{concat}
 use Rattle.block.specs.Decode.{run, headersIn, headerIn, keyLength, valueLength}
 use Rattle.block.specs.Sound.{Sound, headerBytes}

@@ -6,8 +6,8 @@ use mathlib.Core.Path.{_≡_, refl, sym, ap, ap₂, _∙_}
 use mathlib.Core.List.{List, _++_, append-nil}
 use lib.ListN.{drop}
 use Rattle.lent.specs.Bytes.{le16}
-use Rattle.jkf.specs.Entries.{entryIn}
-use Rattle.block.specs.Model.{Noted, Line}
+use Rattle.block.specs.EntryBytes.{entryIn}
+use Rattle.jkf.specs.Model.{Noted, Line}
 use Rattle.block.specs.Encode.{concat}
 use Rattle.block.specs.Decode.{decode, run, movePlace, linesIn, startOf, firstEntry, entryCount, firstComment, commentCount, commentOf, notedIn, lineIn}
 use Rattle.block.specs.Sound.{Sound}

@@ -14,7 +14,7 @@ use lib.ListN.{length, length-append}
 use borrow.Rule.Slice.PartMut.{midOf, putMid}
 use Rattle.lent.specs.Bytes.{Wrote}
 use Rattle.lent.proofs.Writes.{as-text, then}
-use Rattle.block.specs.Model.{Noted}
+use Rattle.jkf.specs.Model.{Noted}
 use Rattle.block.specs.Encode.{concat}
 use Rattle.block.specs.Decode.{run}
 use Rattle.block.proofs.Tabling.{length-run, run-cut, run-first, run-more, concat-append, concat-none, concat-more, concat-longer}

@@ -7,9 +7,9 @@ use Prim.Native.Nat.{ℕ, _≤_, _<_}
 use lib.ListN.{length, drop}
 use borrow.Author.Tests.{lt-ltb, le-ltb}
 use Rattle.jkf.specs.Answers.{refuse}
-use Rattle.jkf.specs.Positions.{positionIn}
+use Rattle.block.specs.PositionBytes.{positionIn}
 use Rattle.jkf.specs.declared.Answer.the-variants.{Done, BufferShort, NotSound, HandCount, CannotWrite}
-use Rattle.block.specs.Model.{Record}
+use Rattle.jkf.specs.Model.{Record}
 use Rattle.block.specs.Decode.{decode}
 use Rattle.block.specs.Sound.{soundb}
 use Rattle.converter.specs.Headers.{headersOf, headersText}

@@ -12,24 +12,23 @@ use borrow.Author.Tests.{ne-eqb, lt-ltb, le-ltb, eqb-true, eqb-false, ltb-false,
 use Rattle.lists.specs.Pick.{pick}
 use Rattle.lists.proofs.Laws.{pick-both}
 use Rattle.lent.specs.Numbers.{decimal, padded}
-use Rattle.lent.proofs.Digits.{decimal-one, decimal-more, decimal-length-one, padded-some}
+use Rattle.lent.proofs.Digits.{decimal-one, decimal-more, decimal-length-one, padded-some, digits-three}
 use Rattle.text.specs.Text.{wideSpace}
 use Rattle.spell.specs.Tables.{moveKinds, numerals, files}
 use Rattle.spell.specs.Spell.{spelled, keyOf, bytesOf, key}
 use Rattle.spell.proofs.Keys.{bytes-key, numeral-bytes, kind-bytes}
 use Rattle.spell.proofs.Written.{file-bytes, promoted-bytes}
-use Rattle.jkf.specs.Entries.{marked, clockOf, timeIn, targetIn, originIn, moveIn, entryIn}
+use Rattle.block.specs.EntryBytes.{marked, clockOf, timeIn, targetIn, originIn, moveIn, entryIn}
 use Rattle.jkf.specs.declared.Clock.the-variants.{Hms, Ms}
 use Rattle.jkf.specs.declared.Time.the-variants.{Untimed, Timed}
 use Rattle.jkf.specs.declared.Target.the-variants.{Same, Square}
 use Rattle.jkf.specs.declared.Origin.the-variants.{Unknown, From}
 use Rattle.jkf.specs.declared.Entry.{Entry}
 use Rattle.jkf.specs.declared.Entry.the-variants.{Play}
-use Rattle.moves.specs.Moves.{sameWord, promotes}
+use Rattle.spell.specs.Words.{sameWord, promotes}
 use Rattle.converter.specs.Entries.{targetText, promoteText, originText, moveText, moveWidth, nowText, totalText, timeText, playText, widthOf, entryLine, padding, within, targetFits, timeFits, canWrite}
 use Rattle.converter.specs.Usuals.{UsualRow, isLong, spaced, startText, nameText, clocksText}
 use Rattle.lent.proofs.Room.{room-front, room-as}
-use Rattle.lent.proofs.Digits.{digits-three}
 use Rattle.converter.proofs.Lengthy.{padded-wide, figure-two, place-three, kind-plain, kind-long, same-length, square-length, promote-three, promote-none, from-length, move-length, now-parts, total-parts, timed-length, entry-parts}
 
 -- ---- numbers

@@ -19,7 +19,7 @@ use Rattle.lent.proofs.Writes.{as-text, wrote-all}
 use Rattle.spell.specs.Tables.{moveKinds}
 use Rattle.spell.specs.Spell.{spelled}
 use Rattle.jkf.specs.Entries.{specialOf, timeOf}
-use Rattle.jkf.proofs.Entering.{special-past}
+use Rattle.jkf.proofs.Specials.{special-past}
 use Rattle.jkf.specs.declared.Clock.{Clock}
 use Rattle.jkf.specs.declared.Origin.{Origin}
 use Rattle.jkf.specs.declared.Origin.the-variants.{Unknown, From}

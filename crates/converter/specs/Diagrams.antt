@@ -11,8 +11,7 @@ use Rattle.spell.specs.Spell.{spelled}
 use Rattle.spell.specs.Count.{countText}
 use Rattle.jkf.specs.declared.Position.{Position}
 use Rattle.block.specs.Encode.{concat}
-use Rattle.kakinoki.specs.Informations.{presetTag, turnTag, handsTag, noneTag}
-use Rattle.kakinoki.specs.Boards.{filesTag, ruleTag, emptyTag}
+use Rattle.spell.specs.Words.{presetTag, turnTag, handsTag, noneTag, filesTag, ruleTag, emptyTag}
 use Rattle.converter.specs.Headers.{range}
 
 -- 手合割：, the preset, LF.                                                                           (the Rust's write_initial_preset)

@@ -23,10 +23,10 @@ use Rattle.jkf.specs.declared.Origin.the-variants.{Unknown, From}
 use Rattle.jkf.specs.declared.Move.{Move}
 use Rattle.jkf.specs.declared.Entry.{Entry}
 use Rattle.jkf.specs.declared.Entry.the-variants.{Slot, Play, End}
-use Rattle.block.specs.Model.{Noted}
+use Rattle.jkf.specs.Model.{Noted}
 use Rattle.block.specs.Encode.{concat}
 use Rattle.block.specs.Sound.{same}
-use Rattle.moves.specs.Moves.{sameWord, promotes, drops}
+use Rattle.spell.specs.Words.{sameWord, promotes, drops}
 
 -- ---- a move
 

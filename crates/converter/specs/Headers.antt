@@ -7,7 +7,7 @@ use lib.ListN.{length, getD}
 use lib.Dec.{eqb}
 use Rattle.lists.specs.Pick.{pick}
 use Rattle.text.specs.Text.{wideColon}
-use Rattle.block.specs.Model.{Header}
+use Rattle.jkf.specs.Model.{Header}
 use Rattle.block.specs.Encode.{concat}
 use Rattle.block.specs.Decode.{run, headersIn, headerIn}
 use Rattle.block.specs.Sound.{same}

@@ -10,7 +10,7 @@ use Rattle.lent.specs.Numbers.{decimal}
 use Rattle.jkf.specs.declared.Answer.{Answer}
 use Rattle.jkf.specs.declared.Answer.the-variants.{HandCount, CannotWrite}
 use Rattle.jkf.specs.declared.Position.{Position}
-use Rattle.block.specs.Model.{Noted, Line, Record}
+use Rattle.jkf.specs.Model.{Noted, Line, Record}
 use Rattle.block.specs.Encode.{concat}
 use Rattle.block.specs.Decode.{run, linesIn, lineIn}
 use Rattle.block.specs.Sound.{Sound}

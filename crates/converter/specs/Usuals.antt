@@ -10,7 +10,7 @@ use Rattle.lists.specs.Pick.{pick}
 use Rattle.lent.specs.Numbers.{padded}
 use Rattle.spell.specs.Tables.{moveKinds}
 use Rattle.spell.specs.Spell.{spelled}
-use Rattle.jkf.specs.Entries.{targetIn, originIn, moveIn}
+use Rattle.block.specs.EntryBytes.{targetIn, originIn, moveIn}
 use Rattle.jkf.specs.declared.Clock.the-variants.{Hms, Ms}
 use Rattle.converter.specs.Entries.{targetText, promoteText, originText, moveWidth, nowText, totalText, padding}
 

@@ -9,7 +9,7 @@ use jkf::Target;
 use jkf::Time;
 ghost use mathlib.Core.Path.{_≡_};
 ghost use Prim.Native.Nat.{_+_, _<_};
-ghost use Rattle.jkf.specs.Entries.{entryIn};
+ghost use Rattle.block.specs.EntryBytes.{entryIn};
 ghost use Rattle.block.specs.Decode.{run, notedIn, decode};
 ghost use Rattle.block.specs.Sound.{Sound};
 ghost use Rattle.converter.specs.Entries.{within, targetFits, timeFits, canWrite};
@@ -100,7 +100,7 @@ fn row_fits(row: &[u8]) -> bool
     if is_usual(row) {
         return true;
     }
-    can_write(jkf::entry_in(row))
+    can_write(block::entry_in(row))
 }
 
 // The first of a line's entries that cannot be written.

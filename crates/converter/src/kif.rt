@@ -13,7 +13,8 @@ ghost use Prim.Native.Nat.{_+_, _-_, _≤_, _<_};
 ghost use lib.ListN.{length};
 ghost use Rattle.lent.specs.Bytes.{Wrote};
 ghost use Rattle.lent.specs.Numbers.{decimal, padded};
-ghost use Rattle.jkf.specs.Entries.{specialOf, entryIn};
+ghost use Rattle.block.specs.EntryBytes.{entryIn};
+ghost use Rattle.jkf.specs.Entries.{specialOf};
 ghost use Rattle.block.specs.Encode.{concat};
 ghost use Rattle.block.specs.Decode.{run, movesIn, linesIn, commentOf, notedIn, lineIn, decode};
 ghost use Rattle.block.specs.Sound.{Sound};
@@ -257,7 +258,7 @@ fn put_row(out: &mut [u8], ply: usize, row: &[u8]) -> usize
             return put_usual(out, ply, row);
         }
     }
-    put_entry_line(out, ply, jkf::entry_in(row))
+    put_entry_line(out, ply, block::entry_in(row))
 }
 
 // * before a comment that does not begin with &.

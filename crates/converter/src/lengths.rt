@@ -20,7 +20,8 @@ ghost use lib.ListN.{length};
 ghost use Rattle.lent.specs.Numbers.{padded};
 ghost use Rattle.spell.specs.Tables.{moveKinds, numerals, files};
 ghost use Rattle.spell.specs.Spell.{spelled};
-ghost use Rattle.jkf.specs.Entries.{specialOf, entryIn};
+ghost use Rattle.block.specs.EntryBytes.{entryIn};
+ghost use Rattle.jkf.specs.Entries.{specialOf};
 ghost use Rattle.block.specs.Encode.{concat};
 ghost use Rattle.block.specs.Decode.{run, movesIn, linesIn, entryCount, commentOf, notedIn, lineIn, decode};
 ghost use Rattle.block.specs.Sound.{Sound};
@@ -165,7 +166,7 @@ fn row_length(ply: usize, row: &[u8]) -> usize
             return usual_length(row);
         }
     }
-    entry_length(ply, jkf::entry_in(row))
+    entry_length(ply, block::entry_in(row))
 }
 
 fn remark_length(c: &[u8]) -> usize

@@ -5,7 +5,7 @@ ghost use mathlib.Core.Bool.{true};
 ghost use Prim.Native.Nat.{ℕ, _≤_, _<_};
 ghost use lib.ListN.{length};
 ghost use Rattle.lent.specs.Bytes.{Wrote};
-ghost use Rattle.jkf.specs.Entries.{entryIn};
+ghost use Rattle.block.specs.EntryBytes.{entryIn};
 ghost use Rattle.converter.specs.Entries.{entryLine};
 ghost use Rattle.converter.specs.Usuals.{Aimed, Named, Left, Clocked, UsualRow, isLong, spaced, startText, nameText, clocksText};
 

@@ -9,7 +9,7 @@ use lib.ListN.{length, take, drop, length-append, length-drop}
 use lib.Seq.{length-take-le}
 use lib.Dec.{eqb, ltb}
 use Rattle.lists.specs.Pick.{pick}
-use Rattle.block.specs.Attach.{Play, attach}
+use Rattle.jkf.specs.Attaching.{Play, attach}
 use Rattle.block.specs.Encode.{table, lineRow, lineStep}
 use Rattle.block.specs.Decode.{linesIn, decode}
 use Rattle.block.specs.Sound.{Sound}

@@ -12,19 +12,19 @@ use Rattle.lent.specs.Bytes.{Wrote, fitting}
 use Rattle.lent.specs.Regions.{put, puts, Room, Stored}
 use Rattle.lent.proofs.Regions.{length-put, stored-all}
 use Rattle.text.specs.Text.{cursor}
-use Rattle.jkf.specs.Positions.{positionBytes, positionIn}
+use Rattle.block.specs.PositionBytes.{positionBytes, positionIn}
 use Rattle.jkf.specs.declared.Position.{Position}
 use Rattle.jkf.specs.declared.Answer.the-variants.{Done, BlockTooLong, BufferShort}
-use Rattle.jkf.proofs.Places.{bytes-length}
-use Rattle.jkf.proofs.PositionsBack.{position-length}
-use Rattle.block.specs.Model.{Header, Noted, Line}
-use Rattle.block.specs.Attach.{attach}
+use Rattle.block.proofs.ByteArrays.{bytes-length}
+use Rattle.block.proofs.PositionsBack.{position-length}
+use Rattle.jkf.specs.Model.{Header, Noted, Line}
+use Rattle.jkf.specs.Attaching.{attach}
 use Rattle.block.specs.Encode.{table, lineRow, lineStep, headBytes, blockLength, headerText, entriesOf, commentsOf, commentText, encodeFlat, encode}
 use Rattle.block.specs.Decode.{run, headersIn, linesIn, keyLength, valueLength, keyOf, valueOf, headerIn, decode}
 use Rattle.block.specs.Sound.{Sound, headerBytes}
 use Rattle.block.proofs.Sums.{sum-none, sum-suc}
 use Rattle.block.proofs.Tabling.{table-length, length-run, run-snoc, concat-snoc, concat-none}
-use Rattle.block.proofs.Rows.{line-wide}
+use Rattle.block.proofs.RowPlaces.{line-wide}
 use Rattle.block.proofs.Lengths.{head-length, block-length}
 use Rattle.block.proofs.Within.{key-length, value-length}
 use Rattle.parser.specs.Filling.{entryTexts, entryEnds, HeadersFit, Headed, LinesFit}
@@ -138,16 +138,12 @@ module _ (b : List ℕ) (s : Sound b) (p q : ℕ) (t : List ℕ) (within : (p �
       head-stored : {o₁ : List ℕ} {r : ℕ} → Stored (fitting front o) o o₁ 0 r → o₁ ≡ put o 0 front
       head-stored one = stored-all {t = front} {o = o} (omega (arith, head-length 1 n m (z .lines) (z .entries) (z .comments), head-room)) one .bytes
 
-      pub position-room : {o₁ : List ℕ} {r : ℕ} → Stored (fitting front o) o o₁ 0 r → 28 ≤ length o₁
-      position-room one = omega (arith, head-room, ap length (head-stored one) ∙ length-put o 0 front)
-
       -- and the position
-      pub front-stored : {o₁ x : List ℕ} {r j : ℕ} {y : Position} → y ≡ start → Stored (fitting front o) o o₁ 0 r
-          → Wrote (fitting (positionBytes y) (midOf 28 (length o₁ - 28) o₁)) (midOf 28 (length o₁ - 28) o₁) x j
-          → putMid 28 (length o₁ - 28) o₁ x ≡ put o 0 (front ++ positionBytes start)
-      front-stored {o₁} {x} {r} {j} {y} e one two =
+      pub front-stored : {o₁ o₂ : List ℕ} {r j : ℕ} {y : Position} → y ≡ start → Stored (fitting front o) o o₁ 0 r → Stored (fitting (positionBytes y) (drop 28 o₁)) o₁ o₂ 28 j
+          → o₂ ≡ put o 0 (front ++ positionBytes start)
+      front-stored {o₁} {o₂} {r} {j} {y} e one two =
           front-put front start o (head-length 1 n m (z .lines) (z .entries) (z .comments)) head-room (position-long b) (head-stored one)
-          (subst (λ (a : Position). Wrote (fitting (positionBytes a) (midOf 28 (length o₁ - 28) o₁)) (midOf 28 (length o₁ - 28) o₁) x j) e two)
+          (subst (λ (a : Position). Stored (fitting (positionBytes a) (drop 28 o₁)) o₁ o₂ 28 j) e two)
 
       module _ {o₁ : List ℕ} (one : o₁ ≡ put o 0 (front ++ positionBytes start)) where
         first-is : o₁ ≡ put o 0 (head n start hd ls)

@@ -14,8 +14,8 @@ use borrow.Author.Tests.{eq-eqb, ne-eqb, lt-ltb, le-ltb}
 use Rattle.lists.specs.Pick.{pick}
 use Rattle.lent.specs.Bytes.{le16}
 use Rattle.jkf.proofs.Nears.{near-before}
-use Rattle.block.specs.Model.{Line}
-use Rattle.block.specs.Attach.{Play, starts, parentIn, attach}
+use Rattle.jkf.specs.Model.{Line}
+use Rattle.jkf.specs.Attaching.{Play, starts, parentIn, attach}
 use Rattle.block.specs.Decode.{run, linesIn, parentOf, lineIn, decode}
 use Rattle.block.proofs.Tabling.{run-next, run-end}
 use Rattle.block.proofs.Lining.{le16-take}

@@ -12,9 +12,9 @@ use Rattle.lent.specs.Bytes.{Wrote, fitting}
 use Rattle.lent.specs.Regions.{Stored}
 use Rattle.lent.proofs.Writes.{rest-length}
 use Rattle.lent.proofs.Regions.{filled-length}
-use Rattle.jkf.specs.Entries.{entryIn, entryBytes}
+use Rattle.block.specs.EntryBytes.{entryIn, entryBytes}
 use Rattle.jkf.specs.declared.Entry.{Entry}
-use Rattle.block.specs.Model.{Noted}
+use Rattle.jkf.specs.Model.{Noted}
 use Rattle.block.specs.Encode.{concat, commentsOf, commentText}
 use Rattle.block.specs.Decode.{run, movePlace, firstComment, commentCount, commentOf, notedIn}
 use Rattle.block.proofs.Tabling.{length-run, concat-append, concat-none, concat-more, concat-longer}
@@ -63,14 +63,6 @@ module _ (b : List ℕ) (k : ℕ) {w : Walk} {o : List ℕ} (f : EntriesFit (not
     own-fit = subst (λ (cs : List (List ℕ)). CommentsFit cs w o) (sym own-is) (noted-fit entry own f)
 
     module _ {v : Walk} {o₁ : List ℕ} {at : ℕ} (d : Commented (run (commentOf b) i n) at w v o o₁) where
-      -- the entries end within the buffer
-      pub own-room : v .moves ≤ length o₁
-      own-room = omega (arith, d .moves, f .room .0, f .room .1 .0, f .room .1 .1 .0, filled-length (d .filled))
-
-      -- and so does what is put after them
-      pub own-end : {t x : List ℕ} {m : ℕ} → Wrote t (midOf (v .moves) (length o₁ - v .moves) o₁) x m → v .moves + m ≤ length o
-      own-end z = omega (arith, own-room, z .fits, rest-length o₁ (v .moves), filled-length (d .filled))
-
       -- the comments first, and then the entry
       pub own-filled : {o₂ : List ℕ} {e : Entry} {m r : ℕ} → e ≡ entry → m ≡ pick (eqb n 0) 0 (w .noted)
           → Stored (fitting (entryBytes e m n) (drop (v .moves) o₁)) o₁ o₂ (v .moves) r

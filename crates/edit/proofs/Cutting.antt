@@ -11,9 +11,8 @@ use mathlib.Core.Path.{_≡_, sym, ap, _∙_, subst}
 use mathlib.Core.List.{List, []}
 use lib.ListN.{length, getD, take, drop, length-append, length-drop}
 use lib.Seq.{length-take-le, getD-drop}
-use Rattle.jkf.specs.Attaching.{near, all}
+use Rattle.jkf.specs.Attaching.{near, all, Play, play, starts, counts, parentIn, allHung}
 use Rattle.jkf.proofs.Nears.{near-before, near-last, Hangs}
-use Rattle.block.specs.Attach.{Play, play, starts, counts, parentIn, allHung}
 use Rattle.parser.proofs.Hung.{parent-first, parent-later}
 use Rattle.edit.specs.Edit.{notBelow, removedFrom, without, lowered, Kept}
 use Rattle.edit.specs.Splicing.{Lines}

@@ -7,7 +7,7 @@ use mathlib.Core.List.{List, [], _∷_, _++_}
 use lib.ListN.{length, drop}
 use Rattle.lent.specs.Bytes.{bytes16, fitting}
 use Rattle.lent.specs.Regions.{Room, Stored}
-use Rattle.block.specs.Model.{Header}
+use Rattle.jkf.specs.Model.{Header}
 use Rattle.block.specs.Encode.{headerText}
 use Rattle.block.specs.Decode.{run, keyOf, valueOf, headerIn}
 use Rattle.parser.specs.Filling.{headerTexts, headerEnds, HeadersFit, Headed}

@@ -12,7 +12,7 @@ use lib.Seq.{getD-drop}
 use lib.Dec.{leb}
 use borrow.Author.Tests.{leb-true, leb-false}
 use Rattle.lists.proofs.Laws.{by-pick}
-use Rattle.block.specs.Attach.{Play, play, starts}
+use Rattle.jkf.specs.Attaching.{Play, play, starts}
 use Rattle.edit.specs.Edit.{above, notBelow}
 
 -- the first n of these lines start so that P, the next so that Q

@@ -6,7 +6,7 @@ use mathlib.Core.Path.{_≡_, ap, _∙_}
 use mathlib.Core.List.{List, _++_}
 use lib.ListN.{length, length-append}
 use Rattle.text.specs.Text.{cursor}
-use Rattle.block.specs.Model.{Noted}
+use Rattle.jkf.specs.Model.{Noted}
 use Rattle.block.specs.Encode.{commentsOf, commentText}
 use Rattle.block.specs.Decode.{run, movesIn, notedIn}
 use Rattle.block.specs.Sound.{entriesBefore}

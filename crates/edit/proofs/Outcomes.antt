@@ -10,8 +10,8 @@ use borrow.Author.Tests.{eq-eqb, ne-eqb, lt-ltb, le-ltb}
 use Rattle.lists.specs.Pick.{pick}
 use Rattle.jkf.specs.Answers.{refuse}
 use Rattle.jkf.specs.declared.Answer.the-variants.{NoSuchPart, NotOneVariation, OutsideLine, EntryTaken, ParentChanges, NotSound}
-use Rattle.block.specs.Model.{Record}
-use Rattle.block.specs.Attach.{Play, starts, counts}
+use Rattle.jkf.specs.Model.{Record}
+use Rattle.jkf.specs.Attaching.{Play, starts, counts}
 use Rattle.block.specs.Encode.{encode}
 use Rattle.block.specs.Decode.{linesIn, lineIn, decode}
 use Rattle.block.specs.Sound.{soundb}

@@ -17,11 +17,10 @@ use lib.Dec.{eqb, leb, ltb}
 use borrow.Author.Tests.{eq-eqb, leb-true, ltb-true, le-leb, lt-ltb}
 use Rattle.lists.specs.Pick.{pick}
 use Rattle.lists.proofs.Laws.{by-pick, pick-both, pick-none}
-use Rattle.jkf.specs.Attaching.{near, hangs}
+use Rattle.jkf.specs.Attaching.{near, hangs, Play, play, playOf, starts, counts, parentIn, attach, allHung}
 use Rattle.jkf.specs.declared.Hang.the-variants.{On}
 use Rattle.jkf.proofs.Nears.{hangs-made, Hangs}
-use Rattle.block.specs.Model.{Line}
-use Rattle.block.specs.Attach.{Play, play, playOf, starts, counts, parentIn, attach, allHung}
+use Rattle.jkf.specs.Model.{Line}
 use Rattle.block.specs.Formed.{lineOf}
 use Rattle.parser.proofs.Hung.{all-hang, attach-length, attach-line, parent-later}
 use Rattle.edit.specs.Edit.{isPlyOf, carries, above, placeOf, putIn, renumbered}

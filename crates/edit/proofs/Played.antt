@@ -13,8 +13,8 @@ use lib.ListN.{length, drop}
 use lib.Dec.{eqb}
 use borrow.Author.Tests.{le-leb, lt-leb}
 use Rattle.lists.specs.Pick.{pick}
-use Rattle.block.specs.Model.{Line}
-use Rattle.block.specs.Attach.{Play, play, playOf, starts, counts}
+use Rattle.jkf.specs.Model.{Line}
+use Rattle.jkf.specs.Attaching.{Play, play, playOf, starts, counts}
 use Rattle.block.specs.Decode.{run, linesIn, startOf, firstEntry, entryCount, notedIn, lineIn, decode}
 use Rattle.block.proofs.Tabling.{length-run, run-getD, drop-run, run-next, run-end, map-run}
 use Rattle.edit.specs.Edit.{playsIn, isPlyOf, carries, above, placeOf, notBelow, removedFrom}

@@ -21,11 +21,11 @@ use Rattle.lists.specs.Pick.{pick}
 use Rattle.lent.specs.Bytes.{le16, bytes16, fitting}
 use Rattle.lent.specs.Regions.{put, Stored}
 use Rattle.lent.proofs.Regions.{put-eq, stored-all}
-use Rattle.jkf.specs.Attaching.{near, hangs, onHang, startAt, countAt, parentAt, hangsBy, Linked}
+use Rattle.jkf.specs.Attaching.{near, hangs, onHang, Play, play, playOf, starts, counts, parentIn, attach}
+use Rattle.jkf.specs.Following.{startAt, countAt, parentAt, hangsBy, Linked}
 use Rattle.jkf.specs.declared.Hang.{Hang}
 use Rattle.jkf.proofs.Nears.{near-none, near-same, near-before, hangs-followed}
-use Rattle.block.specs.Model.{Line}
-use Rattle.block.specs.Attach.{Play, play, playOf, starts, counts, parentIn, attach}
+use Rattle.jkf.specs.Model.{Line}
 use Rattle.block.specs.Formed.{lineOf}
 use Rattle.block.specs.Encode.{table, concat, lineRow, lineStep, entriesOf}
 use Rattle.block.specs.Decode.{linesIn, startOf, firstEntry, entryCount, notedIn, decode}

@@ -14,10 +14,9 @@ use mathlib.Core.Path.{_≡_, refl, sym, ap, ap₂, _∙_, subst}
 use mathlib.Core.List.{List, [], _∷_, _++_}
 use mathlib.Core.Bool.{true, false}
 use lib.ListN.{length, take, drop}
-use Rattle.jkf.specs.Attaching.{near}
+use Rattle.jkf.specs.Attaching.{near, Play, play, playOf, starts, counts, parentIn, attachFrom, attach, allHung}
 use Rattle.jkf.proofs.Nears.{near-before, near-same, Hangs}
-use Rattle.block.specs.Model.{Noted, Line}
-use Rattle.block.specs.Attach.{Play, play, playOf, starts, counts, parentIn, attachFrom, attach, allHung}
+use Rattle.jkf.specs.Model.{Noted, Line}
 use Rattle.block.specs.Encode.{concat, entriesOf}
 use Rattle.block.specs.Decode.{run, linesIn, movesIn, startOf, firstEntry, entryCount, parentOf, notedIn, lineIn, decode}
 use Rattle.block.specs.Sound.{Sound, sum, entriesBefore}

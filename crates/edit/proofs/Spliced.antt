@@ -9,12 +9,12 @@ use lib.ListN.{length, length-append}
 use borrow.Author.Tests.{le-leb}
 use Rattle.lent.specs.Regions.{puts, join, Room}
 use Rattle.lent.proofs.Regions.{room-front, then-room}
-use Rattle.block.specs.Model.{Noted}
+use Rattle.jkf.specs.Model.{Noted}
 use Rattle.block.specs.Encode.{entryRow, entryStep, commentRow, commentStep, commentsOf, commentText}
 use Rattle.block.specs.Decode.{run, movesIn, notedIn}
 use Rattle.block.specs.Sound.{entriesBefore}
 use Rattle.block.proofs.Tabling.{table-length}
-use Rattle.block.proofs.Rows.{entry-wide, comment-wide}
+use Rattle.block.proofs.RowPlaces.{entry-wide, comment-wide}
 use Rattle.parser.specs.Plays.{entriesAt}
 use Rattle.parser.specs.Filling.{entryTexts, entryEnds, extentAt, hasNumbers, hasRoom, EntriesFit, Entered, fittingEntries, fittingEnd}
 use Rattle.parser.specs.declared.Walk.{Walk}

@@ -12,8 +12,8 @@ use Rattle.lists.specs.Pick.{pick}
 use Rattle.lists.specs.Repeat.{manyFrom}
 use Rattle.lists.proofs.Laws.{by-pick, pick-none, pick-both}
 use Rattle.text.specs.Utf8.{wellFormed}
-use Rattle.block.specs.Model.{Noted}
-use Rattle.block.specs.Attach.{Play, starts, counts}
+use Rattle.jkf.specs.Model.{Noted}
+use Rattle.jkf.specs.Attaching.{Play, starts, counts}
 use Rattle.block.specs.Encode.{concat, commentsOf, commentText}
 use Rattle.parser.specs.Plays.{entriesAt, plyAt}
 use Rattle.parser.specs.Filling.{playEntries}

@@ -7,7 +7,7 @@ use mathlib.Core.Path.{_≡_, sym, ap, _∙_}
 use mathlib.Core.List.{List, _∷_, _++_}
 use lib.ListN.{length, take, drop, take-append-drop}
 use lib.Seq.{length-take-le, take-at, drop-at, drop-drop}
-use Rattle.block.specs.Attach.{Play}
+use Rattle.jkf.specs.Attaching.{Play}
 use Rattle.edit.specs.Edit.{placeOf, putIn, notBelow, removedFrom, without}
 use Rattle.edit.proofs.Leading.{Runs, notBelow-leads, behind}
 use Rattle.edit.proofs.Placing.{PutsIn, place-within, place-next, put-starts}

@@ -9,8 +9,8 @@ use Rattle.lists.specs.Pick.{pick}
 use Rattle.text.specs.Utf8.{wellFormed}
 use Rattle.jkf.specs.declared.Answer.{Answer}
 use Rattle.jkf.specs.declared.Answer.the-variants.{NoSuchPart, NotOneVariation, OutsideLine, EntryTaken, ParentChanges}
-use Rattle.block.specs.Model.{Line, Record}
-use Rattle.block.specs.Attach.{Play, play, starts, counts, parentIn, attach}
+use Rattle.jkf.specs.Model.{Line, Record}
+use Rattle.jkf.specs.Attaching.{Play, play, starts, counts, parentIn, attach}
 use Rattle.parser.specs.Plays.{entriesAt, plyAt}
 
 -- ---- the lines afresh

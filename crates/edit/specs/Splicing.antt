@@ -9,9 +9,9 @@ use Rattle.lists.specs.Pick.{pick}
 use Rattle.lent.specs.Bytes.{bytes16}
 use Rattle.lent.specs.Regions.{Room}
 use Rattle.text.specs.Text.{cursor}
-use Rattle.jkf.specs.Attaching.{onHang, all, hangsBy}
-use Rattle.block.specs.Model.{Noted, Record}
-use Rattle.block.specs.Attach.{Play, play, playOf, starts, counts, attach, allHung}
+use Rattle.jkf.specs.Attaching.{onHang, all, Play, play, playOf, starts, counts, attach, allHung}
+use Rattle.jkf.specs.Following.{hangsBy}
+use Rattle.jkf.specs.Model.{Noted, Record}
 use Rattle.block.specs.Encode.{table, lineRow, lineStep, commentsOf, commentText}
 use Rattle.block.specs.Decode.{run, movesIn, startOf, firstEntry, entryCount, notedIn, decode}
 use Rattle.block.specs.Sound.{entriesBefore}

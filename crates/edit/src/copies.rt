@@ -20,16 +20,7 @@ fn copy_comment(c: &[u8], w: Walk, out: &mut [u8]) -> Walk
     ensures { λ r. ⌜ Commented (now (c .entry) ∷ []) (w .next .at) w r (now (out .entry)) (now (out .exit)) ⌝ }
 {
     let n = c.len();
-    let comments = lent::put_at(
-        out,
-        w.comments,
-        &[
-            (w.bytes % 256) as u8,
-            (w.bytes / 256 % 256) as u8,
-            (n % 256) as u8,
-            (n / 256 % 256) as u8,
-        ],
-    );
+    let comments = block::put_comment(out, w.comments, w.bytes, n);
     let text = lent::put_at(out, w.text, c);
     let next = w.next;
     Walk {
@@ -73,14 +64,13 @@ fn copy_entry(b: &[u8], k: usize, w: Walk, out: &mut [u8]) -> Walk
     let count = block::comment_count(b, i);
     let noted = w.noted;
     let v = copy_comments(b, block::first_comment(b, i), count, w, out);
-    let at = v.moves;
-    let moves = at
-        + jkf::put_entry(
-            &mut out[at..],
-            block::entry_of(b, i),
-            first_of(count, noted),
-            count,
-        );
+    let moves = block::put_entry(
+        out,
+        v.moves,
+        block::entry_of(b, i),
+        first_of(count, noted),
+        count,
+    );
     let next = v.next;
     Walk {
         moves,
@@ -115,20 +105,7 @@ fn copy_header(b: &[u8], k: usize, h: Heads, out: &mut [u8]) -> Heads
     let key = block::key_of(b, k as u16);
     let value = block::value_of(b, k as u16);
     let middle = h.bytes + key.len();
-    let rows = lent::put_at(
-        out,
-        h.rows,
-        &[
-            (h.bytes % 256) as u8,
-            (h.bytes / 256 % 256) as u8,
-            (key.len() % 256) as u8,
-            (key.len() / 256 % 256) as u8,
-            (middle % 256) as u8,
-            (middle / 256 % 256) as u8,
-            (value.len() % 256) as u8,
-            (value.len() / 256 % 256) as u8,
-        ],
-    );
+    let rows = block::put_header(out, h.rows, h.bytes, key.len(), middle, value.len());
     let at = lent::put_at(out, h.text, key);
     let text = lent::put_at(out, at, value);
     Heads {

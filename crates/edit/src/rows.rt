@@ -7,8 +7,8 @@ ghost use lib.ListN.{length};
 ghost use lib.Dec.{eqb, ltb};
 ghost use Rattle.lists.specs.Pick.{pick};
 ghost use Rattle.lent.specs.Regions.{put};
-ghost use Rattle.jkf.specs.Attaching.{onHang, hangsBy};
-ghost use Rattle.block.specs.Attach.{Play};
+ghost use Rattle.jkf.specs.Attaching.{onHang, Play};
+ghost use Rattle.jkf.specs.Following.{hangsBy};
 ghost use Rattle.block.specs.Decode.{linesIn, decode};
 ghost use Rattle.edit.specs.Edit.{playsIn, renumbered, none, line, changedFrom};
 ghost use Rattle.edit.specs.Splicing.{spliced, rowAfter, RowsFit, Rowed, Keeps, Adds, AllRowed};
@@ -29,20 +29,7 @@ fn put_row(rows: &mut [u8], i: usize, start: u64, first: usize, count: usize)
     ensures { λ _. ⌜ now (rows .exit) ≡ put (now (rows .entry)) (8 * i) (rowAfter (now (rows .entry)) i start first count) ⌝ }
 {
     let parent = parent_in(rows, i, start);
-    lent::put_at(
-        rows,
-        8 * i,
-        &[
-            (start % 256) as u8,
-            (start / 256 % 256) as u8,
-            (first % 256) as u8,
-            (first / 256 % 256) as u8,
-            (count % 256) as u8,
-            (count / 256 % 256) as u8,
-            (parent % 256) as u8,
-            (parent / 256 % 256) as u8,
-        ],
-    );
+    block::put_line(rows, 8 * i, start, first, count, parent);
 }
 
 // Row i of a line that has entries; answers the number of the next row.

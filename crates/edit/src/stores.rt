@@ -13,7 +13,7 @@ ghost use mathlib.Core.List.{_++_};
 ghost use Prim.Native.Nat.{_≤_};
 ghost use lib.ListN.{length, drop};
 ghost use Rattle.lent.specs.Regions.{puts};
-ghost use Rattle.block.specs.Attach.{attach};
+ghost use Rattle.jkf.specs.Attaching.{attach};
 ghost use Rattle.block.specs.Encode.{table, lineRow, lineStep, encode};
 ghost use Rattle.block.specs.Decode.{linesIn, movesIn};
 ghost use Rattle.block.specs.Sound.{Sound, entriesBefore};
@@ -78,15 +78,16 @@ fn fill(b: &[u8], p: usize, q: usize, t: &[u8], z: Sizes, rows: &[u8], total: us
     let moves = lines + 8 * z.lines;
     let comments = moves + 20 * z.entries;
     let text = comments + 4 * z.comments;
-    parser::put_head(
+    block::put_head(
         out,
+        1,
         total as u16,
         headers as u16,
         z.lines as u16,
         z.entries as u16,
         z.comments as u16,
     );
-    jkf::put_position(&mut out[28..], block::position_of(b));
+    block::put_position(out, 28, block::position_of(b));
     let h = copy_headers(
         b,
         Heads {

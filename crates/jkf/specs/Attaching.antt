@@ -1,12 +1,12 @@
--- Where a variation hangs. The starts and entry counts of the lines are functions, so that the reader's table, a block's and a list's
--- share the rule.                                                                                    (01, Attaching rule)
+-- Where a variation hangs. The starts and entry counts of the lines are functions, so that a table's rows, a block's and a list's share the
+-- rule; and a list of lines of play, each hung by it.                                                                                    (01, Attaching rule)
 -- Assumes nothing: these are definitions.
-use Prim.Native.Nat.{ℕ, zero, suc, _+_, _*_, _-_, _<_}
-use mathlib.Core.Path.{_≡_}
-use mathlib.Core.List.{List}
+use Prim.Native.Nat.{ℕ, zero, suc, _+_, _-_}
+use mathlib.Core.List.{List, [], _∷_}
+use lib.ListN.{length, getD}
 use lib.Dec.{leb, ltb}
 use Rattle.lists.specs.Pick.{pick}
-use Rattle.lent.specs.Bytes.{le16}
+use Rattle.jkf.specs.Model.{Noted, Line}
 use Rattle.jkf.specs.declared.Hang.{Hang}
 use Rattle.jkf.specs.declared.Hang.the-variants.{On, Nowhere}
 
@@ -37,31 +37,37 @@ hungFrom start count k zero = all
 hungFrom start count k (suc n) =
     onHang (hangs start count (start k) k) (λ p e. hungFrom start count (k + 1) n) (first k (start k))
 
--- A table of lines in lent memory: rows of eight bytes, start, first entry, entry count, parent.     (01, The block: line)
-abbrev pub startAt : List ℕ → ℕ → ℕ
-startAt lines k = le16 lines (8 * k)
+-- ---- lines of play
 
-abbrev pub countAt : List ℕ → ℕ → ℕ
-countAt lines k = le16 lines (8 * k + 4)
+-- A line of play: the ply that it starts at, and its entries.
+pub record Play : Type 0 where
+  pub start : ℕ
+  pub entries : List Noted
 
-abbrev pub parentAt : List ℕ → ℕ → ℕ
-parentAt lines k = le16 lines (8 * k + 6)
+abbrev pub play : ℕ → List Noted → Play
+play start entries = record { start = start; entries = entries }
 
--- The search along the parents in a table, from line j on in at most n steps: the first line whose start is at or below s; 0 where a parent
--- is not before its line.
-unfoldable pub follow : List ℕ → ℕ → ℕ → ℕ → ℕ
-follow lines s zero j = 0
-follow lines s (suc n) j =
-    let r = follow lines s n (parentAt lines j) in
-    pick (leb (startAt lines j) s) j (pick (ltb (parentAt lines j) j) r 0)
+abbrev pub playOf : List Play → ℕ → Play
+playOf ps k = getD ps k (play 0 [])
 
--- From the last of k lines on; and where a line with start s hangs by that.
-abbrev pub followed : List ℕ → ℕ → ℕ → ℕ
-followed lines s k = follow lines s k (k - 1)
+abbrev pub starts : List Play → ℕ → ℕ
+starts ps k = playOf ps k .start
 
-unfoldable pub hangsBy : List ℕ → ℕ → ℕ → Hang
-hangsBy lines s k = hangOn s (followed lines s k) (startAt lines (followed lines s k)) (countAt lines (followed lines s k))
+abbrev pub counts : List Play → ℕ → ℕ
+counts ps k = length (playOf ps k .entries)
 
--- Each of the first k lines but line 0 has the parent that the rule finds for it: so both searches find the same.
-pub record Linked (lines : List ℕ) (k : ℕ) : Type 0 where
-  pub parents : (i : ℕ) → 0 < i → i < k → parentAt lines i ≡ near (startAt lines) (startAt lines i) i
+-- Line k's parent.
+unfoldable pub parentIn : List Play → ℕ → ℕ
+parentIn ps k = onHang (hangs (starts ps) (counts ps) (starts ps k) k) (λ p e. p) 0
+
+-- The lines from line k on, each with its parent among all.
+unfoldable pub attachFrom : List Play → ℕ → List Play → List Line
+attachFrom ps k [] = []
+attachFrom ps k (p ∷ rest) = record { start = p .start; parent = parentIn ps k; entries = p .entries } ∷ attachFrom ps (k + 1) rest
+
+unfoldable pub attach : List Play → List Line
+attach ps = attachFrom ps 0 ps
+
+-- Whether every variation hangs, or the first that does not and its ply.                             (01, Attaching rule: refusal 6)
+unfoldable pub allHung : List Play → Hung
+allHung ps = hungFrom (starts ps) (counts ps) 1 (length ps - 1)

@@ -1,4 +1,5 @@
+pub mod Model
 pub mod Answers
 pub mod Entries
-pub mod Positions
 pub mod Attaching
+pub mod Following

@@ -1,7 +1,7 @@
 // The attaching rule over a table of lines in lent memory: rows of eight bytes, start, first entry, entry count, parent.
 use crate::Hang;
 ghost use mathlib.Core.Path.{_≡_};
-ghost use Rattle.jkf.specs.Attaching.{startAt, countAt, followed, hangsBy};
+ghost use Rattle.jkf.specs.Following.{startAt, countAt, followed, hangsBy};
 
 // The start of line k; 0 past the table.
 fn start(lines: &[u8], k: usize) -> u64

@@ -1,17 +1,12 @@
-// The types of a record, the answers of the calls, and how an entry and the position lie in a block.   (the Rust's src/jkf.rs)
+// The types of a record, the answers of the calls, and the attaching rule.   (the Rust's src/jkf.rs)
 mod attaching;
 mod entries;
-mod positions;
 
 pub use attaching::attach;
 pub use attaching::nearest;
-pub use entries::entry_in;
 pub use entries::number_of;
-pub use entries::put_entry;
 pub use entries::special_of;
 pub use entries::time_of;
-pub use positions::position_in;
-pub use positions::put_position;
 ghost use mathlib.Core.Path.{_≡_};
 ghost use Rattle.jkf.specs.Answers.{figures, figured};
 

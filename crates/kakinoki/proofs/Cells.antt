@@ -15,7 +15,8 @@ use Rattle.spell.specs.declared.Spelled.{Spelled}
 use Rattle.spell.specs.declared.Spelled.the-variants.{As, Not}
 use Rattle.spell.proofs.Answers.{OnSpelled, isAs, isNot, by-spelled}
 use Rattle.block.specs.Sound.{isCell}
-use Rattle.kakinoki.specs.Boards.{filesTag, ruleTag, emptyTag, board, noCells, noBoard, whiteAt, cellAt, cellsFrom, rowEndAt, rowAt, rowsFrom, ruledAt, boardAt}
+use Rattle.kakinoki.specs.Boards.{board, noCells, noBoard, whiteAt, cellAt, cellsFrom, rowEndAt, rowAt, rowsFrom, ruledAt, boardAt}
+use Rattle.spell.specs.Words.{filesTag, ruleTag, emptyTag}
 use Rattle.kakinoki.specs.declared.Board.{Board}
 use Rattle.kakinoki.proofs.Filled.{Filled, filled-set, filled-zeros}
 use Rattle.kakinoki.proofs.Reach.{kind-known, spelled-map}

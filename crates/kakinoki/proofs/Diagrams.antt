@@ -16,7 +16,8 @@ use Rattle.text.proofs.Answers.{by-past}
 use Rattle.spell.specs.Tables.{numerals}
 use Rattle.spell.specs.declared.Spelled.{Spelled}
 use Rattle.spell.proofs.Answers.{OnSpelled, isAs, isNot, by-spelled}
-use Rattle.kakinoki.specs.Boards.{filesTag, ruleTag, emptyTag, noCells, noBoard, whiteAt, cellAt, cellsFrom, rowEndAt, rowAt, rowsFrom, ruledAt, boardAt}
+use Rattle.kakinoki.specs.Boards.{noCells, noBoard, whiteAt, cellAt, cellsFrom, rowEndAt, rowAt, rowsFrom, ruledAt, boardAt}
+use Rattle.spell.specs.Words.{filesTag, ruleTag, emptyTag}
 use Rattle.kakinoki.specs.declared.Board.{Board}
 use Rattle.kakinoki.proofs.Reach.{spelled-map, first-after, kind-known}
 

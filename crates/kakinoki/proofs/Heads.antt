@@ -10,7 +10,7 @@ use lib.ListN.{length, getD, length-append}
 use Rattle.lists.specs.Repeat.{Step, more, stop, ended, onStep, manyFrom}
 use Rattle.lists.proofs.Laws.{by-pick}
 use Rattle.text.specs.declared.Cursor.{Cursor}
-use Rattle.block.specs.Model.{Header}
+use Rattle.jkf.specs.Model.{Header}
 use Rattle.kakinoki.specs.Informations.{headerAt, Said, isLine, saidOf, hashLinesAt, informationItem, informationsAt, pairsOf, headerPlace, headerPlacesFrom, headerPlacesAt}
 use Rattle.kakinoki.specs.Starts.{firstBlock, diagram, secondPlace, headersSaid, headerPlaces}
 use Rattle.kakinoki.specs.declared.Info.{Info}

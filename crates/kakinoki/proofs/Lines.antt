@@ -21,7 +21,8 @@ use Rattle.text.proofs.Answers.{by-past}
 use Rattle.spell.specs.Tables.{presets, sides}
 use Rattle.spell.specs.declared.Spelled.{Spelled}
 use Rattle.spell.proofs.Answers.{OnSpelled, isAs, isNot, by-spelled}
-use Rattle.kakinoki.specs.Informations.{presetTag, turnTag, handsTag, noneTag, onKeyValue, hashLineAt, hashItem, hashLinesAt, paddedEndAt, endsLine, presetLineAt, turnLineAt, emptyHand, pieceStep, piecesAt, handAt, heldAt, handLineAt, valueAt, keyValueAt}
+use Rattle.kakinoki.specs.Informations.{onKeyValue, hashLineAt, hashItem, hashLinesAt, paddedEndAt, endsLine, presetLineAt, turnLineAt, emptyHand, pieceStep, piecesAt, handAt, heldAt, handLineAt, valueAt, keyValueAt}
+use Rattle.spell.specs.Words.{presetTag, turnTag, handsTag, noneTag}
 use Rattle.kakinoki.specs.declared.Hand.{Hand}
 use Rattle.kakinoki.specs.declared.HandLine.{HandLine}
 use Rattle.kakinoki.specs.declared.Held.{Held}

@@ -16,7 +16,8 @@ use Rattle.text.specs.declared.Cursor.{Cursor}
 use Rattle.text.proofs.Laws.{After}
 use Rattle.text.proofs.Answers.{by-place}
 use Rattle.spell.proofs.Answers.{by-spelled}
-use Rattle.kakinoki.specs.Informations.{onPiece, hand, noneTag, pieceAt, emptyHand, pieceStep, piecesAt, handAt}
+use Rattle.kakinoki.specs.Informations.{onPiece, hand, pieceAt, emptyHand, pieceStep, piecesAt, handAt}
+use Rattle.spell.specs.Words.{noneTag}
 use Rattle.kakinoki.specs.declared.Piece.{Piece}
 use Rattle.kakinoki.specs.declared.Piece.the-variants.{Of, NoPiece}
 use Rattle.kakinoki.specs.declared.Hand.{Hand}

@@ -7,7 +7,7 @@ use mathlib.Core.Logic.{⊎-elim}
 use mathlib.Core.List.{List, [], _∷_}
 use types.Run.{OneOf}
 use denote.Enum.Declared.{tagOf}
-use Rattle.block.specs.Model.{Header}
+use Rattle.jkf.specs.Model.{Header}
 use Rattle.kakinoki.specs.Informations.{saidOf, faultOf, tell, headerPlace}
 use Rattle.kakinoki.specs.declared.Info.{Info}
 use Rattle.kakinoki.specs.declared.Info.the-variants.{Preset, Turn, Hands, Keyed, Refused, Nothing}

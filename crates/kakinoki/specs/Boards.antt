@@ -9,24 +9,12 @@ use Rattle.text.specs.Text.{cursor, onPlace, tagAt, breakAt}
 use Rattle.text.specs.declared.Cursor.{Cursor}
 use Rattle.text.specs.declared.Place.{Place}
 use Rattle.text.specs.declared.Place.the-variants.{Absent}
+use Rattle.spell.specs.Words.{filesTag, ruleTag, emptyTag}
 use Rattle.spell.specs.Spell.{onSpelled, firstOf}
 use Rattle.spell.specs.Tables.{kinds, numerals}
 use Rattle.spell.specs.declared.Spelled.{Spelled}
 use Rattle.spell.specs.declared.Spelled.the-variants.{As, Not}
 use Rattle.kakinoki.specs.declared.Board.{Board}
-
--- "  ９ ８ ７ ６ ５ ４ ３ ２ １"
-abbrev pub filesTag : List ℕ
-filesTag =
-    32 ∷ 32 ∷ 239 ∷ 188 ∷ 153 ∷ 32 ∷ 239 ∷ 188 ∷ 152 ∷ 32 ∷ 239 ∷ 188 ∷ 151 ∷ 32 ∷ 239 ∷ 188 ∷ 150 ∷ 32 ∷ 239 ∷ 188 ∷ 149 ∷ 32 ∷ 239 ∷ 188 ∷ 148 ∷ 32 ∷ 239 ∷ 188 ∷ 147 ∷ 32 ∷ 239 ∷ 188 ∷ 146 ∷ 32 ∷ 239 ∷ 188 ∷ 145 ∷ []
-
--- +---------------------------+
-abbrev pub ruleTag : List ℕ
-ruleTag = 43 ∷ replicate 27 45 ++ (43 ∷ [])
-
--- " ・"
-abbrev pub emptyTag : List ℕ
-emptyTag = 32 ∷ 227 ∷ 131 ∷ 187 ∷ []
 
 abbrev pub board : Bool → List ℕ → Cursor → Board
 board there cells next = record { there = there; cells = cells; next = next }

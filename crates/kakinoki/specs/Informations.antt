@@ -11,12 +11,13 @@ use Rattle.text.specs.Text.{cursor, onPlace, tagAt, breakAt, tailAt, lineEndAt,
 use Rattle.text.specs.declared.Cursor.{Cursor}
 use Rattle.text.specs.declared.Place.{Place}
 use Rattle.text.specs.declared.Place.the-variants.{Absent}
+use Rattle.spell.specs.Words.{presetTag, turnTag, handsTag, noneTag}
 use Rattle.spell.specs.Spell.{onSpelled, firstOf}
 use Rattle.spell.specs.Tables.{kinds, presets, sides}
 use Rattle.spell.specs.Count.{countAt}
 use Rattle.spell.specs.declared.Spelled.{Spelled}
 use Rattle.spell.specs.declared.Spelled.the-variants.{As, Not}
-use Rattle.block.specs.Model.{Header}
+use Rattle.jkf.specs.Model.{Header}
 use Rattle.kakinoki.specs.declared.Piece.{Piece}
 use Rattle.kakinoki.specs.declared.Piece.the-variants.{Of, NoPiece}
 use Rattle.kakinoki.specs.declared.Hand.{Hand}
@@ -36,22 +37,6 @@ use Rattle.kakinoki.specs.declared.Fault.{Fault}
 use Rattle.kakinoki.specs.declared.Fault.the-variants.{NoFault, At}
 
 -- ---- words
-
--- 手合割：
-abbrev pub presetTag : List ℕ
-presetTag = 230 ∷ 137 ∷ 139 ∷ 229 ∷ 144 ∷ 136 ∷ 229 ∷ 137 ∷ 178 ∷ 239 ∷ 188 ∷ 154 ∷ []
-
--- 番
-abbrev pub turnTag : List ℕ
-turnTag = 231 ∷ 149 ∷ 170 ∷ []
-
--- の持駒：
-abbrev pub handsTag : List ℕ
-handsTag = 227 ∷ 129 ∷ 174 ∷ 230 ∷ 140 ∷ 129 ∷ 233 ∷ 167 ∷ 146 ∷ 239 ∷ 188 ∷ 154 ∷ []
-
--- なし
-abbrev pub noneTag : List ℕ
-noneTag = 227 ∷ 129 ∷ 170 ∷ 227 ∷ 129 ∷ 151 ∷ []
 
 -- Answers taken apart: what to do with their values, and what stands for the other cases.
 abbrev pub onPiece : {A : Type 0} → Piece → (ℕ → ℕ → Cursor → A) → A → A

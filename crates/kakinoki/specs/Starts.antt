@@ -8,7 +8,7 @@ use Rattle.lists.specs.Pick.{pick}
 use Rattle.lists.specs.Repeat.{Ended}
 use Rattle.text.specs.Text.{cursor}
 use Rattle.jkf.specs.declared.Position.{Position}
-use Rattle.block.specs.Model.{Header}
+use Rattle.jkf.specs.Model.{Header}
 use Rattle.kakinoki.specs.Informations.{Said, told, untold, tellAll, pairsOf, headerPlacesAt, informationsAt, faultAt}
 use Rattle.kakinoki.specs.Boards.{boardAt, noCells}
 use Rattle.kakinoki.specs.declared.Named.{Named}

@@ -17,7 +17,7 @@ ghost use Prim.Native.Nat.{_+_, _<_};
 ghost use lib.ListN.{length, drop};
 ghost use lib.Seq.{sets};
 ghost use Rattle.text.specs.Text.{endsKey, keyAt};
-ghost use Rattle.block.specs.Model.{Header};
+ghost use Rattle.jkf.specs.Model.{Header};
 ghost use Rattle.kakinoki.specs.Informations.{hashLineAt, hashLinesAt, endsLine, presetLineAt, turnLineAt, valueAt, keyValueAt, emptyHand, information, keyedAt, handsOrKeyedAt, informationAt, isLine, saidOf, faultOf, tell, headerPlace, headerPlacesAt, low16, blockAt};
 
 // # and the rest of its line.   (the Rust's comment_line)

@@ -21,8 +21,9 @@ use Rattle.text.proofs.Boundaries.{Boundary, boundary-start, boundary-break}
 use Rattle.spell.specs.Tables.{presets, sides}
 use Rattle.spell.specs.declared.Spelled.{Spelled}
 use Rattle.spell.proofs.Answers.{OnSpelled, isAs, isNot, by-spelled, first-known}
-use Rattle.kakinoki.specs.Informations.{presetTag, turnTag, handsTag, onHeld, onKeyValue, hashLineAt, hashItem, hashLinesAt, paddedEndAt, endsLine, presetLineAt, turnLineAt, emptyHand, handAt, heldAt, handLineAt, valueAt, keyValueAt, Said, information, keyedAt, handsOrKeyedAt, informationAt, isLine, informationItem, informationsAt, headerPlace, headerPlacesFrom, headerPlacesAt}
-use Rattle.kakinoki.specs.Boards.{filesTag, ruleTag, noCells, noBoard, rowsFrom, ruledAt, boardAt}
+use Rattle.kakinoki.specs.Informations.{onHeld, onKeyValue, hashLineAt, hashItem, hashLinesAt, paddedEndAt, endsLine, presetLineAt, turnLineAt, emptyHand, handAt, heldAt, handLineAt, valueAt, keyValueAt, Said, information, keyedAt, handsOrKeyedAt, informationAt, isLine, informationItem, informationsAt, headerPlace, headerPlacesFrom, headerPlacesAt}
+use Rattle.spell.specs.Words.{presetTag, turnTag, handsTag, filesTag, ruleTag}
+use Rattle.kakinoki.specs.Boards.{noCells, noBoard, rowsFrom, ruledAt, boardAt}
 use Rattle.kakinoki.specs.Starts.{firstBlock, diagram, secondPlace, headerPlaces}
 use Rattle.kakinoki.specs.declared.HandLine.{HandLine}
 use Rattle.kakinoki.specs.declared.Held.{Held}

@@ -10,16 +10,16 @@ use lib.ListN.{length, take, drop}
 use lib.Dec.{eqb}
 use borrow.Author.Tests.{ne-eqb}
 use Rattle.lists.specs.Pick.{pick}
-use Rattle.jkf.specs.Positions.{positionIn}
+use Rattle.block.specs.PositionBytes.{positionIn}
 use Rattle.jkf.specs.declared.Entry.{Entry}
 use Rattle.jkf.specs.declared.Position.{Position}
-use Rattle.block.specs.Model.{Header, Noted, Line, Record}
+use Rattle.jkf.specs.Model.{Header, Noted, Line, Record}
 use Rattle.block.specs.Encode.{encode, entriesOf, commentsOf}
 use Rattle.block.specs.Decode.{decode, headersIn, linesIn, parentOf, firstEntry, entryCount, firstComment, commentCount, commentOf, headerIn, notedIn, lineIn, run}
 use Rattle.block.specs.Formed.{headerOf, lineOf, notedOf, Formed}
 use Rattle.block.proofs.Tabling.{run-is, run-all, concat-sum, part-getD, part-within}
 use Rattle.laws.proofs.Parts.{from-part}
-use Rattle.jkf.proofs.PositionsBack.{position-length, position-back}
+use Rattle.block.proofs.PositionsBack.{position-length, position-back}
 use Rattle.block.proofs.Lengths.{block-length}
 use Rattle.laws.proofs.Hanging.{start-low, parent-low}
 use Rattle.laws.proofs.Fields.{notesOf, noHeader, noLine, noNoted, lengthOf, Fits, version-is, headers-are, lines-are, key-is, value-is, start-is, first-entry, entry-count-is, parent-is, first-comment, comment-count-is, what-is, comment-is, position-part}

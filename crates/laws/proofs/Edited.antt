@@ -18,8 +18,8 @@ use Rattle.lists.proofs.Laws.{by-pick}
 use Rattle.jkf.specs.declared.Answer.{Answer}
 use Rattle.jkf.specs.declared.Answer.the-variants.{Done, BlockTooLong, BufferShort, NotSound, ParentChanges}
 use Rattle.jkf.specs.Answers.{figures, Outcome, refuse}
-use Rattle.block.specs.Model.{Line, Record}
-use Rattle.block.specs.Attach.{Play, starts, counts}
+use Rattle.jkf.specs.Model.{Line, Record}
+use Rattle.jkf.specs.Attaching.{Play, starts, counts}
 use Rattle.block.specs.Encode.{encode}
 use Rattle.block.specs.Decode.{decode}
 use Rattle.block.specs.Sound.{soundb, Sound}

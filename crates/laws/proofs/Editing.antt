@@ -23,11 +23,10 @@ use Rattle.lists.proofs.Laws.{by-pick}
 use Rattle.jkf.specs.declared.Answer.{Answer}
 use Rattle.jkf.specs.declared.Answer.the-variants.{Done, BlockTooLong, NotSound, ParentChanges}
 use Rattle.jkf.specs.Answers.{figures, Outcome, refuse}
-use Rattle.jkf.specs.Attaching.{hangs}
+use Rattle.jkf.specs.Attaching.{hangs, Play, play, playOf, starts, counts, parentIn, attach}
 use Rattle.jkf.specs.declared.Hang.the-variants.{On}
 use Rattle.jkf.proofs.Nears.{near-same, hangs-made}
-use Rattle.block.specs.Model.{Line, Record}
-use Rattle.block.specs.Attach.{Play, play, playOf, starts, counts, parentIn, attach}
+use Rattle.jkf.specs.Model.{Line, Record}
 use Rattle.block.specs.Encode.{encode}
 use Rattle.block.specs.Decode.{decode, linesIn, startOf, entryCount, parentOf}
 use Rattle.block.specs.Sound.{Sound}

@@ -12,9 +12,9 @@ use lib.Dec.{eqb}
 use Rattle.lists.proofs.Laws.{drop-step}
 use Rattle.lists.specs.Pick.{pick}
 use Rattle.lent.specs.Bytes.{le16, bytes16}
-use Rattle.jkf.specs.Entries.{entryBytes}
-use Rattle.jkf.specs.Positions.{positionBytes, positionIn}
-use Rattle.block.specs.Model.{Header, Noted}
+use Rattle.block.specs.EntryBytes.{entryBytes}
+use Rattle.block.specs.PositionBytes.{positionBytes, positionIn}
+use Rattle.jkf.specs.Model.{Header, Noted}
 use Rattle.block.specs.Encode.{encode, encodeFlat, headBytes, blockLength, table, headerRow, headerStep, lineRow, lineStep, entryRow, entryStep, commentRow, commentStep, headerText, commentsOf, commentText}
 use Rattle.block.specs.Decode.{decode, headersIn, linesIn, movesIn, commentsIn, headerPlace, linePlace, commentPlace, textPlace, keyLength, valueLength, startOf, firstEntry, entryCount, parentOf, firstComment, commentCount, commentOffset, commentLength, keyOf, valueOf, commentOf, headerIn, notedIn, lineIn, run}
 use Rattle.block.specs.Sound.{sum, Sound, headerBytes, commentBytes, commentsBefore, entriesBefore}

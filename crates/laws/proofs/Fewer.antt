@@ -6,8 +6,8 @@ use mathlib.Core.Path.{_≡_, refl, sym, ap, ap₂, _∙_}
 use mathlib.Core.List.{List, _++_}
 use lib.ListN.{length, take, drop, length-append, take-append-drop}
 use lib.Seq.{drop-drop}
-use Rattle.block.specs.Model.{Noted, Line, Record}
-use Rattle.block.specs.Attach.{Play}
+use Rattle.jkf.specs.Model.{Noted, Line, Record}
+use Rattle.jkf.specs.Attaching.{Play}
 use Rattle.block.specs.Encode.{concat, encode, blockLength, headerText, commentsOf, commentText}
 use Rattle.block.specs.Decode.{decode}
 use Rattle.block.specs.Sound.{Sound}

@@ -11,17 +11,17 @@ use lib.Dec.{eqb}
 use Rattle.lists.specs.Pick.{pick}
 use Rattle.lent.specs.Bytes.{le16}
 use Rattle.lent.proofs.Writes.{read16}
-use Rattle.jkf.specs.Entries.{entryIn}
-use Rattle.jkf.specs.Positions.{positionBytes}
+use Rattle.block.specs.EntryBytes.{entryIn}
+use Rattle.block.specs.PositionBytes.{positionBytes}
 use Rattle.jkf.specs.declared.Entry.the-variants.{Slot}
-use Rattle.block.specs.Model.{Header, Noted, Line, Record}
+use Rattle.jkf.specs.Model.{Header, Noted, Line, Record}
 use Rattle.block.specs.Encode.{encode, headBytes, blockLength, table, concat, headerRow, headerStep, lineRow, lineStep, entryRow, entryStep, commentRow, commentStep, headerText, entriesOf, commentsOf, commentText}
 use Rattle.block.specs.Decode.{headersIn, linesIn, movesIn, commentsIn, headerPlace, linePlace, movePlace, commentPlace, textPlace, keyOffset, keyLength, valueOffset, valueLength, startOf, firstEntry, entryCount, parentOf, firstComment, commentCount, commentOffset, commentLength, keyOf, valueOf, commentOf}
 use Rattle.block.specs.Formed.{headerOf, lineOf, notedOf}
 use Rattle.block.proofs.Tabling.{after, table-cut, table-length, table-before, concat-cut, part-within, after-adds}
 use Rattle.laws.proofs.Parts.{Part, part-from, From, front, past, whole-part, from-part, part-in, part-number, part-number₀}
-use Rattle.block.proofs.Rows.{header-wide, line-wide, entry-wide, comment-wide}
-use Rattle.jkf.proofs.EntriesBack.{entry-back, first-back, count-back}
+use Rattle.block.proofs.RowPlaces.{header-wide, line-wide, entry-wide, comment-wide}
+use Rattle.block.proofs.EntriesBack.{entry-back, first-back, count-back}
 use Rattle.block.proofs.Lengths.{head-length, block-length}
 
 -- all entries and all comments of a record

@@ -13,11 +13,10 @@ use Rattle.lists.proofs.Laws.{by-pick}
 use Rattle.text.specs.Text.{widthStep, pastAll}
 use Rattle.text.specs.Utf8.{charWidth, wellFormed}
 use Rattle.text.proofs.Widths.{char-within}
-use Rattle.jkf.specs.Attaching.{Hung, all, first}
+use Rattle.jkf.specs.Attaching.{Hung, all, first, attach, allHung}
 use Rattle.jkf.specs.declared.Answer.{Answer}
 use Rattle.jkf.specs.declared.Answer.the-variants.{Done, TextTooLong, NotUtf8, HandLine, BlockTooLong, BufferShort, NoEntry}
 use Rattle.jkf.specs.Answers.{figures, Outcome, refuse}
-use Rattle.block.specs.Attach.{attach, allHung}
 use Rattle.block.specs.Encode.{encode, headBytes, entriesOf, commentsOf, headerText}
 use Rattle.block.specs.Formed.{Formed}
 use Rattle.moves.proofs.Smalls.{Bytes, each, bytes-at, bytes-join, bytes-one, bytes-16, zeros}

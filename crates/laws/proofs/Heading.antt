@@ -23,7 +23,7 @@ use Rattle.sorted.specs.declared.Order.{Order}
 use Rattle.sorted.specs.declared.Order.the-variants.{Less, Equal, Greater}
 use Rattle.sorted.proofs.Orders.{bytes-chain, bytes-flip}
 use Rattle.sorted.proofs.Kept.{enterAll-all, enterAll-ascending}
-use Rattle.block.specs.Model.{Header}
+use Rattle.jkf.specs.Model.{Header}
 use Rattle.block.specs.Encode.{table, headerRow, headerStep, headerText}
 use Rattle.block.specs.Sound.{before, valid}
 use Rattle.block.specs.Formed.{headerOf, headerFits}

@@ -12,8 +12,8 @@ use lib.ListN.{length, take, drop}
 use lib.Dec.{eqb}
 use borrow.Author.Tests.{ne-eqb}
 use Rattle.lists.specs.Pick.{pick}
-use Rattle.jkf.specs.Entries.{entryIn, entryBytes}
-use Rattle.block.specs.Model.{Noted, Line}
+use Rattle.block.specs.EntryBytes.{entryIn, entryBytes}
+use Rattle.jkf.specs.Model.{Noted, Line}
 use Rattle.block.specs.Encode.{entriesOf, commentsOf}
 use Rattle.block.specs.Decode.{headersIn, linesIn, movesIn, commentsIn, movePlace, textPlace, keyOffset, keyLength, valueOffset, valueLength, firstEntry, entryCount, firstComment, commentCount, commentOffset, commentLength, keyOf, valueOf, commentOf, notedIn, lineIn, run}
 use Rattle.block.specs.Sound.{Sound, headerBytes, commentBytes, commentsBefore, entriesBefore}

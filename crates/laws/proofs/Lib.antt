@@ -1,3 +1,4 @@
+pub mod EntryBytes
 pub mod Parts
 pub mod Positions
 pub mod Held

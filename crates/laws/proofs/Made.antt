@@ -14,11 +14,11 @@ use Rattle.lists.specs.Pick.{pick}
 use Rattle.lists.specs.Test.{claim}
 use Rattle.lent.specs.Bytes.{le16}
 use Rattle.lent.proofs.Writes.{read16}
-use Rattle.jkf.specs.Entries.{entryIn, entryBytes}
-use Rattle.jkf.specs.Positions.{positionBytes}
+use Rattle.block.specs.EntryBytes.{entryIn, entryBytes}
+use Rattle.block.specs.PositionBytes.{positionBytes}
 use Rattle.jkf.specs.declared.Entry.{Entry}
 use Rattle.jkf.specs.declared.Position.{Position}
-use Rattle.block.specs.Model.{Header, Noted, Line, Record}
+use Rattle.jkf.specs.Model.{Header, Noted, Line, Record}
 use Rattle.block.specs.Encode.{encode, headBytes, concat, headerText, entriesOf, commentsOf, commentText}
 use Rattle.block.specs.Decode.{headersIn, linesIn, movesIn, commentsIn, linePlace, movePlace, commentPlace, textPlace, keyLength, valueLength, startOf, entryCount, parentOf, commentCount, commentLength, keyOf}
 use Rattle.block.specs.Sound.{same, before, valid, headTest, partsTest, totalsTest, positionTest, headerTest, lineTest, entryTest, commentTest, fitsTest, kindTest, ascends, headerBytes, commentBytes, commentsBefore, entriesBefore, Sound}

@@ -14,11 +14,10 @@ use Rattle.lists.specs.Repeat.{more, stop}
 use Rattle.lists.proofs.Laws.{by-pick}
 use Rattle.text.specs.Utf8.{wellFormed}
 use Rattle.text.specs.declared.Cursor.{Cursor}
-use Rattle.jkf.specs.Attaching.{all}
+use Rattle.jkf.specs.Attaching.{all, Play, play, starts, counts, attach, allHung}
 use Rattle.jkf.specs.declared.Entry.{Entry}
 use Rattle.jkf.specs.declared.Entry.the-variants.{Slot, Play as Moved, End}
-use Rattle.block.specs.Model.{Noted}
-use Rattle.block.specs.Attach.{Play, play, starts, counts, attach, allHung}
+use Rattle.jkf.specs.Model.{Noted}
 use Rattle.block.specs.Encode.{concat, entriesOf, commentsOf}
 use Rattle.block.specs.Sound.{valid, kindTest}
 use Rattle.block.specs.Formed.{notedOf, lineFits}

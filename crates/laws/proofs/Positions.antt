@@ -7,8 +7,8 @@ use mathlib.Core.Path.{_≡_, refl, sym, ap, _∙_}
 use mathlib.Core.List.{List, [], _∷_}
 use lib.ListN.{length, getD, take}
 use Rattle.lists.proofs.Laws.{drop-step}
-use Rattle.jkf.specs.Positions.{positionBytes, bytesAt, positionIn}
-use Rattle.jkf.proofs.PositionsBack.{bytes-part}
+use Rattle.block.specs.PositionBytes.{positionBytes, bytesAt, positionIn}
+use Rattle.block.proofs.PositionsBack.{bytes-part}
 use Rattle.laws.proofs.Parts.{Part, then}
 
 byte-part : (l : List ℕ) (x at : ℕ) → x ≡ getD l at 0 → at + 1 ≤ length l → Part l at 1 (x ∷ [])

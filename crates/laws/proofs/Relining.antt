@@ -18,13 +18,14 @@ use Rattle.lists.specs.Pick.{pick}
 use Rattle.lists.specs.Test.{each, claim}
 use Rattle.lists.proofs.Laws.{by-pick}
 use Rattle.lent.specs.Bytes.{bytes16}
-use Rattle.jkf.specs.Entries.{timeBytes, timeOf, headBytes as entryHead, entryBytes}
-use Rattle.jkf.specs.Positions.{positionBytes, positionIn}
+use Rattle.block.specs.EntryBytes.{timeBytes, headBytes as entryHead, entryBytes}
+use Rattle.jkf.specs.Entries.{timeOf}
+use Rattle.block.specs.PositionBytes.{positionBytes, positionIn}
 use Rattle.jkf.specs.declared.Entry.{Entry}
 use Rattle.jkf.specs.declared.Entry.the-variants.{Slot, Play as Moved, End}
-use Rattle.jkf.proofs.Places.{bytes-length}
-use Rattle.block.specs.Model.{Header, Noted}
-use Rattle.block.specs.Attach.{Play, play, counts, attach}
+use Rattle.block.proofs.ByteArrays.{bytes-length}
+use Rattle.jkf.specs.Model.{Header, Noted}
+use Rattle.jkf.specs.Attaching.{Play, play, counts, attach}
 use Rattle.block.specs.Encode.{encode, entryRow, entryStep, entriesOf, commentsOf, headerText}
 use Rattle.block.specs.Decode.{decode, run, headersIn, linesIn, movesIn, commentsIn, movePlace, textPlace, keyOffset, keyLength, valueOffset, valueLength, firstEntry, entryCount, firstComment, commentCount, commentOffset, commentLength, textAt, keyOf, valueOf, commentOf, headerIn, notedIn}
 use Rattle.block.specs.Sound.{Sound, valid, before, kindTest, commentsBefore}
@@ -33,7 +34,8 @@ use Rattle.block.proofs.Sums.{sum-within}
 use Rattle.block.proofs.Tabling.{length-run, run-getD}
 use Rattle.block.proofs.Within.{first-comment, some-entry, entries-within, first-none}
 use Rattle.moves.proofs.Answers.{line-is}
-use Rattle.moves.proofs.Fits.{move-line-fits, entry-bytes-small}
+use Rattle.moves.proofs.Fits.{move-line-fits}
+use Rattle.laws.proofs.EntryBytes.{entry-bytes-small}
 use Rattle.moves.proofs.Smalls.{Bytes as AllBytes, empty, each as eachByte, bytes-at, bytes-from, bytes-take, bytes-drop, bytes-join, bytes-16}
 use Rattle.parser.proofs.Alls.{all-at, all-concat}
 use Rattle.parser.proofs.Hung.{attach-length, attach-entries, lines-hang}

@@ -5,11 +5,12 @@ use Prim.Native.Nat.{ℕ, _-_, _<_}
 use mathlib.Core.List.{List}
 use lib.ListN.{length, getD}
 use Rattle.lists.specs.All.{All, none, next}
-use Rattle.block.specs.Model.{Noted, Line}
-use Rattle.block.specs.Attach.{attach}
+use Rattle.jkf.specs.Model.{Noted, Line}
+use Rattle.jkf.specs.Attaching.{attach}
 use Rattle.block.specs.Encode.{table, concat, lineRow, lineStep, entryRow, entryStep, commentRow, commentStep, entriesOf, commentsOf, commentText}
 use Rattle.moves.proofs.Answers.{line-is}
-use Rattle.moves.proofs.Fits.{move-line-fits, entry-bytes-small, slot-bytes-small}
+use Rattle.moves.proofs.Fits.{move-line-fits}
+use Rattle.laws.proofs.EntryBytes.{entry-bytes-small, slot-bytes-small}
 use Rattle.moves.proofs.Smalls.{Bytes, empty, bytes-from, bytes-take, bytes-drop, bytes-join, bytes-16}
 use Rattle.parser.specs.Plays.{playsAt}
 use Rattle.parser.proofs.Alls.{all-any}

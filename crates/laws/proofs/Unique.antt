@@ -17,7 +17,7 @@ use Rattle.jkf.specs.Answers.{figures, figured}
 use Rattle.jkf.specs.declared.Answer.{Answer}
 use Rattle.jkf.specs.declared.Answer.the-variants.{Done, NotSound, NoSuchPart}
 use Rattle.jkf.proofs.Answering.{figures-one}
-use Rattle.block.specs.Model.{Noted}
+use Rattle.jkf.specs.Model.{Noted}
 use Rattle.block.specs.Decode.{textPlace, textAt}
 use Rattle.block.specs.Sound.{soundb}
 use Rattle.block.specs.Look.{Told, lookAnswer, lookPart}

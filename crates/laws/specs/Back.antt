@@ -6,10 +6,9 @@ use mathlib.Core.Path.{_≡_}
 use mathlib.Core.List.{List, _++_}
 use lib.ListN.{length, drop}
 use Rattle.jkf.specs.Answers.{Outcome}
-use Rattle.jkf.specs.Attaching.{all}
+use Rattle.jkf.specs.Attaching.{all, attach, allHung}
 use Rattle.jkf.specs.declared.Answer.the-variants.{Done}
-use Rattle.block.specs.Model.{Record}
-use Rattle.block.specs.Attach.{attach, allHung}
+use Rattle.jkf.specs.Model.{Record}
 use Rattle.block.specs.Encode.{encode}
 use Rattle.block.specs.Decode.{decode}
 use Rattle.block.specs.Sound.{Sound}

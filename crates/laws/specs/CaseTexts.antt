@@ -3,7 +3,7 @@
 use Prim.Native.Nat.{ℕ}
 use mathlib.Core.List.{List, [], _∷_, _++_}
 use Rattle.lent.specs.Numbers.{decimal}
-use Rattle.moves.specs.Moves.{sameWord, drops}
+use Rattle.spell.specs.Words.{sameWord, drops}
 use Rattle.block.specs.Encode.{concat}
 use Rattle.block.specs.Decode.{run}
 

@@ -10,7 +10,7 @@ use Rattle.jkf.specs.declared.Time.{Time}
 use Rattle.jkf.specs.declared.Time.the-variants.{Untimed, Timed}
 use Rattle.jkf.specs.declared.Entry.{Entry}
 use Rattle.jkf.specs.declared.Entry.the-variants.{Slot, Play, End}
-use Rattle.block.specs.Model.{Noted, Line, Record}
+use Rattle.jkf.specs.Model.{Noted, Line, Record}
 use Rattle.converter.specs.Entries.{hour, minute, second}
 use Rattle.converter.specs.Show.{shown}
 

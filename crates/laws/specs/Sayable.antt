@@ -17,12 +17,13 @@ use Rattle.jkf.specs.declared.Time.{Time}
 use Rattle.jkf.specs.declared.Move.{Move}
 use Rattle.jkf.specs.declared.Entry.{Entry}
 use Rattle.jkf.specs.declared.Entry.the-variants.{Slot, Play as Moved, End}
-use Rattle.block.specs.Model.{Header, Noted, Record}
-use Rattle.block.specs.Attach.{Play}
+use Rattle.jkf.specs.Model.{Header, Noted, Record}
+use Rattle.jkf.specs.Attaching.{Play}
 use Rattle.moves.specs.Moves.{colorOf}
 use Rattle.moves.specs.Fits.{EntryFits}
 use Rattle.edit.specs.Edit.{playsIn}
-use Rattle.kakinoki.specs.Informations.{handsTag, presetLineAt}
+use Rattle.kakinoki.specs.Informations.{presetLineAt}
+use Rattle.spell.specs.Words.{handsTag}
 use Rattle.converter.specs.Headers.{headerLine}
 
 -- ---- header entries

@@ -28,7 +28,8 @@ use Rattle.jkf.specs.declared.Target.{Target}
 use Rattle.jkf.specs.declared.Target.the-variants.{Same, Square}
 use Rattle.jkf.specs.declared.Time.the-variants.{Untimed}
 use Rattle.jkf.specs.declared.Entry.{Entry}
-use Rattle.moves.specs.Moves.{sameWord, colon, onClocked, onWhat, onMoveLine, timing, squareAt, moveToAt, pieceAt, moveAt, whatAt, figureAt, hmsAt, msAt, clockAt, spacedAt, clocksAt, timeAt, colorOf, finished, moveLineAt, keptAt, commentLineAt}
+use Rattle.moves.specs.Moves.{colon, onClocked, onWhat, onMoveLine, timing, squareAt, moveToAt, pieceAt, moveAt, whatAt, figureAt, hmsAt, msAt, clockAt, spacedAt, clocksAt, timeAt, colorOf, finished, moveLineAt, keptAt, commentLineAt}
+use Rattle.spell.specs.Words.{sameWord}
 use Rattle.moves.specs.Endings.{endingAt, moveLineEndAt, beginsComment}
 use Rattle.moves.specs.declared.Aim.the-variants.{To, NoAim}
 use Rattle.moves.specs.declared.Clocked.{Clocked}

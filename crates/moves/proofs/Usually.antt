@@ -24,7 +24,8 @@ use Rattle.spell.specs.declared.Spelled.the-variants.{As}
 use Rattle.spell.proofs.Keys.{key-of}
 use Rattle.spell.proofs.Lookups.{numeral-known, kind-known, file-known, promoted-known}
 use Rattle.jkf.specs.declared.Origin.the-variants.{From}
-use Rattle.moves.specs.Moves.{promotes, mark, squareAt, moveToAt, promoteAt, originAt, moveFromAt, pieceAt, whatAt, timeAt, colorOf, finished, moveLineAt}
+use Rattle.moves.specs.Moves.{mark, squareAt, moveToAt, promoteAt, originAt, moveFromAt, pieceAt, whatAt, timeAt, colorOf, finished, moveLineAt}
+use Rattle.spell.specs.Words.{promotes}
 use Rattle.moves.specs.Endings.{playedLine}
 use Rattle.moves.specs.Usuals.{Two, valueOf, Usual, aimOf, kindOf, markOf, entryOf, Bracketed, Aimed, Named, UsualMove}
 use Rattle.moves.specs.declared.Source.the-variants.{Out}

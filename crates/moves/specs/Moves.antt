@@ -13,6 +13,7 @@ use Rattle.text.specs.declared.Place.{Place}
 use Rattle.text.specs.declared.Place.the-variants.{Absent as NoPlace}
 use Rattle.text.specs.declared.Number.{Number}
 use Rattle.text.specs.declared.Number.the-variants.{Value, NoDigit}
+use Rattle.spell.specs.Words.{sameWord, promotes, declines, drops, black, white}
 use Rattle.spell.specs.Spell.{onSpelled, firstOf}
 use Rattle.spell.specs.Tables.{kinds, specials, numerals, files}
 use Rattle.jkf.specs.Entries.{specialOf}
@@ -42,22 +43,6 @@ use Rattle.moves.specs.declared.MoveLine.{MoveLine}
 use Rattle.moves.specs.declared.MoveLine.the-variants.{Numbered, NoLine}
 
 -- ---- words
-
--- 同
-abbrev pub sameWord : List ℕ
-sameWord = 229 ∷ 144 ∷ 140 ∷ []
-
--- 成
-abbrev pub promotes : List ℕ
-promotes = 230 ∷ 136 ∷ 144 ∷ []
-
--- 不成
-abbrev pub declines : List ℕ
-declines = 228 ∷ 184 ∷ 141 ∷ 230 ∷ 136 ∷ 144 ∷ []
-
--- 打
-abbrev pub drops : List ℕ
-drops = 230 ∷ 137 ∷ 147 ∷ []
 
 -- Answers taken apart: what to do with their values, and what stands for the other case.
 abbrev pub onAim : {A : Type 0} → Aim → (Target → Cursor → A) → A → A
@@ -210,14 +195,6 @@ keptAt s at = onPlace (tagAt (38 ∷ []) s at) (λ c. remarkFrom (cursor at) s (
 -- A comment after *, which is dropped, or after &.                                                   (the Rust's move_comment_line)
 unfoldable pub commentLineAt : List ℕ → ℕ → Remark
 commentLineAt s at = onPlace (tagAt (42 ∷ []) s at) (λ c. remarkFrom c s (c .at)) (keptAt s at)
-
--- ▲
-abbrev pub black : List ℕ
-black = 226 ∷ 150 ∷ 178 ∷ []
-
--- △
-abbrev pub white : List ℕ
-white = 226 ∷ 150 ∷ 179 ∷ []
 
 -- What begins no skip line: a space, a digit, *, ▲ or △.                                             (01, Reading rules: skip line)
 unfoldable pub beginsMove : List ℕ → ℕ → Bool

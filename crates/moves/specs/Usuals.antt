@@ -16,7 +16,8 @@ use Rattle.jkf.specs.declared.Target.{Target}
 use Rattle.jkf.specs.declared.Target.the-variants.{Same, Square}
 use Rattle.jkf.specs.declared.Origin.the-variants.{From}
 use Rattle.jkf.specs.declared.Entry.{Entry}
-use Rattle.moves.specs.Moves.{promotes, mark, moved, moveToAt, promoteAt}
+use Rattle.moves.specs.Moves.{mark, moved, moveToAt, promoteAt}
+use Rattle.spell.specs.Words.{promotes}
 use Rattle.moves.specs.declared.Aim.the-variants.{To}
 
 -- Two digits at a place, and their number.

@@ -17,7 +17,8 @@ ghost use mathlib.Core.Bool.{true};
 ghost use Prim.Native.Nat.{_+_, _≤_, _<_};
 ghost use lib.ListN.{length, getD};
 ghost use Rattle.text.specs.Text.{standsAt};
-ghost use Rattle.moves.specs.Moves.{promotes, squareAt, moveToAt, promoteAt, originAt, moveFromAt, pieceAt, whatAt, finished};
+ghost use Rattle.moves.specs.Moves.{squareAt, moveToAt, promoteAt, originAt, moveFromAt, pieceAt, whatAt, finished};
+ghost use Rattle.spell.specs.Words.{promotes};
 ghost use Rattle.moves.specs.Endings.{endingAt};
 ghost use Rattle.moves.specs.Usuals.{Bracketed, Aimed, Named, UsualMove, aimOf, kindOf, markOf, entryOf};
 

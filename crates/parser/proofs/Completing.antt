@@ -7,12 +7,11 @@ use mathlib.Core.List.{List, _++_}
 use lib.ListN.{length, drop, replicate, length-map}
 use Rattle.lent.specs.Regions.{put, puts}
 use Rattle.text.specs.declared.Cursor.{Cursor}
-use Rattle.jkf.specs.Positions.{positionBytes}
-use Rattle.jkf.specs.Attaching.{Hung, all, first}
+use Rattle.block.specs.PositionBytes.{positionBytes}
+use Rattle.jkf.specs.Attaching.{Hung, all, first, Play, attach, allHung}
 use Rattle.jkf.specs.declared.Position.{Position}
 use Rattle.jkf.specs.declared.Answer.the-variants.{Done, NoEntry}
-use Rattle.block.specs.Model.{Header, Noted, Line}
-use Rattle.block.specs.Attach.{Play, attach, allHung}
+use Rattle.jkf.specs.Model.{Header, Noted, Line}
 use Rattle.block.specs.Encode.{headBytes, blockLength, headerText, entriesOf, commentsOf, commentText, encodeFlat, encode}
 use Rattle.kakinoki.specs.Informations.{headerAt}
 use Rattle.kakinoki.specs.Starts.{startOf}

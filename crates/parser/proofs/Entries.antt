@@ -12,9 +12,9 @@ use Rattle.lent.specs.Bytes.{fitting}
 use Rattle.lent.specs.Regions.{Room, Stored}
 use Rattle.lent.proofs.Regions.{filled-under, filled-first, stored-all, then-fill, then-room, as-texts}
 use Rattle.text.specs.declared.Cursor.{Cursor}
-use Rattle.jkf.specs.Entries.{entryBytes}
+use Rattle.block.specs.EntryBytes.{entryBytes}
 use Rattle.jkf.specs.declared.Entry.{Entry}
-use Rattle.block.specs.Model.{Noted}
+use Rattle.jkf.specs.Model.{Noted}
 use Rattle.block.specs.Encode.{table, concat, entryRow, commentsOf, commentText}
 use Rattle.moves.specs.Moves.{moveLineAt}
 use Rattle.moves.specs.declared.MoveLine.the-variants.{Numbered, NoLine}

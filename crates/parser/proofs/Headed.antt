@@ -14,7 +14,7 @@ use Rattle.lent.proofs.Regions.{left-start, left-room, left-step, left-done, le
 use Rattle.text.specs.Text.{keyAt}
 use Rattle.text.specs.declared.Cursor.{Cursor}
 use Rattle.text.proofs.Boundaries.{key-part}
-use Rattle.block.specs.Model.{Header}
+use Rattle.jkf.specs.Model.{Header}
 use Rattle.block.specs.Encode.{table, concat, headerRow, headerStep, headerText}
 use Rattle.block.proofs.Tabling.{after, table-append, concat-append, after-adds}
 use Rattle.kakinoki.specs.Informations.{onKeyValue, textBetween, keyValueAt, headerAt}

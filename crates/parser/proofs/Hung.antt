@@ -20,12 +20,11 @@ use Rattle.lists.specs.Pick.{pick}
 use Rattle.lists.specs.Test.{equals, both, each, flag, claim}
 use Rattle.lists.proofs.Laws.{by-pick}
 use Rattle.lists.proofs.Tests.{answers}
-use Rattle.jkf.specs.Attaching.{near, hangOn, hangs, onHang, Hung, all, first, hungFrom}
+use Rattle.jkf.specs.Attaching.{near, hangOn, hangs, onHang, Hung, all, first, hungFrom, Play, play, playOf, starts, counts, parentIn, attachFrom, attach, allHung}
 use Rattle.jkf.specs.declared.Hang.{Hang}
 use Rattle.jkf.specs.declared.Hang.the-variants.{On, Nowhere}
 use Rattle.jkf.proofs.Nears.{near-none, near-before, hangs-same, Hangs, hangs-says, hangs-on}
-use Rattle.block.specs.Model.{Noted, Line}
-use Rattle.block.specs.Attach.{Play, play, playOf, starts, counts, parentIn, attachFrom, attach, allHung}
+use Rattle.jkf.specs.Model.{Noted, Line}
 use Rattle.block.specs.Encode.{concat, entriesOf}
 use Rattle.block.specs.Sound.{sum, hangTest}
 use Rattle.block.specs.Formed.{lineOf, lineFits}

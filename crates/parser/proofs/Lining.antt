@@ -15,16 +15,16 @@ use Rattle.lent.specs.Bytes.{le16, bytes16, fitting}
 use Rattle.lent.specs.Regions.{join, first as next, put, puts, Room, Filled, Stored}
 use Rattle.lent.proofs.Regions.{room-front, filled-length, then-fill, then-room, as-texts, filled-at, join-nil, put-none, put-eq, length-put, room-at}
 use Rattle.text.specs.declared.Cursor.{Cursor}
-use Rattle.jkf.specs.Attaching.{near, hangOn, hangs, onHang, Hung, all, first, hungFrom, startAt, countAt, parentAt, hangsBy, Linked}
+use Rattle.jkf.specs.Attaching.{near, hangOn, hangs, onHang, Hung, all, first, hungFrom, Play, play, playOf, starts, counts, parentIn, attach, allHung}
+use Rattle.jkf.specs.Following.{startAt, countAt, parentAt, hangsBy, Linked}
 use Rattle.jkf.specs.declared.Hang.{Hang}
 use Rattle.jkf.specs.declared.Hang.the-variants.{On, Nowhere}
 use Rattle.jkf.proofs.Nears.{near-same, near-before, hangs-followed}
-use Rattle.block.specs.Model.{Noted, Line}
-use Rattle.block.specs.Attach.{Play, play, playOf, starts, counts, parentIn, attach, allHung}
+use Rattle.jkf.specs.Model.{Noted, Line}
 use Rattle.block.specs.Formed.{lineOf}
 use Rattle.block.specs.Encode.{table, concat, lineRow, lineStep, entriesOf, commentsOf, commentText}
 use Rattle.block.proofs.Tabling.{table-length, concat-append}
-use Rattle.block.proofs.Rows.{line-wide}
+use Rattle.block.proofs.RowPlaces.{line-wide}
 use Rattle.parser.specs.Plays.{noted, entriesAt, plyAt, skippedAt, skipsAt, variationsAt, slotAt, pastMain, mainAt, playsAt}
 use Rattle.parser.specs.Filling.{entryTexts, lineTexts, entryEnds, lineEnds, mainLine, movedTo, EntriesFit, Entered, LinesFit, LineFits, Lined}
 use Rattle.parser.specs.declared.Walk.{Walk}

@@ -14,7 +14,7 @@ use Rattle.lent.specs.Regions.{Room, Stored}
 use Rattle.lent.proofs.Regions.{room-front, then-room}
 use Rattle.text.specs.declared.Cursor.{Cursor}
 use Rattle.jkf.specs.declared.Entry.the-variants.{Slot}
-use Rattle.block.specs.Model.{Noted}
+use Rattle.jkf.specs.Model.{Noted}
 use Rattle.block.specs.Encode.{commentsOf, commentText}
 use Rattle.parser.specs.Plays.{noted, commentsAt, entriesAt, skippedAt, slotAt, pastMain, mainAt}
 use Rattle.parser.specs.Filling.{entryTexts, entryEnds, mainLine, movedTo, EntriesFit, Entered, LineFits, Lined}

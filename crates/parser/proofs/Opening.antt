@@ -19,13 +19,14 @@ use Rattle.text.proofs.Answers.{by-place}
 use Rattle.spell.specs.Tables.{presets, sides}
 use Rattle.spell.specs.declared.Spelled.{Spelled}
 use Rattle.spell.proofs.Answers.{OnSpelled, isAs, isNot, by-spelled, first-known}
-use Rattle.jkf.specs.Positions.{positionBytes}
+use Rattle.block.specs.PositionBytes.{positionBytes}
 use Rattle.jkf.specs.declared.Position.{Position}
-use Rattle.jkf.proofs.PositionsBack.{position-length}
-use Rattle.block.specs.Model.{Header}
+use Rattle.block.proofs.PositionsBack.{position-length}
+use Rattle.jkf.specs.Model.{Header}
 use Rattle.block.specs.Sound.{fitsTest}
 use Rattle.moves.proofs.Smalls.{Bytes, each as also, bytes-from, bytes-join, bytes-one, byte, nought, zeros}
-use Rattle.kakinoki.specs.Informations.{presetTag, turnTag, handsTag, onHeld, onKeyValue, paddedEndAt, endsLine, presetLineAt, turnLineAt, emptyHand, handAt, heldAt, handLineAt, keyValueAt, headerAt, Said, ofPreset, ofTurn, ofHands, ofPair, information, keyedAt, handsOrKeyedAt, informationAt, isLine, saidOf, hashLinesAt, informationItem, informationsAt, untold, tell, tellAll}
+use Rattle.kakinoki.specs.Informations.{onHeld, onKeyValue, paddedEndAt, endsLine, presetLineAt, turnLineAt, emptyHand, handAt, heldAt, handLineAt, keyValueAt, headerAt, Said, ofPreset, ofTurn, ofHands, ofPair, information, keyedAt, handsOrKeyedAt, informationAt, isLine, saidOf, hashLinesAt, informationItem, informationsAt, untold, tell, tellAll}
+use Rattle.spell.specs.Words.{presetTag, turnTag, handsTag}
 use Rattle.kakinoki.specs.Boards.{noCells}
 use Rattle.kakinoki.specs.Starts.{named, either, addHands, merged, positionOf, firstBlock, diagram, secondBlock, secondPlace, startOf}
 use Rattle.kakinoki.specs.declared.HandLine.{HandLine}

@@ -10,10 +10,10 @@ use lib.Dec.{leb}
 use borrow.Author.Tests.{le-leb, lt-leb, leb-true}
 use Rattle.lists.proofs.Laws.{pick-both}
 use Rattle.lent.proofs.Regions.{put-none}
-use Rattle.block.specs.Model.{Noted}
+use Rattle.jkf.specs.Model.{Noted}
 use Rattle.block.specs.Encode.{table, concat, entryRow, entryStep, commentRow, commentStep, commentsOf}
 use Rattle.block.proofs.Tabling.{table-length}
-use Rattle.block.proofs.Rows.{entry-wide, comment-wide}
+use Rattle.block.proofs.RowPlaces.{entry-wide, comment-wide}
 use Rattle.parser.specs.Plays.{entriesAt}
 use Rattle.parser.specs.Filling.{extentAt, hasNumbers, hasRoom, EntriesFit, Entered, fittingEntries, fittingEnd}
 use Rattle.parser.proofs.Items.{entries-max}

@@ -8,11 +8,11 @@ use lib.ListN.{length, take, drop}
 use Rattle.lent.specs.Bytes.{le16, bytes16, fitting}
 use Rattle.lent.specs.Regions.{Room, Filled, Stored}
 use Rattle.lent.proofs.Regions.{filled-under, filled-first, stored-all, then-fill, then-room, as-texts}
-use Rattle.block.specs.Model.{Noted, Line}
+use Rattle.jkf.specs.Model.{Noted, Line}
 use Rattle.block.specs.Formed.{lineOf}
 use Rattle.block.specs.Encode.{table, concat, lineRow, lineStep, entriesOf, commentsOf, commentText}
 use Rattle.block.proofs.Tabling.{after, table-row}
-use Rattle.block.proofs.Rows.{line-wide}
+use Rattle.block.proofs.RowPlaces.{line-wide}
 use Rattle.block.proofs.Lining.{le16-drop}
 use Rattle.parser.specs.Filling.{entryTexts, lineTexts, entryEnds, lineEnds, EntriesFit, Entered, LineFits, Lined}
 use Rattle.parser.specs.declared.Walk.{Walk}

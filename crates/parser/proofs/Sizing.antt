@@ -9,8 +9,8 @@ use Rattle.lists.specs.Repeat.{Ended}
 use Rattle.text.specs.Text.{cursor}
 use Rattle.text.specs.declared.Cursor.{Cursor}
 use Rattle.jkf.specs.declared.Entry.the-variants.{Slot}
-use Rattle.block.specs.Model.{Noted}
-use Rattle.block.specs.Attach.{Play, play}
+use Rattle.jkf.specs.Model.{Noted}
+use Rattle.jkf.specs.Attaching.{Play, play}
 use Rattle.block.specs.Encode.{concat, commentsOf, commentText}
 use Rattle.block.proofs.Tabling.{concat-append}
 use Rattle.parser.specs.Plays.{noted, entriesAt, plyAt, skippedAt, skipsAt, variationsAt, slotAt, pastMain, mainAt, playsAt}

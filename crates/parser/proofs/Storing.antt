@@ -16,14 +16,15 @@ use borrow.Author.Tests.{lt-ltb, le-ltb}
 use Rattle.jkf.specs.declared.Position.{Position}
 use Rattle.jkf.specs.declared.Answer.{Answer}
 use Rattle.jkf.specs.declared.Answer.the-variants.{BlockTooLong, BufferShort}
-use Rattle.block.specs.Model.{Header, Noted}
-use Rattle.block.specs.Attach.{attach}
+use Rattle.jkf.specs.Model.{Header, Noted}
+use Rattle.jkf.specs.Attaching.{attach}
 use Rattle.block.specs.Encode.{concat, headerText, commentsOf, commentText, blockLength}
 use Rattle.sorted.specs.Sorted.{byKey, enterAll, kept, All}
 use Rattle.sorted.proofs.Merges.{enter-map}
 use Rattle.sorted.proofs.Kept.{kept-all, kept-length}
 use Rattle.kakinoki.specs.Informations.{onKeyValue, headerAt}
-use Rattle.kakinoki.specs.Boards.{filesTag, ruleTag, noCells, noBoard, rowsFrom, ruledAt, boardAt}
+use Rattle.kakinoki.specs.Boards.{noCells, noBoard, rowsFrom, ruledAt, boardAt}
+use Rattle.spell.specs.Words.{filesTag, ruleTag}
 use Rattle.kakinoki.specs.Starts.{firstBlock, diagram, secondPlace, headerPlaces, startOf}
 use Rattle.kakinoki.specs.declared.Board.{Board}
 use Rattle.kakinoki.specs.declared.KeyValue.{KeyValue}

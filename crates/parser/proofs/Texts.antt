@@ -5,7 +5,7 @@ use mathlib.Core.Path.{_≡_, refl, ap, ap₂, _∙_}
 use mathlib.Core.List.{List, [], _∷_, _++_}
 use lib.ListN.{length}
 use Rattle.lent.specs.Regions.{join}
-use Rattle.block.specs.Model.{Noted, Line}
+use Rattle.jkf.specs.Model.{Noted, Line}
 use Rattle.block.specs.Encode.{table, entryRow, entryStep, commentRow, commentStep, lineRow, lineStep, entriesOf, commentsOf, commentText}
 use Rattle.block.proofs.Tabling.{after, table-append, concat-append, after-adds}
 use Rattle.parser.specs.Filling.{commentTexts, entryTexts, lineTexts}

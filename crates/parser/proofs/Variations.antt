@@ -10,8 +10,8 @@ use lib.Dec.{eqb}
 use borrow.Author.Tests.{eqb-false, eqb-true, eq-eqb, ne-eqb}
 use Rattle.lists.specs.Repeat.{Step, more, stop, ended, onStep, manyFrom}
 use Rattle.lists.proofs.Repeats.{ItemGoes, many-more, many-stop, many-within}
-use Rattle.block.specs.Model.{Noted}
-use Rattle.block.specs.Attach.{Play, play}
+use Rattle.jkf.specs.Model.{Noted}
+use Rattle.jkf.specs.Attaching.{Play, play}
 use Rattle.block.specs.Encode.{concat, commentsOf, commentText}
 use Rattle.block.proofs.Tabling.{concat-append}
 use Rattle.parser.specs.Plays.{entriesAt, plyAt, skippedAt, skipsAt, playItem, variationItem, variationsAt, pastMain}

@@ -10,7 +10,7 @@ use Rattle.lent.specs.Bytes.{bytes16, fitting}
 use Rattle.lent.specs.Regions.{Room, Left, Stored, put}
 use Rattle.lent.proofs.Regions.{left-start, left-room, left-step, left-done, length-put, stored-all}
 use Rattle.text.specs.declared.Cursor.{Cursor}
-use Rattle.block.specs.Model.{Noted}
+use Rattle.jkf.specs.Model.{Noted}
 use Rattle.block.specs.Encode.{table, concat, commentsOf, commentText}
 use Rattle.block.proofs.Tabling.{concat-append}
 use Rattle.lists.specs.Repeat.{Ended}

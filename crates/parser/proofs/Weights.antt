@@ -7,7 +7,7 @@ use mathlib.Core.List.{List, [], _∷_}
 use lib.ListN.{length, drop, length-append, length-drop}
 use lib.Seq.{length-take-le}
 use Rattle.lists.specs.Repeat.{Step, more, stop, ended, onStep, manyFrom}
-use Rattle.block.specs.Model.{Noted}
+use Rattle.jkf.specs.Model.{Noted}
 use Rattle.block.specs.Encode.{concat, commentsOf, commentText}
 use Rattle.block.proofs.Tabling.{concat-append}
 use Rattle.moves.specs.Moves.{onRemark, onMoveLine, moveLineAt, commentLineAt}

@@ -8,12 +8,12 @@ use lib.ListN.{length, drop, length-append}
 use Rattle.lent.specs.Regions.{put, puts, moved, join, Room, Same, Filled, all, starts}
 use Rattle.lent.proofs.Regions.{same-of, filled-length, room-front, then-fill, then-room, as-texts, whole, whole-room, put-none}
 use Rattle.text.specs.declared.Cursor.{Cursor}
-use Rattle.jkf.specs.Positions.{positionBytes}
+use Rattle.block.specs.PositionBytes.{positionBytes}
 use Rattle.jkf.specs.declared.Position.{Position}
-use Rattle.block.specs.Model.{Header, Noted, Line}
+use Rattle.jkf.specs.Model.{Header, Noted, Line}
 use Rattle.block.specs.Encode.{table, headBytes, blockLength, headerRow, headerStep, headerText, lineRow, lineStep, entryRow, entryStep, commentRow, commentStep, entriesOf, commentsOf, commentText, encodeFlat}
 use Rattle.block.proofs.Tabling.{table-length}
-use Rattle.block.proofs.Rows.{header-wide, line-wide, entry-wide, comment-wide}
+use Rattle.block.proofs.RowPlaces.{header-wide, line-wide, entry-wide, comment-wide}
 use Rattle.block.proofs.Lengths.{head-length}
 use Rattle.parser.specs.Filling.{lineTexts, lineEnds, Headed, HeadersFit, LinesFit}
 use Rattle.parser.specs.declared.Heads.{Heads}

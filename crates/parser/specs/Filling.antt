@@ -10,9 +10,8 @@ use Rattle.lists.specs.Pick.{pick}
 use Rattle.lent.specs.Regions.{Filled, Room}
 use Rattle.text.specs.Text.{cursor}
 use Rattle.text.specs.declared.Cursor.{Cursor}
-use Rattle.jkf.specs.Attaching.{Hung, all, first}
-use Rattle.block.specs.Model.{Header, Noted, Line}
-use Rattle.block.specs.Attach.{Play}
+use Rattle.jkf.specs.Attaching.{Hung, all, first, Play}
+use Rattle.jkf.specs.Model.{Header, Noted, Line}
 use Rattle.block.specs.Encode.{table, concat, headerRow, headerStep, headerText, entryRow, entryStep, commentRow, commentStep, lineRow, lineStep, entriesOf, commentsOf, commentText}
 use Rattle.kakinoki.specs.Informations.{onKeyValue, keyValueAt, headerAt}
 use Rattle.parser.specs.Plays.{commentsAt, entriesAt, plyAt, slotAt, pastMain, mainAt, playsAt}

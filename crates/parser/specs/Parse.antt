@@ -4,8 +4,8 @@ use Prim.Native.Nat.{ℕ, _+_}
 use mathlib.Core.List.{List, []}
 use lib.ListN.{length}
 use Rattle.jkf.specs.declared.Position.{Position}
-use Rattle.block.specs.Model.{Header, Line, Record}
-use Rattle.block.specs.Attach.{Play, attach}
+use Rattle.jkf.specs.Model.{Header, Line, Record}
+use Rattle.jkf.specs.Attaching.{Play, attach}
 use Rattle.block.specs.Encode.{headerText, entriesOf, commentsOf, commentText, blockLength}
 use Rattle.sorted.specs.Sorted.{byBytes, enterAll}
 use Rattle.sorted.specs.declared.Order.{Order}

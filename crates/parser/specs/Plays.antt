@@ -9,8 +9,8 @@ use Rattle.lists.specs.Repeat.{Step, more, stop, Ended, ended, onStep, manyFrom
 use Rattle.text.specs.Text.{onPlace, onNumber, blanksAt, digitsAt}
 use Rattle.jkf.specs.declared.Entry.{Entry}
 use Rattle.jkf.specs.declared.Entry.the-variants.{Slot}
-use Rattle.block.specs.Model.{Noted}
-use Rattle.block.specs.Attach.{Play, play}
+use Rattle.jkf.specs.Model.{Noted}
+use Rattle.jkf.specs.Attaching.{Play, play}
 use Rattle.moves.specs.Moves.{onRemark, onMoveLine, moveLineAt, commentLineAt, skipLineAt}
 
 abbrev pub noted : Entry → List (List ℕ) → Noted

@@ -7,13 +7,12 @@ use lib.ListN.{length, drop, replicate}
 use lib.Dec.{ltb}
 use Rattle.lists.specs.Pick.{pick}
 use Rattle.text.specs.Utf8.{wellFormed}
-use Rattle.jkf.specs.Attaching.{Hung, all, first}
+use Rattle.jkf.specs.Attaching.{Hung, all, first, allHung}
 use Rattle.jkf.specs.Answers.{Outcome, refuse}
 use Rattle.jkf.specs.declared.Answer.the-variants.{Done, TextTooLong, NotUtf8, HandLine, BlockTooLong, BufferShort, NoEntry}
-use Rattle.jkf.specs.Positions.{positionBytes}
+use Rattle.block.specs.PositionBytes.{positionBytes}
 use Rattle.jkf.specs.declared.Position.{Position}
 use Rattle.block.specs.Encode.{encode, headBytes}
-use Rattle.block.specs.Attach.{allHung}
 use Rattle.sorted.specs.Sorted.{kept}
 use Rattle.kakinoki.specs.Starts.{startOf, headerPlaces}
 use Rattle.kakinoki.specs.declared.Fault.{Fault}

@@ -17,30 +17,9 @@ ghost use lib.Dec.{eqb};
 ghost use Rattle.lists.specs.Pick.{pick};
 ghost use Rattle.lent.specs.Bytes.{bytes16, fitting};
 ghost use Rattle.lent.specs.Regions.{Stored, puts};
-ghost use Rattle.jkf.specs.Attaching.{all};
-ghost use Rattle.block.specs.Attach.{attach, allHung};
+ghost use Rattle.jkf.specs.Attaching.{all, attach, allHung};
 ghost use Rattle.parser.specs.Plays.{skippedAt, slotAt, pastMain, playsAt};
 ghost use Rattle.parser.specs.Filling.{lineTexts, lineEnds, mainLine, LinesFit, LineFits, Lined, hanging};
-
-// A line's row: start, first entry, entry count, parent.
-fn put_line(out: &mut [u8], at: usize, start: u64, first: usize, count: usize, parent: u64) -> usize
-    ensures { λ r. ⌜ Stored (fitting (bytes16 start ++ bytes16 first ++ bytes16 count ++ bytes16 parent) (drop at (now (out .entry)))) (now (out .entry)) (now (out .exit)) at r ⌝ }
-{
-    lent::put_at(
-        out,
-        at,
-        &[
-            (start % 256) as u8,
-            (start / 256 % 256) as u8,
-            (first % 256) as u8,
-            (first / 256 % 256) as u8,
-            (count % 256) as u8,
-            (count / 256 % 256) as u8,
-            (parent % 256) as u8,
-            (parent / 256 % 256) as u8,
-        ],
-    )
-}
 
 // Past the skip line that may end a line of play; the same place where no entry was filled in.
 fn past_entries(before: Walk, after: Walk, s: &[u8]) -> Cursor
@@ -60,7 +39,7 @@ fn fill_main(s: &[u8], table: usize, w: Walk, out: &mut [u8]) -> Walk
     let slot = fill_slot(s, moved_to(w, skipped(w.next, s)), out);
     let line = fill_entries(s, slot, out);
     let count = line.entries - w.entries;
-    put_line(out, table, 0, w.entries, count, 0);
+    block::put_line(out, table, 0, w.entries, count, 0);
     moved_to(line, past_entries(slot, line, s))
 }
 
@@ -83,7 +62,7 @@ pub(crate) fn fill_lines(s: &[u8], table: usize, w: Walk, out: &mut [u8]) -> Han
         let Hang::On(parent, _) = jkf::attach(&out[table..], k, start) else {
             return Hanging::Lost(k as u64, start);
         };
-        put_line(
+        block::put_line(
             out,
             table + 8 * k,
             start,

@@ -14,51 +14,9 @@ ghost use lib.Dec.{eqb};
 ghost use Rattle.lists.specs.Pick.{pick};
 ghost use Rattle.lent.specs.Bytes.{fitting};
 ghost use Rattle.lent.specs.Regions.{Stored};
-ghost use Rattle.jkf.specs.Entries.{entryBytes};
+ghost use Rattle.block.specs.EntryBytes.{entryBytes};
 ghost use Rattle.parser.specs.Plays.{noted, commentsAt, entriesAt};
 ghost use Rattle.parser.specs.Filling.{movedTo, Commented, Entered, CommentsFit, EntriesFit, hasNumbers, hasRoom, fittingEntries, fittingEnd};
-
-// An entry's 20 bytes, stored from a place on; answers the place past them.
-fn put_entry(out: &mut [u8], at: usize, e: Entry, first: usize, count: usize) -> usize
-    ensures { λ r. ⌜ Stored (fitting (entryBytes e first count) (drop at (now (out .entry)))) (now (out .entry)) (now (out .exit)) at r ⌝ }
-{
-    if out.len() < at {
-        return at;
-    }
-    at + jkf::put_entry(&mut out[at..], e, first, count)
-}
-
-// The slot's, which are zeros but for its comments.
-fn put_slot(out: &mut [u8], at: usize, first: usize, count: usize) -> usize
-    ensures { λ r. ⌜ Stored (fitting (entryBytes Entry.Slot first count) (drop at (now (out .entry)))) (now (out .entry)) (now (out .exit)) at r ⌝ }
-{
-    lent::put_at(
-        out,
-        at,
-        &[
-            0,
-            0,
-            0,
-            0,
-            0,
-            0,
-            0,
-            0,
-            0,
-            0,
-            0,
-            0,
-            0,
-            0,
-            0,
-            0,
-            (first % 256) as u8,
-            (first / 256 % 256) as u8,
-            (count % 256) as u8,
-            (count / 256 % 256) as u8,
-        ],
-    )
-}
 
 // A comment: its row, and its bytes; the walk then stands at the next place.
 fn fill_comment(s: &[u8], from: usize, to: usize, next: Cursor, w: Walk, out: &mut [u8]) -> Walk
@@ -67,16 +25,7 @@ fn fill_comment(s: &[u8], from: usize, to: usize, next: Cursor, w: Walk, out: &m
     ensures { λ r. ⌜ Commented (take (to - from) (drop from (now (s .entry))) ∷ []) (next .at) w r (now (out .entry)) (now (out .exit)) ⌝ }
 {
     let n = to - from;
-    let comments = lent::put_at(
-        out,
-        w.comments,
-        &[
-            (w.bytes % 256) as u8,
-            (w.bytes / 256 % 256) as u8,
-            (n % 256) as u8,
-            (n / 256 % 256) as u8,
-        ],
-    );
+    let comments = block::put_comment(out, w.comments, w.bytes, n);
     let text = lent::put_at(out, w.text, &s[from..to]);
     Walk {
         moves: w.moves,
@@ -135,7 +84,7 @@ fn fill_noted(s: &[u8], e: Entry, w: Walk, out: &mut [u8]) -> Walk
 {
     let v = fill_comments(s, w, out);
     let count = v.noted - w.noted;
-    let moves = put_entry(out, v.moves, e, first_comment(count, w.noted), count);
+    let moves = block::put_entry(out, v.moves, e, first_comment(count, w.noted), count);
     let next = v.next;
     Walk {
         moves,
@@ -155,7 +104,7 @@ pub(crate) fn fill_slot(s: &[u8], w: Walk, out: &mut [u8]) -> Walk
 {
     let v = fill_comments(s, w, out);
     let count = v.noted - w.noted;
-    let moves = put_slot(out, v.moves, first_comment(count, w.noted), count);
+    let moves = block::put_slot(out, v.moves, first_comment(count, w.noted), count);
     let next = v.next;
     Walk {
         moves,

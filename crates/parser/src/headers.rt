@@ -45,28 +45,6 @@ pub(crate) fn count_headers(s: &[u8], places: &[u16]) -> usize
     bytes
 }
 
-// A header row: where key and value begin, and how long they are.
-fn put_row(out: &mut [u8], at: usize, offset: usize, key: usize, value: usize) -> usize
-    requires { ⌜ offset + key < 18446744073709551616 ⌝ }
-    ensures { λ r. ⌜ Stored (fitting (bytes16 offset ++ bytes16 key ++ bytes16 (offset + key) ++ bytes16 value) (drop at (now (out .entry)))) (now (out .entry)) (now (out .exit)) at r ⌝ }
-{
-    let next = offset + key;
-    lent::put_at(
-        out,
-        at,
-        &[
-            (offset % 256) as u8,
-            (offset / 256 % 256) as u8,
-            (key % 256) as u8,
-            (key / 256 % 256) as u8,
-            (next % 256) as u8,
-            (next / 256 % 256) as u8,
-            (value % 256) as u8,
-            (value / 256 % 256) as u8,
-        ],
-    )
-}
-
 // A header entry: its row, its key and its value.
 fn fill_header(s: &[u8], at: usize, h: Heads, out: &mut [u8]) -> Heads
     requires { ⌜ isHeaderLine (now s) at ≡ true ⌝ }
@@ -81,7 +59,7 @@ fn fill_header(s: &[u8], at: usize, h: Heads, out: &mut [u8]) -> Heads
     let colon = start - 3;
     let key = colon - at;
     let value = end - start;
-    let rows = put_row(out, h.rows, h.bytes, key, value);
+    let rows = block::put_header(out, h.rows, h.bytes, key, h.bytes + key, value);
     let middle = lent::put_at(out, h.text, &s[at..colon]);
     let text = lent::put_at(out, middle, &s[start..end]);
     Heads {

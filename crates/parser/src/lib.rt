@@ -10,7 +10,6 @@ mod stores;
 pub use counts::count_moves;
 pub use fills::fill_moves;
 pub use reads::read;
-pub use stores::put_head;
 use text::Cursor;
 
 // Comments: how many, how many bytes they have, and the place past them.

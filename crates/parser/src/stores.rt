@@ -15,76 +15,26 @@ ghost use Prim.Native.Nat.{_+_, _*_, _≤_};
 ghost use lib.ListN.{length, replicate};
 ghost use Rattle.lent.specs.Bytes.{fitting};
 ghost use Rattle.lent.specs.Regions.{put, Stored};
-ghost use Rattle.jkf.specs.Positions.{positionBytes};
+ghost use Rattle.block.specs.PositionBytes.{positionBytes};
 ghost use Rattle.block.specs.Encode.{headBytes, blockLength};
 ghost use Rattle.parser.specs.Parse.{parse};
 ghost use Rattle.parser.specs.Read.{Prepared, Measured, headOf, storedOf, filledWith};
-
-// The head of a block: its mark, its version, its length, the four counts, the five offsets, zeros.
-pub fn put_head(
-    out: &mut [u8],
-    total: u16,
-    headers: u16,
-    lines: u16,
-    entries: u16,
-    comments: u16,
-) -> usize
-    ensures { λ r. ⌜ Stored (fitting (headBytes 1 total headers lines entries comments) (now (out .entry))) (now (out .entry)) (now (out .exit)) 0 r ⌝ }
-{
-    let line_place = 128 + 8 * headers as usize;
-    let move_place = line_place + 8 * lines as usize;
-    let comment_place = move_place + 20 * entries as usize;
-    let text_place = comment_place + 4 * comments as usize;
-    lent::put_at(
-        out,
-        0,
-        &[
-            b'K',
-            b'B',
-            1,
-            0,
-            (total % 256) as u8,
-            (total / 256 % 256) as u8,
-            (headers % 256) as u8,
-            (headers / 256 % 256) as u8,
-            (lines % 256) as u8,
-            (lines / 256 % 256) as u8,
-            (entries % 256) as u8,
-            (entries / 256 % 256) as u8,
-            (comments % 256) as u8,
-            (comments / 256 % 256) as u8,
-            128,
-            0,
-            (line_place % 256) as u8,
-            (line_place / 256 % 256) as u8,
-            (move_place % 256) as u8,
-            (move_place / 256 % 256) as u8,
-            (comment_place % 256) as u8,
-            (comment_place / 256 % 256) as u8,
-            (text_place % 256) as u8,
-            (text_place / 256 % 256) as u8,
-            0,
-            0,
-            0,
-            0,
-        ],
-    )
-}
 
 // The head and the position: the first 128 bytes.
 fn put_front(out: &mut [u8], total: usize, headers: usize, z: Sizes, position: Position)
     requires { ⌜ (128 ≤ length (now out)) × (total ≤ 65535) × (blockLength headers (z .lines) (z .entries) (z .comments) 0 ≤ 65535) × (length (positionBytes position) ≡ 100) ⌝ }
     ensures { λ _. ⌜ now (out .exit) ≡ put (now (out .entry)) 0 (headOf total headers z position) ⌝ }
 {
-    put_head(
+    block::put_head(
         out,
+        1,
         total as u16,
         headers as u16,
         z.lines as u16,
         z.entries as u16,
         z.comments as u16,
     );
-    jkf::put_position(&mut out[28..], position);
+    block::put_position(out, 28, position);
 }
 
 // The whole buffer set to zero.

@@ -2,3 +2,4 @@ pub mod Tables
 pub mod Spell
 pub mod Slots
 pub mod Count
+pub mod Words

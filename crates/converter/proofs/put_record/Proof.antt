@@ -5,7 +5,7 @@ use mathlib.Core.Path.{sym, ap}
 use denote.Ref.{now}
 use lib.ListN.{drop}
 use Rattle.lent.proofs.Writes.{as-text, then, wrote-length, sum-fits, within}
-use Rattle.jkf.specs.Positions.{positionIn}
+use Rattle.block.specs.PositionBytes.{positionIn}
 use Rattle.block.specs.Decode.{decode}
 use Rattle.converter.specs.Diagrams.{positionText}
 use Rattle.converter.specs.Show.{linesText}

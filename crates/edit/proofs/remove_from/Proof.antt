@@ -9,7 +9,7 @@ use lib.Seq.{length-take-le}
 use denote.Ref.{now}
 use borrow.Author.Needs.{needs}
 use Rattle.jkf.proofs.Answering.{told}
-use Rattle.block.specs.Model.{Record}
+use Rattle.jkf.specs.Model.{Record}
 use Rattle.block.specs.Encode.{encode}
 use Rattle.edit.specs.Splicing.{linesAfter, AllRowed}
 use Rattle.edit.specs.Editing.{storedOf}

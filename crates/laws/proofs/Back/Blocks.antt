@@ -12,7 +12,7 @@ use Rattle.lists.proofs.Laws.{by-pick}
 use Rattle.jkf.specs.Answers.{figures, Outcome}
 use Rattle.jkf.specs.declared.Answer.{Answer}
 use Rattle.jkf.specs.declared.Answer.the-variants.{Done, BufferShort, NotSound, HandCount, CannotWrite}
-use Rattle.block.specs.Model.{Record}
+use Rattle.jkf.specs.Model.{Record}
 use Rattle.block.specs.Encode.{encode}
 use Rattle.block.specs.Decode.{decode}
 use Rattle.block.specs.Sound.{Sound, soundb}

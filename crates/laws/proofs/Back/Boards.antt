@@ -21,7 +21,8 @@ use Rattle.block.specs.Encode.{concat}
 use Rattle.block.specs.Decode.{run}
 use Rattle.block.specs.Sound.{isCell}
 use Rattle.block.proofs.Tabling.{run-all}
-use Rattle.kakinoki.specs.Boards.{filesTag, ruleTag, emptyTag, board, noCells, whiteAt, cellAt, cellsFrom, rowEndAt, rowAt, rowsFrom, boardAt}
+use Rattle.kakinoki.specs.Boards.{board, noCells, whiteAt, cellAt, cellsFrom, rowEndAt, rowAt, rowsFrom, boardAt}
+use Rattle.spell.specs.Words.{filesTag, ruleTag, emptyTag}
 use Rattle.converter.specs.Diagrams.{cellText, cellsText, rowText, rowsText, boardText}
 use Rattle.laws.proofs.Back.Leaves.{tag-fails, byte-fails, break-reads}
 

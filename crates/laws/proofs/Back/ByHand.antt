@@ -13,7 +13,8 @@ use Rattle.lent.specs.Bytes.{bytes16}
 use Rattle.lists.specs.Pick.{pick}
 use Rattle.lists.specs.Test.{claim}
 use Rattle.lists.proofs.Laws.{pick-both}
-use Rattle.jkf.specs.Entries.{clockBytes, timeBytes, timeOf, headBytes, entryBytes}
+use Rattle.block.specs.EntryBytes.{clockBytes, timeBytes, headBytes, entryBytes}
+use Rattle.jkf.specs.Entries.{timeOf}
 use Rattle.jkf.specs.declared.Answer.the-variants.{Done}
 use Rattle.jkf.specs.declared.Clock.{Clock}
 use Rattle.jkf.specs.declared.Clock.the-variants.{Hms, Ms}
@@ -23,7 +24,7 @@ use Rattle.jkf.specs.declared.Target.{Target}
 use Rattle.jkf.specs.declared.Target.the-variants.{Same, Square}
 use Rattle.jkf.specs.declared.Entry.{Entry}
 use Rattle.jkf.specs.declared.Entry.the-variants.{Slot, Play as Moved, End}
-use Rattle.block.specs.Model.{Noted, Line, Record}
+use Rattle.jkf.specs.Model.{Noted, Line, Record}
 use Rattle.block.specs.Decode.{decode}
 use Rattle.block.specs.Sound.{Sound, kindTest}
 use Rattle.moves.proofs.Smalls.{Bytes as AllBytes, each, empty}

@@ -14,7 +14,7 @@ use Rattle.lists.proofs.Laws.{pick-both, range}
 use Rattle.lists.proofs.Stand.{Stands, Came, Reads, Off, then, came, stands-between}
 use Rattle.text.specs.Text.{cursor, isText, isBlank, isDigit}
 use Rattle.spell.proofs.Counts.{tag-reads}
-use Rattle.block.specs.Model.{Noted}
+use Rattle.jkf.specs.Model.{Noted}
 use Rattle.block.specs.Encode.{concat}
 use Rattle.moves.specs.Moves.{remarkFrom, keptAt, commentLineAt, moveLineAt}
 use Rattle.moves.specs.declared.Remark.the-variants.{Stands as Remarked, NoRemark}

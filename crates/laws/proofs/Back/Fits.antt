@@ -19,7 +19,7 @@ use Rattle.jkf.specs.declared.Position.{Position}
 use Rattle.jkf.specs.declared.Entry.the-variants.{Slot}
 use Rattle.jkf.specs.Attaching.{near}
 use Rattle.jkf.proofs.Nears.{near-before}
-use Rattle.block.specs.Model.{Header, Noted, Line, Record}
+use Rattle.jkf.specs.Model.{Header, Noted, Line, Record}
 use Rattle.block.specs.Encode.{concat, entriesOf}
 use Rattle.block.specs.Sound.{before, isCell, fitsTest}
 use Rattle.block.specs.Formed.{headerOf, lineOf, headerFits, lineFits, Formed}

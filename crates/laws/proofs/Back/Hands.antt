@@ -24,7 +24,8 @@ use Rattle.spell.proofs.Written.{stands-here, first-fails, board-kind-reads}
 use Rattle.spell.proofs.Counts.{tag-reads, Over, count-reads}
 use Rattle.block.specs.Encode.{concat}
 use Rattle.block.specs.Decode.{run}
-use Rattle.kakinoki.specs.Informations.{noneTag, hand, pieceAt, emptyHand, pieceStep, piecesAt, handAt}
+use Rattle.kakinoki.specs.Informations.{hand, pieceAt, emptyHand, pieceStep, piecesAt, handAt}
+use Rattle.spell.specs.Words.{noneTag}
 use Rattle.kakinoki.specs.declared.Piece.the-variants.{Of}
 use Rattle.kakinoki.proofs.Pieces.{piece-goes}
 use Rattle.converter.specs.Diagrams.{heldText, held, allHeld, orNone}

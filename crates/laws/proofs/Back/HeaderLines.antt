@@ -21,8 +21,9 @@ use Rattle.spell.specs.Spell.{onSpelled, firstOf}
 use Rattle.spell.specs.declared.Spelled.{Spelled}
 use Rattle.spell.specs.declared.Spelled.the-variants.{As, Not}
 use Rattle.spell.proofs.Counts.{tag-reads}
-use Rattle.block.specs.Model.{Header}
-use Rattle.kakinoki.specs.Informations.{turnTag, handsTag, hashLinesAt, paddedEndAt, endsLine, presetLineAt, turnLineAt, emptyHand, heldAt, handLine, handLineAt, valueAt, keyValueAt, headerAt, ofPair, keyedAt, handsOrKeyedAt, informationAt, informationItem}
+use Rattle.jkf.specs.Model.{Header}
+use Rattle.kakinoki.specs.Informations.{hashLinesAt, paddedEndAt, endsLine, presetLineAt, turnLineAt, emptyHand, heldAt, handLine, handLineAt, valueAt, keyValueAt, headerAt, ofPair, keyedAt, handsOrKeyedAt, informationAt, informationItem}
+use Rattle.spell.specs.Words.{turnTag, handsTag}
 use Rattle.kakinoki.specs.declared.Held.the-variants.{NoHand}
 use Rattle.kakinoki.specs.declared.HandLine.{HandLine}
 use Rattle.converter.specs.Headers.{headerLine}

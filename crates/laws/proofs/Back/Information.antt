@@ -17,10 +17,10 @@ use Rattle.spell.specs.Spell.{firstOf, spelled, hasNumber}
 use Rattle.spell.specs.declared.Spelled.the-variants.{As}
 use Rattle.spell.proofs.Written.{spelled-reads, preset-reads}
 use Rattle.spell.proofs.Counts.{tag-reads}
-use Rattle.kakinoki.specs.Informations.{presetTag, turnTag, handsTag, hashLineAt, hashLinesAt, paddedEndAt, presetLineAt, turnLineAt, heldAt, handLineAt, ofPreset, ofTurn, ofHands, handsOrKeyedAt, informationAt, informationItem}
+use Rattle.kakinoki.specs.Informations.{hashLineAt, hashLinesAt, paddedEndAt, presetLineAt, turnLineAt, heldAt, handLineAt, ofPreset, ofTurn, ofHands, handsOrKeyedAt, informationAt, informationItem}
+use Rattle.spell.specs.Words.{presetTag, turnTag, handsTag}
 use Rattle.kakinoki.proofs.Lines.{hash-stop}
-use Rattle.converter.specs.Diagrams.{presetLine, held, allHeld, orNone}
-use Rattle.converter.specs.Diagrams.{handLine as handText}
+use Rattle.converter.specs.Diagrams.{presetLine, held, allHeld, orNone, handLine as handText}
 use Rattle.laws.proofs.Back.Leaves.{tag-fails, byte-fails, break-reads}
 use Rattle.laws.proofs.Back.Hands.{padding-none, countsOf, hand-came}
 

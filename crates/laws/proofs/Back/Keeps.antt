@@ -11,8 +11,8 @@ use Rattle.lists.specs.All.{All, next}
 use Rattle.jkf.specs.declared.Answer.the-variants.{ParentChanges}
 use Rattle.lists.proofs.Laws.{by-pick}
 use Rattle.jkf.specs.declared.Answer.{Answer}
-use Rattle.block.specs.Model.{Record}
-use Rattle.block.specs.Attach.{Play, starts, counts}
+use Rattle.jkf.specs.Model.{Record}
+use Rattle.jkf.specs.Attaching.{Play, starts, counts}
 use Rattle.parser.specs.Parse.{parse, recordOf}
 use Rattle.edit.specs.Edit.{playsIn, fresh, Edited, edited, refused, isVariation, variationOf, isPlyOf, carries, putIn, Changed, none, line, changedFrom, onChanged, insertAt, insertOn, insert, without, remove}
 use Rattle.edit.proofs.Sounds.{plays-back}

@@ -11,7 +11,7 @@ use lib.Dec.{eqb}
 use borrow.Author.Tests.{eqb-true, ne-eqb}
 use Rattle.lists.specs.Pick.{pick}
 use Rattle.lists.proofs.Laws.{by-pick, range-at}
-use Rattle.block.specs.Model.{Header}
+use Rattle.jkf.specs.Model.{Header}
 use Rattle.block.specs.Encode.{concat}
 use Rattle.block.specs.Decode.{run}
 use Rattle.block.specs.Sound.{same}

@@ -10,13 +10,12 @@ use lib.Dec.{eqb}
 use lib.Seq.{length-take-le}
 use Rattle.lists.specs.All.{All, none, next}
 use Rattle.lists.proofs.Laws.{by-pick}
-use Rattle.jkf.specs.Attaching.{near}
+use Rattle.jkf.specs.Attaching.{near, Play, play, playOf, starts, counts, parentIn, attachFrom, attach, allHung}
 use Rattle.jkf.specs.declared.Clock.{Clock}
 use Rattle.jkf.specs.declared.Time.{Time}
 use Rattle.jkf.specs.declared.Entry.{Entry}
 use Rattle.jkf.proofs.Nears.{near-before, near-same, Hangs}
-use Rattle.block.specs.Model.{Noted, Line, Record}
-use Rattle.block.specs.Attach.{Play, play, playOf, starts, counts, parentIn, attachFrom, attach, allHung}
+use Rattle.jkf.specs.Model.{Noted, Line, Record}
 use Rattle.moves.specs.Fits.{ClockFits, hmsFits, msFits, TimeFits, untimedFits, timedFits, EntryFits, playFits, endFits}
 use Rattle.parser.proofs.Hung.{all-hang, parent-first, parent-later}
 use Rattle.converter.specs.Entries.{hour, minute, second}

@@ -19,10 +19,11 @@ use Rattle.text.specs.declared.Place.the-variants.{Past, Absent}
 use Rattle.text.proofs.Ends.{character-end}
 use Rattle.spell.proofs.Written.{stands-other}
 use Rattle.jkf.specs.declared.Entry.the-variants.{Slot}
-use Rattle.block.specs.Model.{Noted, Line}
-use Rattle.block.specs.Attach.{Play, play}
+use Rattle.jkf.specs.Model.{Noted, Line}
+use Rattle.jkf.specs.Attaching.{Play, play}
 use Rattle.block.specs.Encode.{concat}
-use Rattle.moves.specs.Moves.{black, white, beginsMove, skipLineAt}
+use Rattle.moves.specs.Moves.{beginsMove, skipLineAt}
+use Rattle.spell.specs.Words.{black, white}
 use Rattle.parser.specs.Plays.{noted, entriesAt, skippedAt, skipsAt, variationsAt, pastMain, mainAt, playsAt}
 use Rattle.parser.proofs.Items.{skips-none}
 use Rattle.parser.proofs.Variations.{variations-more, variations-none, main-is, main-none}

@@ -29,7 +29,8 @@ use Rattle.jkf.specs.declared.Origin.the-variants.{From}
 use Rattle.jkf.specs.declared.Move.{Move}
 use Rattle.jkf.specs.declared.Entry.{Entry}
 use Rattle.jkf.specs.declared.Entry.the-variants.{Slot, Play, End}
-use Rattle.moves.specs.Moves.{sameWord, promotes, declines, squareAt, moveToAt, mark, promoteAt, originAt, moveFromAt, moved, pieceAt, moveAt, whatAt, colorOf, finished, moveLineAt}
+use Rattle.moves.specs.Moves.{squareAt, moveToAt, mark, promoteAt, originAt, moveFromAt, moved, pieceAt, moveAt, whatAt, colorOf, finished, moveLineAt}
+use Rattle.spell.specs.Words.{sameWord, promotes, declines}
 use Rattle.moves.specs.declared.Aim.the-variants.{To}
 use Rattle.moves.specs.declared.Source.the-variants.{Out}
 use Rattle.moves.specs.declared.What.the-variants.{Is}

@@ -21,7 +21,8 @@ use Rattle.spell.specs.Spell.{onSpelled, firstOf}
 use Rattle.spell.specs.declared.Spelled.{Spelled}
 use Rattle.spell.specs.declared.Spelled.the-variants.{As, Not}
 use Rattle.spell.proofs.Written.{stands-here}
-use Rattle.kakinoki.specs.Informations.{presetTag, paddedEndAt, endsLine, presetLineAt}
+use Rattle.kakinoki.specs.Informations.{paddedEndAt, endsLine, presetLineAt}
+use Rattle.spell.specs.Words.{presetTag}
 use Rattle.laws.specs.Sayable.{everyByte, OneLine}
 
 -- a break, and what follows it

@@ -26,8 +26,9 @@ use Rattle.spell.specs.declared.Spelled.{Spelled}
 use Rattle.spell.specs.declared.Spelled.the-variants.{As, Not}
 use Rattle.spell.proofs.Written.{covers, holds, found}
 use Rattle.spell.proofs.Counts.{tag-reads}
-use Rattle.block.specs.Model.{Header}
-use Rattle.kakinoki.specs.Informations.{handsTag, onHeld, onKeyValue, hashLineAt, hashLinesAt, presetLineAt, turnLineAt, emptyHand, handAt, heldAt, handLine, handLineAt, textBetween, headerAt, Said, information, keyedAt, handsOrKeyedAt, informationAt, informationItem, headerPlace, headerPlacesFrom, headerPlacesAt, paddedEndAt}
+use Rattle.jkf.specs.Model.{Header}
+use Rattle.kakinoki.specs.Informations.{onHeld, onKeyValue, hashLineAt, hashLinesAt, presetLineAt, turnLineAt, emptyHand, handAt, heldAt, handLine, handLineAt, textBetween, headerAt, Said, information, keyedAt, handsOrKeyedAt, informationAt, informationItem, headerPlace, headerPlacesFrom, headerPlacesAt, paddedEndAt}
+use Rattle.spell.specs.Words.{handsTag}
 use Rattle.kakinoki.specs.Starts.{secondPlace, headersSaid, headerPlaces}
 use Rattle.kakinoki.specs.declared.Held.{Held}
 use Rattle.kakinoki.specs.declared.Held.the-variants.{By, Unreadable, NoHand}

@@ -10,8 +10,8 @@ use Rattle.lists.specs.All.{All, none, next}
 use Rattle.text.specs.Utf8.{wellFormed}
 use Rattle.jkf.specs.Answers.{Outcome}
 use Rattle.jkf.specs.declared.Answer.the-variants.{Done}
-use Rattle.block.specs.Model.{Noted, Line, Record}
-use Rattle.block.specs.Attach.{attach}
+use Rattle.jkf.specs.Model.{Noted, Line, Record}
+use Rattle.jkf.specs.Attaching.{attach}
 use Rattle.block.specs.Encode.{concat, encode, entriesOf, commentsOf, commentText}
 use Rattle.block.specs.Formed.{Formed}
 use Rattle.block.proofs.Tabling.{concat-append}

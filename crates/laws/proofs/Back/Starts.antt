@@ -21,13 +21,14 @@ use Rattle.spell.specs.Spell.{firstOf}
 use Rattle.spell.specs.declared.Spelled.the-variants.{Not}
 use Rattle.spell.proofs.Written.{clash, clear, first-fails}
 use Rattle.jkf.specs.declared.Position.{Position}
-use Rattle.block.specs.Model.{Header}
+use Rattle.jkf.specs.Model.{Header}
 use Rattle.block.specs.Encode.{concat}
 use Rattle.block.specs.Decode.{run}
 use Rattle.block.specs.Sound.{isCell}
 use Rattle.block.proofs.Tabling.{concat-append, run-all}
-use Rattle.kakinoki.specs.Informations.{presetTag, hashLinesAt, presetLineAt, turnLineAt, emptyHand, handLineAt, valueAt, keyValueAt, Said, ofPreset, ofTurn, ofHands, ofPair, information, keyedAt, handsOrKeyedAt, informationAt, informationItem, informationsAt, faultAt, untold, tell, tellAll, pairsOf}
-use Rattle.kakinoki.specs.Boards.{filesTag, ruleTag, noCells, boardAt, noBoard, board}
+use Rattle.kakinoki.specs.Informations.{hashLinesAt, presetLineAt, turnLineAt, emptyHand, handLineAt, valueAt, keyValueAt, Said, ofPreset, ofTurn, ofHands, ofPair, information, keyedAt, handsOrKeyedAt, informationAt, informationItem, informationsAt, faultAt, untold, tell, tellAll, pairsOf}
+use Rattle.spell.specs.Words.{presetTag, filesTag, ruleTag}
+use Rattle.kakinoki.specs.Boards.{noCells, boardAt, noBoard, board}
 use Rattle.kakinoki.specs.Starts.{addHands, merged, positionOf, headersSaid, startOf}
 use Rattle.kakinoki.specs.declared.Told.{Told}
 use Rattle.kakinoki.specs.declared.Info.the-variants.{Nothing}
@@ -37,8 +38,7 @@ use Rattle.parser.proofs.Alls.{all-append, all-concat}
 use Rattle.parser.specs.Parse.{byHeader, headersOf}
 use Rattle.sorted.specs.Sorted.{enterAll, Ascending}
 use Rattle.converter.specs.Headers.{leadingNumber, numbered, range, headerLine, linesOf, headersText}
-use Rattle.converter.specs.Diagrams.{presetLine, boardText, turnText, rowsText}
-use Rattle.converter.specs.Diagrams.{handLine as handText, rowsText}
+use Rattle.converter.specs.Diagrams.{presetLine, boardText, turnText, rowsText, handLine as handText}
 use Rattle.converter.specs.Show.{numberLine}
 use Rattle.laws.specs.Sayable.{HeaderSayable}
 use Rattle.laws.proofs.Back.Leaves.{tag-fails, byte-fails}

@@ -11,8 +11,8 @@ use Rattle.converter.specs.Entries.{remarksText}
 use Rattle.lists.proofs.Stand.{Stands, came, stands-same}
 use Rattle.jkf.specs.declared.Position.{Position}
 use Rattle.jkf.specs.declared.Entry.the-variants.{Slot}
-use Rattle.block.specs.Model.{Header, Noted, Line, Record}
-use Rattle.block.specs.Attach.{play}
+use Rattle.jkf.specs.Model.{Header, Noted, Line, Record}
+use Rattle.jkf.specs.Attaching.{play}
 use Rattle.block.specs.Encode.{concat}
 use Rattle.block.specs.Sound.{isCell}
 use Rattle.kakinoki.specs.Starts.{startOf}
@@ -21,8 +21,7 @@ use Rattle.sorted.specs.Sorted.{Ascending}
 use Rattle.parser.specs.Plays.{noted}
 use Rattle.parser.specs.Parse.{byHeader, parse}
 use Rattle.converter.specs.Headers.{headersText}
-use Rattle.converter.specs.Diagrams.{presetLine, boardText, turnText, diagramText, positionText}
-use Rattle.converter.specs.Diagrams.{handLine as handText}
+use Rattle.converter.specs.Diagrams.{presetLine, boardText, turnText, diagramText, positionText, handLine as handText}
 use Rattle.converter.specs.Show.{numberLine}
 use Rattle.laws.specs.Back.{saidBy}
 use Rattle.laws.specs.Whole.{wholeEntries, wholeMain, wholeVariation, wholeLines, wholeText}

@@ -29,11 +29,9 @@ use Rattle.jkf.specs.declared.Origin.the-variants.{Unknown, From}
 use Rattle.jkf.specs.declared.Entry.{Entry}
 use Rattle.jkf.specs.declared.Entry.the-variants.{Slot, Play, End}
 use Rattle.jkf.specs.declared.Position.{Position}
-use Rattle.block.specs.Model.{Header, Noted, Line, Record}
+use Rattle.jkf.specs.Model.{Header, Noted, Line, Record}
 use Rattle.block.specs.Encode.{concat}
-use Rattle.moves.specs.Moves.{sameWord, promotes, declines, drops}
-use Rattle.kakinoki.specs.Informations.{presetTag, turnTag, handsTag, noneTag}
-use Rattle.kakinoki.specs.Boards.{filesTag, ruleTag, emptyTag}
+use Rattle.spell.specs.Words.{sameWord, promotes, declines, drops, presetTag, turnTag, handsTag, noneTag, filesTag, ruleTag, emptyTag}
 use Rattle.parser.proofs.Alls.{all-any}
 use Rattle.converter.specs.Headers.{headerLine, linesOf, headersText, range}
 use Rattle.converter.specs.Diagrams.{presetLine, heldText, held, allHeld, handLine, cellText, cellsText, rowText, rowsText, boardText, turnText, diagramText, positionText}

@@ -9,10 +9,9 @@ use Rattle.spell.specs.Spell.{firstOf}
 use Rattle.spell.specs.Count.{tensAt, countAt}
 use Rattle.sorted.specs.Sorted.{compared, byBytes, enter, enterAll}
 use Rattle.jkf.specs.Answers.{figures}
-use Rattle.jkf.specs.Attaching.{near, hangs, hungFrom}
-use Rattle.jkf.specs.Entries.{headBytes as entryHead, entryBytes, timeIn, targetIn, originIn, moveIn, entryIn}
-use Rattle.jkf.specs.Positions.{positionBytes, bytesAt, positionIn}
-use Rattle.block.specs.Attach.{parentIn, attachFrom, attach, allHung}
+use Rattle.jkf.specs.Attaching.{near, hangs, hungFrom, parentIn, attachFrom, attach, allHung}
+use Rattle.block.specs.EntryBytes.{headBytes as entryHead, entryBytes, timeIn, targetIn, originIn, moveIn, entryIn}
+use Rattle.block.specs.PositionBytes.{positionBytes, bytesAt, positionIn}
 use Rattle.block.specs.Decode.{run, keyOf, valueOf, commentOf, decode}
 use Rattle.block.specs.Encode.{table, concat, headBytes as blockHead, encode}
 use Rattle.block.specs.Sound.{sum, before, same, soundb}

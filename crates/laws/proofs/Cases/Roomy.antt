@@ -13,7 +13,7 @@ use Rattle.lists.specs.Pick.{pick}
 use Rattle.text.specs.Utf8.{wellFormed}
 use Rattle.jkf.specs.Answers.{Outcome, refuse}
 use Rattle.jkf.specs.declared.Answer.the-variants.{Done, TextTooLong, NotUtf8, HandLine, NotSound}
-use Rattle.block.specs.Model.{Record}
+use Rattle.jkf.specs.Model.{Record}
 use Rattle.block.specs.Encode.{encode}
 use Rattle.block.specs.Decode.{decode}
 use Rattle.block.specs.Sound.{soundb}

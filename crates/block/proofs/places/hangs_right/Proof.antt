@@ -8,7 +8,8 @@ use lib.Dec.{eqb}
 use denote.Ref.{now}
 use borrow.Author.Tests.{eq-eqb, ne-eqb}
 use borrow.Author.Needs.{needs}
-use Rattle.jkf.specs.Attaching.{hangs, hangsBy}
+use Rattle.jkf.specs.Attaching.{hangs}
+use Rattle.jkf.specs.Following.{hangsBy}
 use Rattle.jkf.proofs.Nears.{hangs-followed}
 use Rattle.block.specs.Decode.{startOf, entryCount}
 use Rattle.block.proofs.Lining.{table-hangs}

@@ -7,7 +7,7 @@ use borrow.Author.Tests.{eq-eqb, ne-eqb}
 use borrow.Author.Needs.{needs}
 use Rattle.block.specs.Sound.{fitsTest}
 use Rattle.jkf.specs.declared.Position.{Position}
-use Rattle.jkf.specs.Positions.{positionIn}
+use Rattle.block.specs.PositionBytes.{positionIn}
 use Rattle.lists.specs.Test.{flag}
 use Rattle.block.proofs.places.position_sound.Statement.{statement}
 use Rattle.block.proofs.places.position_sound.Tie as tie

@@ -2,7 +2,7 @@
 -- Assumes nothing.
 use borrow.Author.Needs.{needs}
 use mathlib.Core.Path.{_∙_, ap}
-use Rattle.jkf.specs.Entries.{entryIn}
+use Rattle.block.specs.EntryBytes.{entryIn}
 use Rattle.block.proofs.views.entry_of.Statement.{statement}
 use Rattle.block.proofs.views.entry_of.Tie as tie
 

@@ -2,7 +2,7 @@
 -- Assumes nothing.
 use borrow.Author.Needs.{needs}
 use mathlib.Core.Path.{_∙_, ap}
-use Rattle.jkf.specs.Positions.{positionIn}
+use Rattle.block.specs.PositionBytes.{positionIn}
 use Rattle.block.proofs.views.position_of.Statement.{statement}
 use Rattle.block.proofs.views.position_of.Tie as tie
 

@@ -6,7 +6,7 @@ use mathlib.Core.Path.{_≡_, sym, ap, _∙_}
 use mathlib.Core.Bool.{true, false}
 use denote.Ref.{now}
 use borrow.Author.Tests.{not-true, not-false}
-use Rattle.jkf.specs.Entries.{entryIn}
+use Rattle.block.specs.EntryBytes.{entryIn}
 use Rattle.block.specs.Decode.{run, notedIn}
 use Rattle.converter.specs.Entries.{canWrite}
 use Rattle.converter.specs.Show.{entryObstacle}

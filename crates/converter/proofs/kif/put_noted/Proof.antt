@@ -4,7 +4,7 @@ use native.Mathlib.Nat.{le-refl}
 use native.Mathlib.Omega.{arith}
 use mathlib.Core.Path.{refl}
 use denote.Ref.{now}
-use Rattle.jkf.specs.Entries.{entryIn}
+use Rattle.block.specs.EntryBytes.{entryIn}
 use Rattle.block.specs.Decode.{run, commentOf, notedIn}
 use Rattle.lent.proofs.Writes.{as-text, then, wrote-length, sum-fits, within}
 use Rattle.converter.specs.Entries.{entryLine, remarksText}

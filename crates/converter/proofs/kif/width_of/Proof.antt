@@ -4,7 +4,7 @@ use native.Mathlib.Omega.{arith}
 use mathlib.Core.Path.{sym, ap, _∙_}
 use borrow.Author.Needs.{needs}
 use Rattle.jkf.specs.Entries.{specialOf}
-use Rattle.jkf.proofs.EntriesBack.{special-back}
+use Rattle.block.proofs.EntriesBack.{special-back}
 use Rattle.converter.specs.Entries.{specialWidth, widthOf}
 use Rattle.converter.proofs.kif.width_of.Statement.{statement}
 use Rattle.converter.proofs.kif.width_of.Tie as tie

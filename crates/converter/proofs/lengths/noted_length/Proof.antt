@@ -4,7 +4,7 @@ use native.Mathlib.Omega.{arith}
 use mathlib.Core.Path.{ap, _∙_}
 use lib.ListN.{length, length-append}
 use denote.Ref.{now}
-use Rattle.jkf.specs.Entries.{entryIn}
+use Rattle.block.specs.EntryBytes.{entryIn}
 use Rattle.block.specs.Decode.{run, commentOf}
 use Rattle.converter.specs.Entries.{entryLine, remarksText}
 use Rattle.converter.proofs.Playing.{row-number, noted-text, noted-bare}

@@ -4,7 +4,7 @@ use mathlib.Core.Path.{refl}
 use native.Mathlib.Nat.{le-refl}
 use Prim.Native.Nat.{ℕ}
 use mathlib.Core.List.{List, [], _∷_, _++_}
-use Rattle.kakinoki.specs.Boards.{filesTag, ruleTag}
+use Rattle.spell.specs.Words.{filesTag, ruleTag}
 use Rattle.converter.specs.Diagrams.{rowsText, boardText}
 use Rattle.lent.proofs.Writes.{then, wrote-length, sum-fits, within}
 use Rattle.lent.proofs.Room.{room-front, room-after, first-of, then-stored}

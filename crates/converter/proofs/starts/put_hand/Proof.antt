@@ -4,7 +4,7 @@ use native.Mathlib.Omega.{arith}
 use mathlib.Core.Path.{sym, ap, _∙_, refl}
 use lib.ListN.{length}
 use Rattle.lent.proofs.Writes.{as-text, wrote-length}
-use Rattle.kakinoki.specs.Informations.{noneTag}
+use Rattle.spell.specs.Words.{noneTag}
 use Rattle.converter.specs.Diagrams.{allHeld}
 use Rattle.converter.proofs.Cased.{hand-none, hand-some, hand-room}
 use Rattle.converter.proofs.starts.put_hand.Statement.{statement}

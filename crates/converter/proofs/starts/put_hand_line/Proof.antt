@@ -5,7 +5,7 @@ use native.Mathlib.Nat.{le-refl}
 use mathlib.Core.List.{[], _∷_, _++_}
 use Rattle.spell.specs.Spell.{spelled}
 use Rattle.spell.specs.Tables.{sides}
-use Rattle.kakinoki.specs.Informations.{handsTag}
+use Rattle.spell.specs.Words.{handsTag}
 use Rattle.converter.specs.Diagrams.{allHeld, orNone, handLine}
 use Rattle.lent.proofs.Writes.{then, wrote-length, within}
 use Rattle.lent.proofs.Room.{room-front, room-after, then-stored, two-stored}

@@ -6,7 +6,7 @@ use native.Mathlib.Nat.{le-refl}
 use mathlib.Core.List.{[], _∷_}
 use Rattle.spell.specs.Spell.{spelled}
 use Rattle.spell.specs.Tables.{presets}
-use Rattle.kakinoki.specs.Informations.{presetTag}
+use Rattle.spell.specs.Words.{presetTag}
 use Rattle.converter.specs.Diagrams.{presetLine}
 use Rattle.lent.proofs.Writes.{wrote-length, then, sum-fits, within}
 use Rattle.converter.proofs.starts.put_preset_line.Statement.{statement}

@@ -7,7 +7,7 @@ use mathlib.Core.Path.{sym, ap, _∙_, refl}
 use lib.ListN.{length}
 use Rattle.spell.specs.Spell.{spelled}
 use Rattle.spell.specs.Tables.{sides}
-use Rattle.kakinoki.specs.Informations.{turnTag}
+use Rattle.spell.specs.Words.{turnTag}
 use Rattle.converter.proofs.Cased.{turn-none, turn-white}
 use Rattle.lent.proofs.Writes.{as-text, nothing, wrote-length}
 use Rattle.converter.proofs.starts.put_turn.Statement.{statement}

@@ -1,9 +1,7 @@
 -- The row is stored where the rows end, the key where the texts end, and the value after it.
 -- Assumes nothing.
-use Rattle.lent.proofs.Writes.{low-byte}
-use Rattle.lent.proofs.Regions.{filled-length}
-use mathlib.Core.Path.{refl}
 use native.Mathlib.Omega.{arith}
+use Rattle.lent.proofs.Regions.{filled-length}
 use Rattle.edit.proofs.Headers.{header-long, header-copied}
 use borrow.Author.Needs.{needs}
 use Rattle.edit.proofs.copies.copy_header.Statement.{statement}
@@ -24,49 +22,22 @@ value-of-requires c κs = search needs
 add-middle : tie.Need-add-middle
 add-middle c = omega (arith, c .before .before .before .before .before .pre .1 .bytes, header-long (c .before .before .before .before .before .args .b .now) (c .before .before .before .before .before .args .k) (c .before .before .key-of .ensures) (c .before .value-of .ensures))
 
-cast-t16 : tie.Need-cast-t16
-cast-t16 c = low-byte _
-
-cast-t19 : tie.Need-cast-t19
-cast-t19 c = low-byte _
-
-cast-t22 : tie.Need-cast-t22
-cast-t22 c = low-byte _
-
-cast-t26 : tie.Need-cast-t26
-cast-t26 c = low-byte _
-
-cast-t28 : tie.Need-cast-t28
-cast-t28 c = low-byte _
-
-cast-t31 : tie.Need-cast-t31
-cast-t31 c = low-byte _
-
-cast-t34 : tie.Need-cast-t34
-cast-t34 c = low-byte _
-
-cast-t38 : tie.Need-cast-t38
-cast-t38 c = low-byte _
-
-slice-aggregate-put-at : tie.Need-slice-aggregate-put-at
-slice-aggregate-put-at c = refl
+put-header-requires : tie.Need-put-header-requires
+put-header-requires c κs = search needs
 
 put-at-requires : tie.Need-put-at-requires
-put-at-requires c κs = tt
+put-at-requires c κs = search needs
 
 put-at-requires-2 : tie.Need-put-at-requires-2
-put-at-requires-2 c κs = tt
+put-at-requires-2 c κs = search needs
 
-put-at-requires-3 : tie.Need-put-at-requires-3
-put-at-requires-3 c κs = tt
-
-add-t17 : tie.Need-add-t17
-add-t17 c = omega (arith, c .before .before .before .before .before .before .before .before .before .before .before .before .before .before .before .before .before .before .before .before .pre .1 .bytes, header-long (c .before .before .before .before .before .before .before .before .before .before .before .before .before .before .before .before .before .before .before .before .args .b .now) (c .before .before .before .before .before .before .before .before .before .before .before .before .before .before .before .before .before .before .before .before .args .k) (c .before .before .before .before .before .before .before .before .before .before .before .before .before .before .before .before .before .key-of .ensures) (c .before .before .before .before .before .before .before .before .before .before .before .before .before .before .before .before .value-of .ensures))
+add-t15 : tie.Need-add-t15
+add-t15 c = omega (arith, c .before .before .before .before .before .before .before .before .before .before .before .before .before .before .before .before .before .pre .1 .bytes, header-long (c .before .before .before .before .before .before .before .before .before .before .before .before .before .before .before .before .before .args .b .now) (c .before .before .before .before .before .before .before .before .before .before .before .before .before .before .before .before .before .args .k) (c .before .before .before .before .before .before .before .before .before .before .before .before .before .before .key-of .ensures) (c .before .before .before .before .before .before .before .before .before .before .before .before .before .value-of .ensures))
 
 returns : tie.Need-returns
 returns c =
-    let a = c .before .before .before .before .before .before .before .before .before .before .before .before .before .before .before .before .before .before .before .before .args in
-    header-copied (a .b .now) (a .k) (c .before .before .before .before .before .before .before .before .before .before .before .before .before .before .before .before .before .key-of .ensures) (c .before .before .before .before .before .before .before .before .before .before .before .before .before .before .before .before .value-of .ensures) (c .before .before .before .before .before .before .before .before .before .before .before .before .before .before .before .before .before .before .before .before .pre .1) (c .before .before .before .before .before .before .before .before .before .before .put-at .ensures) (c .before .before .before .before .before .before .put-at2 .ensures) (c .before .before .put-at3 .ensures)
+    let a = c .before .before .before .before .before .before .before .before .before .before .before .before .before .before .before .before .before .args in
+    header-copied (a .b .now) (a .k) (c .before .before .before .before .before .before .before .before .before .before .before .before .before .before .key-of .ensures) (c .before .before .before .before .before .before .before .before .before .before .before .before .before .value-of .ensures) (c .before .before .before .before .before .before .before .before .before .before .before .before .before .before .before .before .before .pre .1) (c .before .before .before .before .before .before .before .before .before .before .put-header .ensures) (c .before .before .before .before .before .before .put-at .ensures) (c .before .before .put-at2 .ensures)
 
 same-length : tie.Need-same-length
 same-length c = filled-length (returns c .filled)
@@ -80,18 +51,9 @@ copy-header-spec =
     cast-value-of
     value-of-requires
     add-middle
-    cast-t16
-    cast-t19
-    cast-t22
-    cast-t26
-    cast-t28
-    cast-t31
-    cast-t34
-    cast-t38
-    slice-aggregate-put-at
+    put-header-requires
     put-at-requires
     put-at-requires-2
-    put-at-requires-3
-    add-t17
+    add-t15
     same-length
     returns)

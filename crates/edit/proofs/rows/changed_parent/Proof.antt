@@ -7,7 +7,7 @@ use mathlib.Core.List.{List}
 use lib.ListN.{length}
 use denote.Ref.{now}
 use borrow.Author.Needs.{needs}
-use Rattle.block.specs.Attach.{Play}
+use Rattle.jkf.specs.Attaching.{Play}
 use Rattle.block.specs.Decode.{run, lineIn, decode}
 use Rattle.edit.specs.Edit.{changedFrom}
 use Rattle.edit.specs.Splicing.{AllRowed}

@@ -1,9 +1,8 @@
 -- Head, position, header entries, rows and entries are stored each at its place, and together they are the block.
 -- Assumes nothing.
-use native.Mathlib.Nat.{le-refl}
 use native.Mathlib.Omega.{arith}
 use borrow.Author.Needs.{needs}
-use Rattle.edit.proofs.Assembled.{reckoned, position-room, front-stored, headers-fit, entries-unfilled, block-stored}
+use Rattle.edit.proofs.Assembled.{reckoned, front-stored, headers-fit, entries-unfilled, block-stored}
 use Rattle.edit.proofs.stores.fill.Statement.{statement}
 use Rattle.edit.proofs.stores.fill.Tie as tie
 
@@ -88,23 +87,6 @@ cast-put-head-5 c =
 put-head-requires : tie.Need-put-head-requires
 put-head-requires c κs = search needs
 
-sub-put-position : tie.Need-sub-put-position
-sub-put-position c =
-    let a = c .before .before .before .before .before .before .before .before .before .before .before .before .before .before .before in
-    let h = a .pre in
-    let m = c .before .before .before .before .before .before .before .before .before .before .headers-in .ensures .0 in
-    position-room (a .args .b .now) (h .0 .0) (a .args .p) (a .args .q) (a .args .t .now) (h .0 .1, h .0 .2) (h .1 .0) m (a .args .out .now) (h .1 .1 .1) (c .before .before .put-head .ensures)
-
-part-put-position-start : tie.Need-part-put-position-start
-part-put-position-start c =
-    let a = c .before .before .before .before .before .before .before .before .before .before .before .before .before .before .before in
-    let h = a .pre in
-    let m = c .before .before .before .before .before .before .before .before .before .before .headers-in .ensures .0 in
-    position-room (a .args .b .now) (h .0 .0) (a .args .p) (a .args .q) (a .args .t .now) (h .0 .1, h .0 .2) (h .1 .0) m (a .args .out .now) (h .1 .1 .1) (c .before .before .put-head .ensures)
-
-part-put-position-end : tie.Need-part-put-position-end
-part-put-position-end c = le-refl _
-
 position-of-requires : tie.Need-position-of-requires
 position-of-requires c κs = tt
 
@@ -160,9 +142,6 @@ fill-spec =
     cast-put-head-4
     cast-put-head-5
     put-head-requires
-    sub-put-position
-    part-put-position-start
-    part-put-position-end
     position-of-requires
     put-position-requires
     copy-headers-requires

@@ -1,7 +1,7 @@
 -- The line is the one that is found, and the two tests are the definition's.
 -- Assumes nothing.
 use borrow.Author.Tests.{le-leb, lt-leb, lt-ltb, le-ltb}
-use Rattle.jkf.specs.Attaching.{hangsBy}
+use Rattle.jkf.specs.Following.{hangsBy}
 use Rattle.jkf.proofs.attaching.attach.Statement.{statement}
 use Rattle.jkf.proofs.attaching.attach.Tie as tie
 

@@ -7,7 +7,7 @@ use lib.ListN.{length}
 use denote.Ref.{now}
 use borrow.Author.Needs.{needs}
 use Rattle.jkf.proofs.Nears.{not-past, follow-here, follow-up, follow-stuck}
-use Rattle.jkf.specs.Attaching.{follow, followed}
+use Rattle.jkf.specs.Following.{follow, followed}
 use Rattle.jkf.proofs.attaching.nearest.Statement.{statement}
 use Rattle.jkf.proofs.attaching.nearest.Tie as tie
 

@@ -2,7 +2,7 @@
 -- Assumes nothing.
 use mathlib.Core.Path.{sym}
 use borrow.Author.Needs.{needs}
-use Rattle.jkf.proofs.Entering.{special-past}
+use Rattle.jkf.proofs.Specials.{special-past}
 use Rattle.jkf.proofs.entries.special_of.Statement.{statement}
 use Rattle.jkf.proofs.entries.special_of.Tie as tie
 

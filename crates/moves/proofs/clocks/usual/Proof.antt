@@ -1,13 +1,11 @@
 -- The bytes of the usual form make its figures.
 -- Assumes nothing.
-use Prim.Native.Nat.{_+_}
+use Prim.Native.Nat.{_+_, ℕ}
 use native.Mathlib.Omega.{arith}
-use mathlib.Core.Path.{_≡_, refl, sym}
+use mathlib.Core.Path.{_≡_, refl, sym, subst}
 use denote.Ref.{now}
 use lib.ListN.{getD}
 use Rattle.moves.proofs.Clocking.{usual-time}
-use Prim.Native.Nat.{ℕ}
-use mathlib.Core.Path.{subst}
 use Rattle.text.proofs.Laws.{digit-bounds}
 use Rattle.moves.specs.Usuals.{Two}
 use borrow.Author.Needs.{needs}

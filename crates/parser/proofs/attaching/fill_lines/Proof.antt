@@ -2,14 +2,11 @@
 -- Assumes nothing.
 use native.Mathlib.Nat.{le-refl}
 use Rattle.parser.proofs.Hung.{attach-length}
-use Rattle.jkf.specs.Attaching.{all}
-use Rattle.parser.proofs.Lining.{not-all}
-use Rattle.parser.proofs.Lining.{Lining, main-fits, lining-start, next-fits, next-none, next-less, next-row, next-lost, next-more}
+use Rattle.jkf.specs.Attaching.{all, Hung, attach}
+use Rattle.parser.proofs.Lining.{not-all, Lining, main-fits, lining-start, next-fits, next-none, next-less, next-row, next-lost, next-more}
 use Rattle.parser.specs.declared.Walk.{Walk}
 use Rattle.parser.specs.Filling.{mainLine, LinesFit, Lined, hanging}
 use Rattle.parser.specs.Plays.{slotAt, pastMain, playsAt}
-use Rattle.block.specs.Attach.{attach}
-use Rattle.jkf.specs.Attaching.{Hung}
 use Rattle.lent.proofs.Regions.{filled-length}
 use borrow.Author.Needs.{needs}
 use lib.ListN.{length}

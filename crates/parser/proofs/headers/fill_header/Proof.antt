@@ -16,11 +16,11 @@ use Rattle.parser.proofs.headers.fill_header.Reads as reads
 use Rattle.parser.proofs.headers.fill_header.Lts as lts
 use Rattle.kakinoki.proofs.key_value.Reads as key-value-reads
 use Rattle.lent.proofs.put_at.Reads as put-at-reads
-use Rattle.parser.proofs.headers.put_row.Reads as put-row-reads
+use Rattle.block.proofs.put_header.Reads as put-header-reads
 
 -- once the pair is found: the text, the line's place, where its value begins and ends, and what is known of it
 abbrev At : Type 0
-At = lts.After-known-told (key-value-reads.Asked, key-value-reads.Learnt, put-row-reads.Asked, put-row-reads.Learnt, put-at-reads.Asked, put-at-reads.Learnt) reads.Pre reads.Post
+At = lts.After-known-told (key-value-reads.Asked, key-value-reads.Learnt, put-header-reads.Asked, put-header-reads.Learnt, put-at-reads.Asked, put-at-reads.Learnt) reads.Pre reads.Post
 
 abbrev S : At → List ℕ
 S c = c .before .before .before .before .before .before .args .s .now
@@ -66,45 +66,48 @@ sub-key c = omega (arith, line c .colon)
 sub-value : tie.Need-sub-value
 sub-value c = omega (arith, line c .onward)
 
-put-row-requires : tie.Need-put-row-requires
-put-row-requires c κs = let b = c .before in omega (arith, line b .colon, line b .onward, long b, fits b)
+add-put-header : tie.Need-add-put-header
+add-put-header c = let b = c .before .before in omega (arith, line b .colon, line b .onward, long b, fits b)
+
+put-header-requires : tie.Need-put-header-requires
+put-header-requires c κs = tt
 
 sub-put-at : tie.Need-sub-put-at
-sub-put-at c = omega (arith, line (c .before .before .before .before .before) .colon)
+sub-put-at c = omega (arith, line (c .before .before .before .before .before .before) .colon)
 
 part-put-at-start : tie.Need-part-put-at-start
-part-put-at-start c = omega (arith, line (c .before .before .before .before .before) .colon)
+part-put-at-start c = omega (arith, line (c .before .before .before .before .before .before) .colon)
 
 part-put-at-end : tie.Need-part-put-at-end
-part-put-at-end c = omega (arith, line (c .before .before .before .before .before) .onward, line (c .before .before .before .before .before) .within)
+part-put-at-end c = omega (arith, line (c .before .before .before .before .before .before) .onward, line (c .before .before .before .before .before .before) .within)
 
 put-at-requires : tie.Need-put-at-requires
 put-at-requires c κs = tt
 
 sub-put-at-2 : tie.Need-sub-put-at-2
-sub-put-at-2 c = omega (arith, line (c .before .before .before .before .before .before .before .before .before .before) .onward)
+sub-put-at-2 c = omega (arith, line (c .before .before .before .before .before .before .before .before .before .before .before) .onward)
 
 part-put-at-start-2 : tie.Need-part-put-at-start-2
-part-put-at-start-2 c = omega (arith, line (c .before .before .before .before .before .before .before .before .before .before) .onward)
+part-put-at-start-2 c = omega (arith, line (c .before .before .before .before .before .before .before .before .before .before .before) .onward)
 
 part-put-at-end-2 : tie.Need-part-put-at-end-2
-part-put-at-end-2 c = omega (arith, line (c .before .before .before .before .before .before .before .before .before .before) .within)
+part-put-at-end-2 c = omega (arith, line (c .before .before .before .before .before .before .before .before .before .before .before) .within)
 
 put-at-requires-2 : tie.Need-put-at-requires-2
 put-at-requires-2 c κs = tt
 
-add-t22 : tie.Need-add-t22
-add-t22 c = let b = c .before .before .before .before .before .before .before .before .before .before .before .before .before .before .before in omega (arith, line b .colon, line b .onward, long b, fits b)
+add-t19 : tie.Need-add-t19
+add-t19 c = let b = c .before .before .before .before .before .before .before .before .before .before .before .before .before .before .before .before in omega (arith, line b .colon, line b .onward, long b, fits b)
 
 add-t30 : tie.Need-add-t30
-add-t30 c = let b = c .before .before .before .before .before .before .before .before .before .before .before .before .before .before .before in omega (arith, line b .colon, line b .onward, long b, fits b)
+add-t30 c = let b = c .before .before .before .before .before .before .before .before .before .before .before .before .before .before .before .before in omega (arith, line b .colon, line b .onward, long b, fits b)
 
 returns-2 : tie.Need-returns-2
 returns-2 c =
-    let b = c .before .before .before .before .before .before .before .before .before .before .before .before .before .before .before in
+    let b = c .before .before .before .before .before .before .before .before .before .before .before .before .before .before .before .before in
     let a = b .before .before .before .before .before .before in
     header-filled (S b) (P b) (From b) (To b) (a .args .h) (line b) (a .pre .1 .room)
-    (c .before .before .before .before .before .before .before .before .before .before .before .before .before .put-row .ensures) (c .before .before .before .before .before .before .before .before .put-at .ensures) (c .before .before .before .put-at2 .ensures)
+    (c .before .before .before .before .before .before .before .before .before .before .before .before .before .put-header .ensures) (c .before .before .before .before .before .before .before .before .put-at .ensures) (c .before .before .before .put-at2 .ensures)
 
 same-length : tie.Need-same-length
 same-length c = filled-length (returns-2 c .filled)
@@ -120,7 +123,8 @@ fill-header-spec =
     sub-colon
     sub-key
     sub-value
-    put-row-requires
+    add-put-header
+    put-header-requires
     sub-put-at
     part-put-at-start
     part-put-at-end
@@ -129,7 +133,7 @@ fill-header-spec =
     part-put-at-start-2
     part-put-at-end-2
     put-at-requires-2
-    add-t22
+    add-t19
     add-t30
     same-length
     returns-2)

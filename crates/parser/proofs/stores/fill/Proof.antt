@@ -3,8 +3,6 @@
 use mathlib.Core.Path.{_≡_, ap, _∙_}
 use lib.ListN.{length, replicate}
 use Rattle.parser.proofs.Completing.{reckoned, front-fits, lines-known, headers-fit, lines-fit, all-stored, none-stored}
-use mathlib.Core.Path.{ap, _∙_}
-use lib.ListN.{replicate}
 use Prim.Native.Nat.{ℕ}
 use native.Mathlib.Omega.{arith}
 use borrow.Author.Needs.{needs}

@@ -2,7 +2,6 @@
 -- Assumes nothing.
 use lib.ListN.{length}
 use mathlib.Core.Path.{ap, _∙_}
-use native.Mathlib.Nat.{le-refl}
 use native.Mathlib.Omega.{arith}
 use Rattle.lent.proofs.Regions.{stored-all, length-put}
 use Rattle.block.specs.Encode.{headBytes}
@@ -30,28 +29,20 @@ cast-put-head-5 c = search needs
 put-head-requires : tie.Need-put-head-requires
 put-head-requires c κs = search needs
 
-sub-put-position : tie.Need-sub-put-position
-sub-put-position c = search needs
-
-part-put-position-start : tie.Need-part-put-position-start
-part-put-position-start c = sub-put-position c
-
-part-put-position-end : tie.Need-part-put-position-end
-part-put-position-end c = le-refl _
-
 put-position-requires : tie.Need-put-position-requires
 put-position-requires c κs = search needs
+
+same-length : tie.Need-same-length
+same-length c = search needs
 
 returns : tie.Need-returns
 returns c =
     let a = c .before .before .before .before .before .before .before .before .before .before .before .before .args in
+    let p = c .before .before .before .before .before .before .before .before .before .before .before .before .pre in
     let h = headBytes 1 (a .total) (a .headers) (a .z .lines) (a .z .entries) (a .z .comments) in
     let long = head-length 1 (a .total) (a .headers) (a .z .lines) (a .z .entries) (a .z .comments) in
-    let o = stored-all {t = h} {o = a .out .now} (omega (arith, long, c .before .before .before .before .before .before .before .before .before .before .before .before .pre .0)) (c .before .before .before .before .before .before .put-head .ensures) in
-    front-put h (a .position) (a .out .now) long (c .before .before .before .before .before .before .before .before .before .before .before .before .pre .0) (c .before .before .before .before .before .before .before .before .before .before .before .before .pre .3) (o .bytes) (c .before .before .put-position .ensures)
-
-same-length : tie.Need-same-length
-same-length c = ap length (returns c) ∙ simp length-put
+    let o = stored-all {t = h} {o = a .out .now} (omega (arith, long, p .0)) (c .before .before .before .before .before .before .put-head .ensures) in
+    front-put h (a .position) (a .out .now) long (p .0) (p .3) (o .bytes) (c .before .before .put-position .ensures)
 
 pub put-front-spec : {M : Type 1} → statement M
 put-front-spec =
@@ -63,9 +54,6 @@ put-front-spec =
     cast-put-head-4
     cast-put-head-5
     put-head-requires
-    sub-put-position
-    part-put-position-start
-    part-put-position-end
     put-position-requires
     same-length
     returns)
