@@ -16,8 +16,8 @@ use Rattle.block.specs.Sound.{Sound}
 use Rattle.parser.specs.Plays.{plyAt}
 use Rattle.parser.specs.Filling.{extentAt}
 use Rattle.parser.specs.declared.Extent.{Extent}
-use Rattle.edit.specs.Edit.{playsIn, fresh, isVariation, variationOf, placeOf, putIn, none, line, changedFrom, removedFrom, without}
-use Rattle.edit.specs.Splicing.{linesOf, spliced, linesAfter, recordAfter, Lines, RowsFit, Adds, AllRowed}
+use Rattle.edit.specs.Edit.{playsIn, isVariation, variationOf, placeOf, putIn, none, line, changedFrom, removedFrom}
+use Rattle.edit.specs.Splicing.{relined, without, linesOf, spliced, linesAfter, recordAfter, Lines, RowsFit, Adds, AllRowed}
 use Rattle.edit.proofs.Placing.{PutsIn, put-length}
 use Rattle.edit.proofs.Keeping.{still-lines}
 use Rattle.edit.proofs.Texts.{text-small, no-lines, one-variation, adds-text, lines-long}
@@ -72,8 +72,8 @@ module _ (b : List ℕ) (n : ℕ) (t : List ℕ) (v : isVariation t ≡ true) wh
   pub put-lines : linesAfter b n n t ≡ putIn n (variationOf t) (playsIn (decode b .lines))
   put-lines = ap (λ (vs : List Play). spliced n n vs (playsIn (decode b .lines))) (one-variation t v .1)
 
-  pub put-record : fresh (decode b) (putIn n (variationOf t) (playsIn (decode b .lines))) ≡ recordAfter b n n t
-  put-record = ap (fresh (decode b)) (sym put-lines)
+  pub put-record : relined (decode b) (putIn n (variationOf t) (playsIn (decode b .lines))) ≡ recordAfter b n n t
+  put-record = ap (relined (decode b)) (sym put-lines)
 
   module _ (s : Sound b) (h : n ≤ linesIn b) where
     module _ {x : Extent} (e : x ≡ extentAt t 0) where
@@ -106,9 +106,9 @@ module _ (b : List ℕ) (k : ℕ) {n : ℕ} (e : n ≡ removedFrom (playsIn (dec
   abbrev lines : List Play
   lines = playsIn (decode b .lines)
 
-  pub cut-record : fresh (decode b) (without k (removedFrom lines k) lines) ≡ recordAfter b k (k + n) []
+  pub cut-record : relined (decode b) (without k (removedFrom lines k) lines) ≡ recordAfter b k (k + n) []
   cut-record =
-      sym (ap₂ (λ (m : ℕ) (vs : List Play). fresh (decode b) (spliced k (k + m) vs lines)) e no-lines)
+      sym (ap₂ (λ (m : ℕ) (vs : List Play). relined (decode b) (spliced k (k + m) vs lines)) e no-lines)
 
   module _ (s : Sound b) (z : 0 < k) (h : k < linesIn b) (l : k + n ≤ linesIn b) {x : Extent} (d : x ≡ extentAt [] 0) where
     pub cut-asks : (k ≤ k + n) × (k + n ≤ linesIn b) × (x .entries ≤ 65535) × (8 * (linesIn b + 1) ≤ 18688)

@@ -34,9 +34,8 @@ use Rattle.parser.specs.declared.Sizes.{Sizes}
 use Rattle.parser.proofs.Fronts.{front-put}
 use Rattle.parser.proofs.Hung.{attach-length}
 use Rattle.parser.proofs.Wholes.{head, linePlace, movePlace, commentPlace, textPlace as textStart, headers-room, lines-room, block-filled}
-use Rattle.edit.specs.Edit.{fresh}
+use Rattle.edit.specs.Splicing.{relined, linesAfter, recordAfter, entriesAfter, sizesOf, Unfilled}
 use Rattle.edit.specs.Editing.{storedOf}
-use Rattle.edit.specs.Splicing.{linesAfter, recordAfter, entriesAfter, sizesOf, Unfilled}
 use Rattle.edit.proofs.Sounds.{entries-after}
 
 -- ---- the header entries of a sound block
@@ -76,11 +75,11 @@ module _ (b : List ℕ) (s : Sound b) (p q : ℕ) (t : List ℕ) (within : (p �
 
   block-long : length block
       ≡ blockLength (length hd) (length ls) (length (entriesOf ls)) (length (commentsOf (entriesOf ls))) (length (headerText hd) + length (commentText (commentsOf (entriesOf ls))))
-  unfolding fresh decode
+  unfolding relined decode
   block-long = block-length (recordAfter b p q t) (position-long b)
 
   block-is : encodeFlat 1 (positionBytes start) hd ls (entriesOf ls) (commentsOf (entriesOf ls)) ≡ block
-  unfolding encode fresh decode
+  unfolding encode relined decode
   block-is = ap (λ (v : ℕ). encodeFlat v (positionBytes start) hd ls (entriesOf ls) (commentsOf (entriesOf ls))) (sym (s .head .1 .1 .1 .1 .0))
 
   entries-are : entriesOf ls ≡ entriesAfter b p q t

@@ -16,4 +16,5 @@ pub mod Spliced
 pub mod Assembled
 pub mod Changing
 pub mod Afresh
+pub mod Parents
 pub mod Outcomes

@@ -1,7 +1,7 @@
 -- What put-in and cut come to, test by test.
 -- Assumes nothing.
 use Prim.Native.Nat.{ℕ, _≤_, _<_}
-use mathlib.Core.Path.{_≡_}
+use mathlib.Core.Path.{_≡_, ap, _∙_}
 use mathlib.Core.List.{List}
 use mathlib.Core.Bool.{Bool, true, false}
 use lib.ListN.{length, drop}
@@ -16,7 +16,9 @@ use Rattle.block.specs.Encode.{encode}
 use Rattle.block.specs.Decode.{linesIn, lineIn, decode}
 use Rattle.block.specs.Sound.{soundb}
 use Rattle.block.proofs.Tabling.{length-run}
-use Rattle.edit.specs.Edit.{playsIn, fresh, isVariation, variationOf, isPlyOf, carries, placeOf, putIn, none, line, changedFrom, insertAt, insertOn, insert, removedFrom, without, remove}
+use Rattle.edit.proofs.Parents.{cut-fresh, insert-play}
+use Rattle.edit.specs.Edit.{playsIn, Edited, isVariation, variationOf, isPlyOf, carries, placeOf, putIn, none, line, changedFrom, insertAt, insertOn, insert, removedFrom, remove}
+use Rattle.edit.specs.Splicing.{relined, insertPlay, without}
 use Rattle.edit.specs.Editing.{storedOf, editedOf, putInOf, cutOf}
 
 -- a block says as many lines as it counts
@@ -29,12 +31,12 @@ lines-counted b = length-run (lineIn b) 0 (linesIn b)
 module _ (r : Record) (o : List ℕ) where
   -- as line n
   module _ (n : ℕ) (v : Play) {c m : ℕ} (e : changedFrom (putIn n v (playsIn (r .lines))) n 0 (r .lines) ≡ pick (ltb c m) (line c) none) where
-    pub parent-changes : c < m → editedOf (insertAt r n v) o ≡ refuse (ParentChanges c) o
-    unfolding editedOf insertAt
+    pub parent-changes : c < m → editedOf (insertPlay r n v) o ≡ refuse (ParentChanges c) o
+    unfolding editedOf insertPlay
     parent-changes h = rw (e, lt-ltb c m h)
 
-    pub none-changes : m ≤ c → editedOf (insertAt r n v) o ≡ storedOf (encode (fresh r (putIn n v (playsIn (r .lines))))) n o
-    unfolding editedOf insertAt
+    pub none-changes : m ≤ c → editedOf (insertPlay r n v) o ≡ storedOf (encode (relined r (putIn n v (playsIn (r .lines))))) n o
+    unfolding editedOf insertPlay
     none-changes h = rw (e, le-ltb c m h)
 
   -- on line k
@@ -53,9 +55,12 @@ module _ (r : Record) (o : List ℕ) where
     unfolding editedOf insertOn
     entry-taken h d = rw (← s, h, d)
 
-    pub in-place : here ≡ true → taken ≡ false → {n : ℕ} → n ≡ placeOf (playsIn (r .lines)) k j → editedOf (insertOn r k v) o ≡ editedOf (insertAt r n v) o
+    at-place : here ≡ true → taken ≡ false → {n : ℕ} → n ≡ placeOf (playsIn (r .lines)) k j → editedOf (insertOn r k v) o ≡ editedOf (insertAt r n k v) o
     unfolding insertOn
-    in-place h d z = rw (← s, h, d, ← z)
+    at-place h d z = rw (← s, h, d, ← z)
+
+    pub in-place : here ≡ true → taken ≡ false → {n : ℕ} → n ≡ placeOf (playsIn (r .lines)) k j → editedOf (insertOn r k v) o ≡ editedOf (insertPlay r n v) o
+    in-place h d {n} z = at-place h d z ∙ ap (λ (e : Edited). editedOf e o) (insert-play r n k v)
 
 module _ (b : List ℕ) (k : ℕ) (o : List ℕ) where
   module _ (t : List ℕ) where
@@ -93,9 +98,11 @@ module _ (b : List ℕ) (k : ℕ) (o : List ℕ) where
   ps = playsIn (decode b .lines)
 
   pub removed : (k ≡ 0 → ⊥) → k < linesIn b
-      → editedOf (remove (decode b) k) o ≡ storedOf (encode (fresh (decode b) (without k (removedFrom ps k) ps))) (removedFrom ps k) o
+      → editedOf (remove (decode b) k) o ≡ storedOf (encode (relined (decode b) (without k (removedFrom ps k) ps))) (removedFrom ps k) o
   unfolding editedOf remove
-  removed z h = rw (ne-eqb k 0 z, lines-counted b, lt-ltb k (linesIn b) h)
+  removed z h =
+      rw (ne-eqb k 0 z, lines-counted b, lt-ltb k (linesIn b) h)
+      (ap (λ (x : Record). storedOf (encode x) (removedFrom ps k) o) (cut-fresh (decode b) k (removedFrom ps k)))
 
   pub cut-unsound : soundb b ≡ false → cutOf b k o ≡ refuse NotSound o
   unfolding cutOf

@@ -27,8 +27,8 @@ use Rattle.block.proofs.Tabling.{run-add, run-all, concat-append, take-run, dro
 use Rattle.parser.specs.Plays.{plyAt}
 use Rattle.parser.specs.Filling.{playEntries}
 use Rattle.parser.proofs.Hung.{start-low, attach-length, attach-entries, attach-line, parent-first, parent-later}
-use Rattle.edit.specs.Edit.{playsIn, isVariation, variationOf, isPlyOf, carries, putIn, removedFrom, without}
-use Rattle.edit.specs.Splicing.{linesOf, spliced, linesAfter, Lines, playIn, RowsFit, entriesAfter}
+use Rattle.edit.specs.Edit.{playsIn, isVariation, variationOf, isPlyOf, carries, putIn, removedFrom}
+use Rattle.edit.specs.Splicing.{without, linesOf, spliced, linesAfter, Lines, playIn, RowsFit, entriesAfter}
 use Rattle.edit.proofs.Played.{plays-are, play-is, starts-is, counts-is, plays-long}
 use Rattle.edit.proofs.Nearing.{Put, Cut, hang-moved, hung-all}
 use Rattle.edit.proofs.Placing.{PutsIn, put-length, put-list, ply-within}

@@ -19,9 +19,17 @@ use Rattle.parser.specs.Plays.{entriesAt, plyAt}
 abbrev pub playsIn : List Line → List Play
 playsIn = map (λ l. play (l .start) (l .entries))
 
--- A record with other lines of play, each hung by the attaching rule: the one step in which both edits end.
-unfoldable pub fresh : Record → List Play → Record
-fresh r ps = record { version = r .version; headers = r .headers; position = r .position; lines = attach ps }
+-- Lines hung afresh: in version 1 each where the attaching rule finds it.
+abbrev pub hung : ℕ → List Line → List Line
+hung version ls = attach (playsIn ls)
+
+-- A record with other lines, hung afresh: the one step in which both edits end.
+unfoldable pub fresh : Record → List Line → Record
+fresh r ls = record { version = r .version; headers = r .headers; position = r .position; lines = hung (r .version) ls }
+
+-- A line on another parent, told by the old one.
+abbrev pub reparented : (ℕ → ℕ) → Line → Line
+reparented f l = record { start = l .start; parent = f (l .parent); entries = l .entries }
 
 -- An edited record and the second figure of success, or a refusal.
 pub data Edited : Type 0 where
@@ -72,6 +80,14 @@ putIn n p ps = take n ps ++ (p ∷ drop n ps)
 abbrev pub renumbered : ℕ → ℕ → ℕ
 renumbered n k = pick (leb n k) (k + 1) k
 
+-- The lines with a new line n, each of the others on its old parent, renumbered.
+abbrev pub putLine : ℕ → Line → List Line → List Line
+putLine n l ls = let qs = map (reparented (renumbered n)) ls in take n qs ++ (l ∷ drop n qs)
+
+-- A line of play on line k.
+abbrev pub lineOn : ℕ → Play → Line
+lineOn k v = record { start = v .start; parent = k; entries = v .entries }
+
 pub data Changed : Type 0 where
   none : Changed
   line : ℕ → Changed
@@ -89,12 +105,12 @@ onChanged none f d = d
 
 -- ---- put-in: the whole                                                                              (01, Numbers of refusal: order)
 
--- The variation v as line n.
-unfoldable pub insertAt : Record → ℕ → Play → Edited
-insertAt r n v =
+-- The variation v on line k, as line n.
+unfoldable pub insertAt : Record → ℕ → ℕ → Play → Edited
+insertAt r n k v =
     onChanged (changedFrom (putIn n v (playsIn (r .lines))) n 0 (r .lines))
     (λ i. refused (ParentChanges i))
-    (edited (fresh r (putIn n v (playsIn (r .lines)))) n)
+    (edited (fresh r (putLine n (lineOn k v) (r .lines))) n)
 
 -- On line k, where its ply is.
 unfoldable pub insertOn : Record → ℕ → Play → Edited
@@ -102,7 +118,7 @@ insertOn r k v =
     pick (isPlyOf (starts (playsIn (r .lines)) k) (counts (playsIn (r .lines)) k) (v .start))
     (pick (carries k (v .start) (drop 1 (r .lines)))
     (refused (EntryTaken k (v .start)))
-    (insertAt r (placeOf (playsIn (r .lines)) k (v .start)) v))
+    (insertAt r (placeOf (playsIn (r .lines)) k (v .start)) k v))
     (refused (OutsideLine k (v .start)))
 
 unfoldable pub insert : Record → ℕ → List ℕ → Edited
@@ -122,9 +138,6 @@ notBelow s (p ∷ ps) = let r = notBelow s ps in pick (leb s (p .start)) (suc r)
 abbrev pub removedFrom : List Play → ℕ → ℕ
 removedFrom ps k = 1 + notBelow (starts ps k) (drop (k + 1) ps)
 
-abbrev pub without : ℕ → ℕ → List Play → List Play
-without k n ps = take k ps ++ drop (k + n) ps
-
 -- A line's number once m lines from line k on are gone, and the lines that stay.
 abbrev pub lowered : ℕ → ℕ → ℕ → ℕ
 lowered k m i = pick (leb k i) (i - m) i
@@ -132,11 +145,15 @@ lowered k m i = pick (leb k i) (i - m) i
 abbrev pub Kept : ℕ → ℕ → ℕ → Type 0
 Kept k m i = k ≤ i → k + m ≤ i
 
+-- The lines without m of them from line k on, each on its old parent, renumbered.
+abbrev pub withoutLines : ℕ → ℕ → List Line → List Line
+withoutLines k m ls = map (reparented (lowered k m)) (take k ls ++ drop (k + m) ls)
+
 -- Line 0 cannot be cut.                                                                               (01, Numbers of refusal: 10)
 unfoldable pub remove : Record → ℕ → Edited
 remove r k =
     pick (eqb k 0)
     (refused (NoSuchPart k))
     (pick (ltb k (length (r .lines)))
-    (edited (fresh r (without k (removedFrom (playsIn (r .lines)) k) (playsIn (r .lines)))) (removedFrom (playsIn (r .lines)) k))
+    (edited (fresh r (withoutLines k (removedFrom (playsIn (r .lines)) k) (r .lines))) (removedFrom (playsIn (r .lines)) k))
     (refused (NoSuchPart k)))

@@ -9,6 +9,7 @@ use Rattle.lists.specs.Pick.{pick}
 use Rattle.lent.specs.Bytes.{bytes16}
 use Rattle.lent.specs.Regions.{Room}
 use Rattle.text.specs.Text.{cursor}
+use Rattle.jkf.specs.declared.Answer.the-variants.{ParentChanges}
 use Rattle.jkf.specs.Attaching.{onHang, all, Play, play, playOf, starts, counts, attach, allHung}
 use Rattle.jkf.specs.Following.{hangsBy}
 use Rattle.jkf.specs.Model.{Noted, Record}
@@ -19,13 +20,27 @@ use Rattle.parser.specs.Plays.{entriesAt}
 use Rattle.parser.specs.Filling.{playEntries, entryTexts, entryEnds}
 use Rattle.parser.specs.declared.Sizes.{Sizes}
 use Rattle.parser.specs.declared.Walk.{Walk}
-use Rattle.edit.specs.Edit.{playsIn, fresh, variationOf}
+use Rattle.edit.specs.Edit.{playsIn, Edited, edited, refused, variationOf, putIn, changedFrom, onChanged}
 
 -- ---- the lines
 
 -- The line of a text; none where it has no entry.
 abbrev pub linesOf : List ℕ → List Play
 linesOf t = pick (eqb (length (entriesAt t 0 .state)) 0) [] (variationOf t ∷ [])
+
+-- A record with other lines of play, each hung by the attaching rule.
+unfoldable pub relined : Record → List Play → Record
+relined r ps = record { version = r .version; headers = r .headers; position = r .position; lines = attach ps }
+
+-- The variation v as line n, told without the line that it is put on.
+unfoldable pub insertPlay : Record → ℕ → Play → Edited
+insertPlay r n v =
+    onChanged (changedFrom (putIn n v (playsIn (r .lines))) n 0 (r .lines))
+    (λ i. refused (ParentChanges i))
+    (edited (relined r (putIn n v (playsIn (r .lines)))) n)
+
+abbrev pub without : ℕ → ℕ → List Play → List Play
+without k n ps = take k ps ++ drop (k + n) ps
 
 -- Those before line p, new ones, and those from line q on.
 abbrev pub spliced : ℕ → ℕ → List Play → List Play → List Play
@@ -35,7 +50,7 @@ abbrev pub linesAfter : List ℕ → ℕ → ℕ → List ℕ → List Play
 linesAfter b p q t = spliced p q (linesOf t) (playsIn (decode b .lines))
 
 abbrev pub recordAfter : List ℕ → ℕ → ℕ → List ℕ → Record
-recordAfter b p q t = fresh (decode b) (linesAfter b p q t)
+recordAfter b p q t = relined (decode b) (linesAfter b p q t)
 
 -- Lines of play that all hang, the first of them the main line.
 pub record Lines (ps : List Play) : Type 0 where

@@ -22,16 +22,16 @@ ghost use Rattle.block.specs.Decode.{linesIn, decode};
 ghost use Rattle.block.specs.Encode.{encode};
 ghost use Rattle.block.specs.Sound.{Sound};
 ghost use Rattle.parser.specs.Filling.{extentAt};
-ghost use Rattle.edit.specs.Edit.{playsIn, fresh, isVariation, variationOf, putIn, insertAt, insertOn, insert, removedFrom, without, remove};
-ghost use Rattle.edit.specs.Splicing.{Lines};
+ghost use Rattle.edit.specs.Edit.{playsIn, isVariation, variationOf, putIn, insertOn, insert, removedFrom, remove};
+ghost use Rattle.edit.specs.Splicing.{relined, insertPlay, without, Lines};
 ghost use Rattle.edit.specs.Editing.{storedOf, editedOf, putInOf, cutOf};
 
 // The new line has its number: the rows of all lines are made, and the parents in them looked at.
 fn insert_at(b: &[u8], n: usize, t: &[u8], x: Extent, out: &mut [u8]) -> Answer
     requires { ⌜ Sound (now b) × (n ≤ linesIn (now b)) × (isVariation (now t) ≡ true) × (x ≡ extentAt (now t) 0) ⌝ }
     requires { ⌜ (x .start < 65536) × Lines (putIn n (variationOf (now t)) (playsIn (decode (now b) .lines))) ⌝ }
-    ensures { λ r. ⌜ r ≡ editedOf (insertAt (decode (now (b .entry))) n (variationOf (now (t .entry)))) (now (out .entry)) .answer ⌝ }
-    ensures { λ r. ⌜ now (out .exit) ≡ editedOf (insertAt (decode (now (b .entry))) n (variationOf (now (t .entry)))) (now (out .entry)) .buffer ⌝ }
+    ensures { λ r. ⌜ r ≡ editedOf (insertPlay (decode (now (b .entry))) n (variationOf (now (t .entry)))) (now (out .entry)) .answer ⌝ }
+    ensures { λ r. ⌜ now (out .exit) ≡ editedOf (insertPlay (decode (now (b .entry))) n (variationOf (now (t .entry)))) (now (out .entry)) .buffer ⌝ }
 {
     let mut rows = [0u8; 18688];
     let lines = put_rows(&mut rows, b, n, n, x.start, x.entries);
@@ -88,8 +88,8 @@ pub fn put_in(block: &[u8], line: u64, text: &[u8], out: &mut [u8]) -> Answer
 // Out of a sound block, line k and those that go with it.
 fn remove_from(b: &[u8], k: usize, out: &mut [u8]) -> Answer
     requires { ⌜ Sound (now b) × (0 < k) × (k < linesIn (now b)) ⌝ }
-    ensures { λ r. ⌜ r ≡ storedOf (encode (fresh (decode (now (b .entry))) (without k (removedFrom (playsIn (decode (now (b .entry)) .lines)) k) (playsIn (decode (now (b .entry)) .lines))))) (removedFrom (playsIn (decode (now (b .entry)) .lines)) k) (now (out .entry)) .answer ⌝ }
-    ensures { λ r. ⌜ now (out .exit) ≡ storedOf (encode (fresh (decode (now (b .entry))) (without k (removedFrom (playsIn (decode (now (b .entry)) .lines)) k) (playsIn (decode (now (b .entry)) .lines))))) (removedFrom (playsIn (decode (now (b .entry)) .lines)) k) (now (out .entry)) .buffer ⌝ }
+    ensures { λ r. ⌜ r ≡ storedOf (encode (relined (decode (now (b .entry))) (without k (removedFrom (playsIn (decode (now (b .entry)) .lines)) k) (playsIn (decode (now (b .entry)) .lines))))) (removedFrom (playsIn (decode (now (b .entry)) .lines)) k) (now (out .entry)) .answer ⌝ }
+    ensures { λ r. ⌜ now (out .exit) ≡ storedOf (encode (relined (decode (now (b .entry))) (without k (removedFrom (playsIn (decode (now (b .entry)) .lines)) k) (playsIn (decode (now (b .entry)) .lines))))) (removedFrom (playsIn (decode (now (b .entry)) .lines)) k) (now (out .entry)) .buffer ⌝ }
 {
     let n = removed_from(b, k);
     let x = parser::count_moves(Cursor { at: 0 }, &[]);

@@ -26,13 +26,15 @@ use Rattle.block.specs.Sound.{soundb, Sound}
 use Rattle.block.specs.Formed.{Formed}
 use Rattle.block.proofs.Deciding.{sound-says}
 use Rattle.parser.specs.Plays.{plyAt}
-use Rattle.edit.specs.Edit.{Edited, edited, refused, Changed, none, onChanged, playsIn, fresh, isVariation, variationOf, isPlyOf, carries, placeOf, putIn, changedFrom, insertAt, insertOn, insert, removedFrom, without, remove}
+use Rattle.edit.specs.Edit.{fresh, withoutLines, Edited, edited, refused, Changed, none, onChanged, playsIn, isVariation, variationOf, isPlyOf, carries, placeOf, putIn, changedFrom, insertOn, insert, removedFrom, remove}
+use Rattle.edit.specs.Splicing.{relined, insertPlay, without}
 use Rattle.edit.specs.Editing.{storedOf, editedOf, putInOf, cutOf}
 use Rattle.edit.proofs.Placing.{PutsIn, place-past}
 use Rattle.edit.proofs.Keeping.{still-lines, no-parent-changes}
 use Rattle.edit.proofs.Cutting.{CutsOut, lines-after-cut}
 use Rattle.edit.proofs.Sounds.{lines-hang, lines-afresh, puts-in}
 use Rattle.edit.proofs.Played.{plays-long}
+use Rattle.edit.proofs.Parents.{cut-fresh, insert-play}
 use Rattle.edit.proofs.Outcomes.{lines-counted}
 use Rattle.laws.specs.Blocks.{Bytes}
 use Rattle.laws.proofs.Forming.{refused as not-done, done-second}
@@ -101,17 +103,17 @@ module _ (b : List ℕ) (k : ℕ) (t : List ℕ) where
   Asked = PutsIn (playsIn (decode b .lines)) k (plyAt t 0) × (isVariation t ≡ true)
 
   abbrev Puts : Edited → Type 0
-  Puts = Makes (fresh (decode b) putLines) putPlace Asked
+  Puts = Makes (relined (decode b) putLines) putPlace Asked
 
   -- no parent changes, so nothing else is refused
   insert-makes : Sound b → Puts (insert (decode b) k t)
-  unfolding insert insertOn insertAt figures
+  unfolding insert insertOn insertPlay figures
   insert-makes s =
       by-pick Puts (ltb k (length (decode b .lines))) _ _
       (λ l. by-pick Puts (isVariation t) _ _
       (λ v. by-pick Puts (isPlyOf (starts ps k) (counts ps k) (plyAt t 0)) _ _
       (λ p. by-pick Puts (carries k (plyAt t 0) (drop 1 (decode b .lines))) _ _ (λ _. refuses (omega arith) (omega arith))
-      (λ c. placed (puts-in b s k (plyAt t 0) (omega (arith, lines-counted b, ltb-true k (length (decode b .lines)) l)) p c .0) v))
+      (λ c. subst Puts (sym (insert-play (decode b) putPlace k (variationOf t))) (placed (puts-in b s k (plyAt t 0) (omega (arith, lines-counted b, ltb-true k (length (decode b .lines)) l)) p c .0) v)))
       (λ _. refuses (omega arith) (omega arith)))
       (λ _. refuses (omega arith) (omega arith)))
       (λ _. refuses (omega arith) (omega arith))
@@ -121,11 +123,11 @@ module _ (b : List ℕ) (k : ℕ) (t : List ℕ) where
 
       placed : PutsIn ps k (plyAt t 0) → isVariation t ≡ true
           → Puts (onChanged (changedFrom putLines putPlace 0 (decode b .lines)) (λ i. refused (ParentChanges i))
-          (edited (fresh (decode b) putLines) putPlace))
+          (edited (relined (decode b) putLines) putPlace))
       placed ok v =
           let e : changedFrom putLines putPlace 0 (decode b .lines) ≡ none =
           ap (λ (ls : List Line). changedFrom putLines putPlace 0 ls) (lines-afresh b s) ∙ no-parent-changes ps k (variationOf t) ok in
-          subst (λ (c : Changed). Puts (onChanged c (λ i. refused (ParentChanges i)) (edited (fresh (decode b) putLines) putPlace))) (sym e)
+          subst (λ (c : Changed). Puts (onChanged c (λ i. refused (ParentChanges i)) (edited (relined (decode b) putLines) putPlace))) (sym e)
           (makes refl refl (ok, v))
 
 -- what a put-in that is done says, of the block after it and the new line's number
@@ -133,8 +135,8 @@ pub record PutDone (b : List ℕ) (k : ℕ) (t : List ℕ) (after : List ℕ) (i
   pub sound : Sound b
   pub put : PutsIn (playsIn (decode b .lines)) k (plyAt t 0)
   pub place : i ≡ putPlace b k t
-  pub formed : Formed (fresh (decode b) (putLines b k t))
-  pub front : after ≡ encode (fresh (decode b) (putLines b k t))
+  pub formed : Formed (relined (decode b) (putLines b k t))
+  pub front : after ≡ encode (relined (decode b) (putLines b k t))
 
 pub put-done : (b t o : List ℕ) → Bytes b → Bytes t → (k n i : ℕ) → putInOf b k t o .answer ≡ Done n i
     → PutDone b k t (take n (putInOf b k t o .buffer)) i
@@ -178,13 +180,13 @@ module _ (b : List ℕ) (k : ℕ) where
   cutLines = without k (removedFrom (playsIn (decode b .lines)) k) (playsIn (decode b .lines))
 
   abbrev Cuts : Edited → Type 0
-  Cuts = Makes (fresh (decode b) cutLines) cutMany (CutsOut (playsIn (decode b .lines)) k)
+  Cuts = Makes (relined (decode b) cutLines) cutMany (CutsOut (playsIn (decode b .lines)) k)
 
   remove-makes : Sound b → Cuts (remove (decode b) k)
   unfolding remove figures
   remove-makes s =
       by-pick Cuts (eqb k 0) _ _ (λ _. refuses (omega arith) (omega arith))
-      (λ z. by-pick Cuts (ltb k (length (decode b .lines))) _ _ (λ l. makes refl refl (ok (eqb-false k 0 z) (ltb-true _ _ l)))
+      (λ z. by-pick Cuts (ltb k (length (decode b .lines))) _ _ (λ l. makes (cut-fresh (decode b) k cutMany) refl (ok (eqb-false k 0 z) (ltb-true _ _ l)))
       (λ _. refuses (omega arith) (omega arith)))
     where
       ok : (k ≡ 0 → ⊥) → k < length (decode b .lines) → CutsOut (playsIn (decode b .lines)) k
@@ -203,20 +205,20 @@ cut-not-long b o bs k =
     taken s =
         by-pick (λ (x : Edited). Not (editedOf x o)) (eqb k 0) _ _ (λ _ z. omega arith)
         (λ _. by-pick (λ (x : Edited). Not (editedOf x o)) (ltb k (length (decode b .lines))) _ _
-        (λ _. by-pick Not (ltb 65535 (length after)) _ _ (λ e _. omega (arith, ltb-true 65535 (length after) e, cut-short b s bs k (cutMany b k)))
+        (λ _. by-pick Not (ltb 65535 (length after)) _ _ (λ e _. omega (arith, ltb-true 65535 (length after) e, cut-short b s bs k (cutMany b k), ap (λ (x : Record). length (encode x)) (cut-fresh (decode b) k (cutMany b k))))
         (λ _. by-pick Not (ltb (length o) (length after)) _ _ (λ _ z. omega arith) (λ _ z. omega arith)))
         (λ _ z. omega arith))
       where
         after : List ℕ
-        after = encode (fresh (decode b) (cutLines b k))
+        after = encode (fresh (decode b) (withoutLines k (cutMany b k) (decode b .lines)))
 
 -- what a cut that is done says, of the block after it and the number of lines cut
 pub record CutDone (b : List ℕ) (k : ℕ) (after : List ℕ) (m : ℕ) : Type 0 where
   pub sound : Sound b
   pub cut : CutsOut (playsIn (decode b .lines)) k
   pub many : m ≡ cutMany b k
-  pub formed : Formed (fresh (decode b) (cutLines b k))
-  pub front : after ≡ encode (fresh (decode b) (cutLines b k))
+  pub formed : Formed (relined (decode b) (cutLines b k))
+  pub front : after ≡ encode (relined (decode b) (cutLines b k))
 
 pub cut-done : (b o : List ℕ) → Bytes b → (k n m : ℕ) → cutOf b k o .answer ≡ Done n m → CutDone b k (take n (cutOf b k o .buffer)) m
 unfolding cutOf figures

@@ -34,13 +34,15 @@ use Rattle.block.specs.Formed.{lineOf, Formed}
 use Rattle.block.proofs.Deciding.{sound-answers}
 use Rattle.parser.specs.Plays.{entriesAt, plyAt}
 use Rattle.parser.proofs.Hung.{attach-length, attach-line}
-use Rattle.edit.specs.Edit.{Edited, edited, playsIn, fresh, variationOf, renumbered, removedFrom, without, lowered, Kept, remove}
+use Rattle.edit.specs.Edit.{Edited, edited, playsIn, variationOf, renumbered, removedFrom, lowered, Kept, remove}
+use Rattle.edit.specs.Splicing.{relined, without}
 use Rattle.edit.specs.Editing.{storedOf, editedOf, putInOf, cutOf}
 use Rattle.edit.proofs.Played.{starts-is, counts-is, plays-long}
 use Rattle.edit.proofs.Placing.{put-length, put-list, ply-low, ply-within, place-past, place-within, put-starts, put-counts, new-hangs}
 use Rattle.edit.proofs.Keeping.{kept-after-put, new-parent}
 use Rattle.edit.proofs.Cutting.{HangsFrom as HangsIn, itself as itselfIn, on as onIn, cut-length, run-within, kept-after-cut, run-is-what-hangs}
 use Rattle.edit.proofs.Sounds.{lines-afresh, plays-back, parent-is}
+use Rattle.edit.proofs.Parents.{cut-fresh}
 use Rattle.edit.proofs.Undoing.{cut-undoes}
 use Rattle.laws.specs.Blocks.{Bytes, frontOf}
 use Rattle.laws.proofs.Fields.{lines-are, start-is, entry-count-is}
@@ -75,44 +77,46 @@ line-moved ps qs f l r h h′ e p =
     ∙ ap₂ (λ (x : Play) (y : ℕ). record { start = x .start; parent = y; entries = x .entries }) e p
     ∙ sym (ap (λ (x : Line). withParent (f (x .parent)) x) (attach-line ps l h))
 
-module _ (b : List ℕ) (qs : List Play) (c : List ℕ) (g : Formed (fresh (decode b) qs)) (e : c ≡ encode (fresh (decode b) qs)) where
+module _ (b : List ℕ) (qs : List Play) (c : List ℕ) (g : Formed (relined (decode b) qs)) (e : c ≡ encode (relined (decode b) qs)) where
   relined-sound : Sound c
-  relined-sound = subst Sound (sym e) (sound-encode (fresh (decode b) qs) g)
+  relined-sound = subst Sound (sym e) (sound-encode (relined (decode b) qs) g)
 
-  relined-is : decode c ≡ fresh (decode b) qs
-  relined-is = ap decode e ∙ decode-encode (fresh (decode b) qs) g
+  relined-is : decode c ≡ relined (decode b) qs
+  relined-is = ap decode e ∙ decode-encode (relined (decode b) qs) g
 
   relined-lines : decode c .lines ≡ attach qs
-  unfolding fresh
+  unfolding relined
   relined-lines = ap (λ (r : Record). r .lines) relined-is
 
   relined-many : linesIn c ≡ length qs
-  unfolding fresh
-  relined-many = ap linesIn e ∙ lines-are (fresh (decode b) qs) (formed-fits (fresh (decode b) qs) g) ∙ attach-length qs
+  unfolding relined
+  relined-many = ap linesIn e ∙ lines-are (relined (decode b) qs) (formed-fits (relined (decode b) qs) g) ∙ attach-length qs
 
   relined-starts : (j : ℕ) → j < length qs → startOf c j ≡ starts qs j
-  unfolding fresh
+  unfolding relined
   relined-starts j h =
       ap (λ (x : List ℕ). startOf x j) e
-      ∙ start-is (fresh (decode b) qs) (formed-fits (fresh (decode b) qs) g) j (omega (arith, attach-length qs))
+      ∙ start-is (relined (decode b) qs) (formed-fits (relined (decode b) qs) g) j (omega (arith, attach-length qs))
       ∙ ap (λ (x : Line). x .start) (attach-line qs j h)
 
   relined-counts : (j : ℕ) → j < length qs → entryCount c j ≡ counts qs j
-  unfolding fresh
+  unfolding relined
   relined-counts j h =
       ap (λ (x : List ℕ). entryCount x j) e
-      ∙ entry-count-is (fresh (decode b) qs) (formed-fits (fresh (decode b) qs) g) j (omega (arith, attach-length qs))
+      ∙ entry-count-is (relined (decode b) qs) (formed-fits (relined (decode b) qs) g) j (omega (arith, attach-length qs))
       ∙ ap (λ (x : Line). length (x .entries)) (attach-line qs j h)
 
   relined-rest : (decode c .headers ≡ decode b .headers) × (decode c .position ≡ decode b .position)
-  unfolding fresh
+  unfolding relined
   relined-rest = (ap (λ (r : Record). r .headers) relined-is, ap (λ (r : Record). r .position) relined-is)
 
 -- a line that may be cut is cut
 remove-made : (r : Record) (k : ℕ) → 0 < k → k < length (r .lines)
-    → remove r k ≡ edited (fresh r (without k (removedFrom (playsIn (r .lines)) k) (playsIn (r .lines)))) (removedFrom (playsIn (r .lines)) k)
+    → remove r k ≡ edited (relined r (without k (removedFrom (playsIn (r .lines)) k) (playsIn (r .lines)))) (removedFrom (playsIn (r .lines)) k)
 unfolding remove
-remove-made r k z h = rw (ne-eqb k 0 (λ e. omega arith), lt-ltb k (length (r .lines)) h)
+remove-made r k z h =
+    let m = removedFrom (playsIn (r .lines)) k in
+    rw (ne-eqb k 0 (λ e. omega arith), lt-ltb k (length (r .lines)) h) (ap (λ (x : Record). edited x m) (cut-fresh r k m))
 
 -- ---- put-in
 
@@ -203,19 +207,19 @@ module _ (b t o : List ℕ) (bs : Bytes b) (ts : Bytes t) (k n i : ℕ) (done : 
 
   -- cut, the new line leaves the record that there was
   taken-back : remove (decode (frontOf n (putInOf b k t o))) (putPlace b k t) ≡ edited (decode b) 1
-  unfolding fresh
+  unfolding relined
   taken-back =
       let qs = putLines b k t in
       let i = putPlace b k t in
-      let r = fresh (decode b) qs in
+      let r = relined (decode b) qs in
       let past = place-past (playsOf b) k (plyAt t 0) (puts .put) in
       let fits = place-within (playsOf b) k (plyAt t 0) (puts .put) in
       let (alone, back) = cut-undoes (playsOf b) k (variationOf t) (puts .put) in
       ap (λ (x : Record). remove x i) (relined-is b qs (frontOf n (putInOf b k t o)) (puts .formed) (puts .front))
       ∙ remove-made r i (omega arith) (omega (arith, attach-length qs, put-long, plays-long b))
-      ∙ ap (λ (l : List Play). edited (fresh r (without i (removedFrom l i) l)) (removedFrom l i)) (plays-back qs)
-      ∙ ap (λ (m : ℕ). edited (fresh r (without i m qs)) m) alone
-      ∙ ap (λ (l : List Play). edited (fresh r l) 1) back
+      ∙ ap (λ (l : List Play). edited (relined r (without i (removedFrom l i) l)) (removedFrom l i)) (plays-back qs)
+      ∙ ap (λ (m : ℕ). edited (relined r (without i m qs)) m) alone
+      ∙ ap (λ (l : List Play). edited (relined r l) 1) back
       ∙ ap (λ (x : Record). edited x 1) (same-record b (puts .sound))
 
   pub put-undone : (o′ : List ℕ) → cutOf (frontOf n (putInOf b k t o)) i o′ ≡ storedOf b 1 o′

@@ -1,6 +1,6 @@
 -- The bytes of an entry that was read off a move line are bytes.
 -- Assumes nothing.
-use Prim.Native.Nat.{ℕ, _≤_, _<_}
+use Prim.Native.Nat.{ℕ, _+_, _≤_, _<_}
 use native.Mathlib.Omega.{arith}
 use lib.ListN.{getD}
 use Rattle.jkf.specs.Entries.{specialNumber, timeOf}

@@ -15,7 +15,8 @@ use Rattle.block.proofs.Tabling.{concat-append}
 use Rattle.block.proofs.Lengths.{block-length}
 use Rattle.parser.specs.Filling.{playEntries}
 use Rattle.parser.proofs.Hung.{attach-length, attach-entries}
-use Rattle.edit.specs.Edit.{playsIn, fresh, without}
+use Rattle.edit.specs.Edit.{playsIn}
+use Rattle.edit.specs.Splicing.{relined, without}
 use Rattle.edit.proofs.Sounds.{lines-afresh}
 use Rattle.edit.proofs.Assembled.{position-long}
 use Rattle.laws.specs.Blocks.{Bytes}
@@ -69,25 +70,25 @@ fewer-cut k m ps =
 -- ---- a block with other lines
 
 -- its lines hung afresh are the record's own
-pub same-record : (b : List ℕ) → Sound b → fresh (decode b) (playsIn (decode b .lines)) ≡ decode b
-unfolding fresh
+pub same-record : (b : List ℕ) → Sound b → relined (decode b) (playsIn (decode b .lines)) ≡ decode b
+unfolding relined
 same-record b s = ap with (sym (lines-afresh b s))
   where
     with : List Line → Record
     with ls = record { version = decode b .version; headers = decode b .headers; position = decode b .position; lines = ls }
 
 module _ (b : List ℕ) where
-  long : (ps : List Play) → length (encode (fresh (decode b) ps))
+  long : (ps : List Play) → length (encode (relined (decode b) ps))
       ≡ blockLength (length (decode b .headers)) (length ps) (length (playEntries ps)) (length (commentsOf (playEntries ps)))
       (length (headerText (decode b .headers)) + length (commentText (commentsOf (playEntries ps))))
-  unfolding fresh decode
+  unfolding relined decode
   long ps =
       let hs = decode b .headers in
-      block-length (fresh (decode b) ps) (position-long b)
+      block-length (relined (decode b) ps) (position-long b)
       ∙ ap₂ (λ (n : ℕ) (es : List Noted). blockLength (length hs) n (length es) (length (commentsOf es)) (length (headerText hs) + length (commentText (commentsOf es))))
       (attach-length ps) (attach-entries ps)
 
-  pub cut-short : Sound b → Bytes b → (k m : ℕ) → length (encode (fresh (decode b) (without k m (playsIn (decode b .lines))))) ≤ 65535
+  pub cut-short : Sound b → Bytes b → (k m : ℕ) → length (encode (relined (decode b) (without k m (playsIn (decode b .lines))))) ≤ 65535
   cut-short s u k m =
       let ps = playsIn (decode b .lines) in
       let lines = fewer-cut k m ps in

@@ -9,7 +9,8 @@ use Rattle.block.specs.Encode.{encode}
 use Rattle.block.specs.Decode.{decode}
 use Rattle.block.specs.Sound.{Sound}
 use Rattle.block.specs.Formed.{Formed}
-use Rattle.edit.specs.Edit.{playsIn, fresh}
+use Rattle.edit.specs.Edit.{playsIn}
+use Rattle.edit.specs.Splicing.{relined}
 use Rattle.edit.proofs.Sounds.{lines-hang}
 use Rattle.laws.specs.Blocks.{Bytes}
 use Rattle.laws.proofs.Encoded.{encode-decode}
@@ -20,5 +21,5 @@ use Rattle.laws.proofs.Fewer.{same-record}
 pub decode-formed : (b : List ℕ) → Bytes b → Sound b → Formed (decode b)
 decode-formed b bs s =
     let ps = playsIn (decode b .lines) in
-    let e : encode (fresh (decode b) ps) ≡ b = ap encode (same-record b s) ∙ encode-decode b s bs in
+    let e : encode (relined (decode b) ps) ≡ b = ap encode (same-record b s) ∙ encode-decode b s bs in
     subst Formed (same-record b s) (relined-formed b s bs ps (lines-hang b s) (block-lines b s bs) (omega (arith, ap length e, s .head .1 .0)))

@@ -40,8 +40,8 @@ use Rattle.moves.proofs.Smalls.{Bytes as AllBytes, empty, each as eachByte, byt
 use Rattle.parser.proofs.Alls.{all-at, all-concat}
 use Rattle.parser.proofs.Hung.{attach-length, attach-entries, lines-hang}
 use Rattle.moves.proofs.Worded.{remark-well}
-use Rattle.edit.specs.Edit.{playsIn, fresh, isVariation, variationOf}
-use Rattle.edit.specs.Splicing.{Lines, playIn}
+use Rattle.edit.specs.Edit.{playsIn, isVariation, variationOf}
+use Rattle.edit.specs.Splicing.{relined, Lines, playIn}
 use Rattle.edit.proofs.Played.{plays-are}
 use Rattle.edit.proofs.Sounds.{first-is}
 use Rattle.edit.proofs.Texts.{variation-says}
@@ -177,8 +177,8 @@ module _ (b : List ℕ) (s : Sound b) (u : Bytes b) where
   -- ---- with other lines
 
   module _ (ps : List Play) (lines : Lines ps) (stand : Standing ps) where
-    relined-bytes : AllBytes (encode (fresh (decode b) ps))
-    unfolding encode fresh decode
+    relined-bytes : AllBytes (encode (relined (decode b) ps))
+    unfolding encode relined decode
     relined-bytes =
         let hs = run (headerIn b) 0 (headersIn b) in
         let es = entriesOf (attach ps) in
@@ -189,8 +189,8 @@ module _ (b : List ℕ) (s : Sound b) (u : Bytes b) where
         (bytes-concat (λ (h : Header). h .key ++ h .value) (all-run (headerIn b) (headersIn b) 0 (λ i _ _. header-bytes i))))
         (bytes-concat (λ (c : List ℕ). c) (all-concat (λ (e : Noted). e .comments) (all-so (λ e x. x .texts) w)))
 
-    pub relined-formed : length (encode (fresh (decode b) ps)) ≤ 65535 → Formed (fresh (decode b) ps)
-    unfolding fresh decode positionIn
+    pub relined-formed : length (encode (relined (decode b) ps)) ≤ 65535 → Formed (relined (decode b) ps)
+    unfolding relined decode positionIn
     relined-formed short =
         record {
           version = s .head .1 .1 .1 .1 .0;

@@ -24,7 +24,8 @@ use Rattle.converter.specs.Show.{recordText, onObstacle, handsObstacle, linesOb
 use Rattle.converter.specs.Writing.{filledWith, shownOf, writeOf}
 use Rattle.converter.specs.declared.Obstacle.{Obstacle}
 use Rattle.converter.specs.declared.Obstacle.the-variants.{At, Clear}
-use Rattle.edit.specs.Edit.{playsIn, fresh, placeOf, variationOf}
+use Rattle.edit.specs.Edit.{playsIn, placeOf, variationOf}
+use Rattle.edit.specs.Splicing.{relined}
 use Rattle.edit.specs.Editing.{putInOf, cutOf}
 use Rattle.laws.specs.Blocks.{Bytes}
 use Rattle.laws.specs.Back.{OnceRead, read, put, cut, readInto, ReadsBack}

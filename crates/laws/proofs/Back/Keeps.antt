@@ -14,7 +14,8 @@ use Rattle.jkf.specs.declared.Answer.{Answer}
 use Rattle.jkf.specs.Model.{Record}
 use Rattle.jkf.specs.Attaching.{Play, starts, counts}
 use Rattle.parser.specs.Parse.{parse, recordOf}
-use Rattle.edit.specs.Edit.{playsIn, fresh, Edited, edited, refused, isVariation, variationOf, isPlyOf, carries, putIn, Changed, none, line, changedFrom, onChanged, insertAt, insertOn, insert, without, remove}
+use Rattle.edit.specs.Edit.{playsIn, Edited, edited, refused, isVariation, variationOf, isPlyOf, carries, putIn, Changed, none, line, changedFrom, onChanged, insertAt, insertOn, insert, remove}
+use Rattle.edit.specs.Splicing.{relined, without}
 use Rattle.edit.proofs.Sounds.{plays-back}
 use Rattle.laws.proofs.Firsts.{led-take, led-drop, led-append}
 use Rattle.laws.specs.Sayable.{NotedSayable, PlaysSayable, Sayable}
@@ -29,8 +30,8 @@ read-sayable s = record { headers = headers-sayable s; plays = subst PlaysSayabl
 
 -- ---- edits
 
-pub fresh-sayable : (r : Record) (ps : List Play) → Sayable r → PlaysSayable ps → Sayable (fresh r ps)
-unfolding fresh
+pub fresh-sayable : (r : Record) (ps : List Play) → Sayable r → PlaysSayable ps → Sayable (relined r ps)
+unfolding relined
 fresh-sayable r ps s p = record { headers = s .headers; plays = subst PlaysSayable (sym (plays-back ps)) p }
 
 pub put-sayable : (n : ℕ) (v : Play) (ps : List Play) → 0 < n → All NotedSayable (v .entries) → PlaysSayable ps → PlaysSayable (putIn n v ps)
