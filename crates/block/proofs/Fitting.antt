@@ -35,7 +35,7 @@ use Rattle.jkf.specs.Entries.{specialNumber, specialOf, timeOf}
 use Rattle.block.specs.Decode.{run, movePlace, commentCount}
 use Rattle.block.specs.Sound.{same, kindTest, entryTest, commentsBefore}
 use Rattle.block.proofs.Orders.{same-length}
-use Rattle.block.proofs.Lining.{le16-drop}
+use Rattle.block.proofs.LineTables.{le16-drop}
 
 -- ---- tests
 

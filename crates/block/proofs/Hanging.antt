@@ -17,7 +17,7 @@ use Rattle.jkf.specs.Following.{startAt, parentAt, Linked}
 use Rattle.jkf.proofs.Nears.{near-same, Hangs, hangs-says}
 use Rattle.block.specs.Decode.{linePlace, startOf, entryCount, parentOf}
 use Rattle.block.specs.Sound.{hangTest, lineTest}
-use Rattle.block.proofs.Lining.{table-start, table-parent}
+use Rattle.block.proofs.LineTables.{table-start, table-parent}
 
 -- ---- where a line hangs
 

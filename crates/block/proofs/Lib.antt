@@ -1,10 +1,7 @@
 pub mod Sums
 pub mod Orders
 pub mod Cuts
-pub mod Passing
-pub mod Lining
 pub mod Hanging
-pub mod Looking
 pub mod Tabling
 pub mod Lengths
 pub mod Fitting
@@ -18,3 +15,6 @@ pub mod PositionsBack
 pub mod Joining
 pub mod ByteArrays
 pub mod RowPlaces
+pub mod LineTables
+pub mod TablePasses
+pub mod LookUps

@@ -16,7 +16,7 @@ use Rattle.block.specs.EntryBytes.{entryIn, entryBytes}
 use Rattle.block.proofs.EntriesBack.{first-back}
 use Rattle.block.specs.Decode.{headersIn, linesIn, movesIn, commentsIn, movePlace, textPlace, keyOffset, keyLength, valueOffset, valueLength, firstEntry, entryCount, firstComment, commentCount, commentLength, keyOf, valueOf, commentOf}
 use Rattle.block.specs.Sound.{Sound, headerBytes, entriesBefore, commentsBefore}
-use Rattle.block.proofs.Lining.{le16-drop}
+use Rattle.block.proofs.LineTables.{le16-drop}
 use Rattle.block.proofs.Sums.{sum-none, sum-rises, sum-within}
 use Rattle.block.proofs.Deciding.{same-is}
 

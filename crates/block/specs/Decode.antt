@@ -75,7 +75,7 @@ commentOffset b k = le16 b (commentPlace b k)
 abbrev pub commentLength : List ℕ → ℕ → ℕ
 commentLength b k = le16 b (commentPlace b k + 2)
 
--- A text: offsets count from the start of the text part.                                             (01, The block: offsets of texts)
+-- A text, by its place in the text part.                                             (01, The block: offsets of texts)
 abbrev pub textAt : List ℕ → ℕ → ℕ → List ℕ
 textAt b offset len = take len (drop (textPlace b + offset) b)
 

@@ -22,7 +22,7 @@ concat f (x ∷ xs) = f x ++ concat f xs
 
 -- ---- the five parts
 
--- Key offset, key length, value offset, value length.                                                (01, The block: header entry)
+-- Where the key and the value begin, each with its length behind it.                                  (01, The block: header entry)
 abbrev pub headerRow : ℕ → Header → List ℕ
 headerRow at h = bytes16 at ++ bytes16 (length (h .key)) ++ bytes16 (at + length (h .key)) ++ bytes16 (length (h .value))
 

@@ -169,7 +169,7 @@ pub record Sound (b : List ℕ) : Type 0 where
   pub entries : claim (each (movesIn b) (entryTest b))
   pub comments : claim (each (commentsIn b) (commentTest b))
 
--- All of it as one test, in the order in which the code goes.
+-- All of it as one test.
 abbrev pub soundTest : List ℕ → Test
 soundTest b =
     both (headTest b)

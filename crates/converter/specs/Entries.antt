@@ -49,14 +49,14 @@ moveText m = ((targetText (m .to) ++ spelled moveKinds (m .piece)) ++ promoteTex
 
 -- ---- widths                                                                                         (01, Numbers of refusal: width)
 
--- 4 for 成香, 成桂 and 成銀, 2 for other kinds.
+-- Two for each character of the kind: three kinds have two characters.
 abbrev pub kindWidth : ℕ → ℕ
 kindWidth kind = pick (leb 10 kind) (pick (leb kind 12) 4 2) 2
 
 abbrev pub promoteWidth : ℕ → ℕ
 promoteWidth promote = pick (eqb promote 2) 2 0
 
--- 4 for brackets, 2 for 打.
+-- Two digits between brackets, or the one character 打.
 abbrev pub originWidth : Origin → ℕ
 originWidth Unknown = 2
 originWidth (From x y) = 4
@@ -68,7 +68,7 @@ moveWidth m = 4 + kindWidth (m .piece) + promoteWidth (m .promote) + originWidth
 unfoldable pub specialText : Special → List ℕ
 specialText s = spelled writtenSpecials (specialNumber s)
 
--- 中断 counts no width, other specials 2 a character.
+-- Two for each character, but nothing for 中断.
 unfoldable pub specialWidth : Special → ℕ
 specialWidth s = pick (same (specialText s) (spelled specials 1)) 0 (2 * (length (specialText s) / 3))
 

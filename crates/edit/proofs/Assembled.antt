@@ -35,7 +35,7 @@ use Rattle.parser.proofs.Fronts.{front-put}
 use Rattle.parser.proofs.Hung.{attach-length}
 use Rattle.parser.proofs.Wholes.{head, linePlace, movePlace, commentPlace, textPlace as textStart, headers-room, lines-room, block-filled}
 use Rattle.edit.specs.Splicing.{relined, linesAfter, recordAfter, entriesAfter, sizesOf, Unfilled}
-use Rattle.edit.specs.Editing.{storedOf}
+use Rattle.edit.specs.Outcomes.{storedOf}
 use Rattle.edit.proofs.Sounds.{entries-after}
 
 -- ---- the header entries of a sound block

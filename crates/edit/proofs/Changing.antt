@@ -18,7 +18,7 @@ use Rattle.jkf.specs.Model.{Line}
 use Rattle.jkf.specs.Attaching.{Play, starts, parentIn, attach}
 use Rattle.block.specs.Decode.{run, linesIn, parentOf, lineIn, decode}
 use Rattle.block.proofs.Tabling.{run-next, run-end}
-use Rattle.block.proofs.Lining.{le16-take}
+use Rattle.block.proofs.LineTables.{le16-take}
 use Rattle.parser.proofs.Hung.{attach-length, attach-line, parent-first}
 use Rattle.parser.proofs.Rowed.{parent-back}
 use Rattle.edit.specs.Edit.{renumbered, none, line, changedFrom}

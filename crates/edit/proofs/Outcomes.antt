@@ -19,7 +19,7 @@ use Rattle.block.proofs.Tabling.{length-run}
 use Rattle.edit.proofs.Parents.{cut-fresh, insert-play}
 use Rattle.edit.specs.Edit.{playsIn, Edited, isVariation, variationOf, isPlyOf, carries, placeOf, putIn, none, line, changedFrom, insertAt, insertOn, insert, removedFrom, remove}
 use Rattle.edit.specs.Splicing.{relined, insertPlay, without}
-use Rattle.edit.specs.Editing.{storedOf, editedOf, putInOf, cutOf}
+use Rattle.edit.specs.Outcomes.{storedOf, editedOf, putInOf, cutOf}
 
 -- a block says as many lines as it counts
 pub lines-counted : (b : List ℕ) → length (decode b .lines) ≡ linesIn b

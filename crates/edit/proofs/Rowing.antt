@@ -30,7 +30,7 @@ use Rattle.block.specs.Formed.{lineOf}
 use Rattle.block.specs.Encode.{table, concat, lineRow, lineStep, entriesOf}
 use Rattle.block.specs.Decode.{linesIn, startOf, firstEntry, entryCount, notedIn, decode}
 use Rattle.block.proofs.Tabling.{after, table-snoc, after-adds, length-run, concat-sum, concat-next}
-use Rattle.block.proofs.Lining.{le16-take}
+use Rattle.block.proofs.LineTables.{le16-take}
 use Rattle.parser.specs.Filling.{playEntries}
 use Rattle.parser.proofs.Rowed.{line, start-back, count-back, parent-back}
 use Rattle.parser.proofs.Lining.{hangs-before}

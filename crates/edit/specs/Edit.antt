@@ -134,7 +134,7 @@ unfoldable pub notBelow : ℕ → List Play → ℕ
 notBelow s [] = 0
 notBelow s (p ∷ ps) = let r = notBelow s ps in pick (leb s (p .start)) (suc r) 0
 
--- Line k, and the unbroken run after it whose start is not below its own.
+-- Line k and those after it, as far as each starts at line k's ply or later.
 abbrev pub removedFrom : List Play → ℕ → ℕ
 removedFrom ps k = 1 + notBelow (starts ps k) (drop (k + 1) ps)
 

@@ -24,7 +24,7 @@ ghost use Rattle.block.specs.Sound.{Sound};
 ghost use Rattle.parser.specs.Filling.{extentAt};
 ghost use Rattle.edit.specs.Edit.{playsIn, isVariation, variationOf, putIn, insertOn, insert, removedFrom, remove};
 ghost use Rattle.edit.specs.Splicing.{relined, insertPlay, without, Lines};
-ghost use Rattle.edit.specs.Editing.{storedOf, editedOf, putInOf, cutOf};
+ghost use Rattle.edit.specs.Outcomes.{storedOf, editedOf, putInOf, cutOf};
 
 // The new line has its number: the rows of all lines are made, and the parents in them looked at.
 fn insert_at(b: &[u8], n: usize, t: &[u8], x: Extent, out: &mut [u8]) -> Answer

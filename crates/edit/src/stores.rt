@@ -19,7 +19,7 @@ ghost use Rattle.block.specs.Decode.{linesIn, movesIn};
 ghost use Rattle.block.specs.Sound.{Sound, entriesBefore};
 ghost use Rattle.parser.specs.Filling.{extentAt, entryTexts, entryEnds};
 ghost use Rattle.edit.specs.Splicing.{linesAfter, recordAfter, entriesAfter, sizesOf, Unfilled};
-ghost use Rattle.edit.specs.Editing.{storedOf};
+ghost use Rattle.edit.specs.Outcomes.{storedOf};
 
 // How many entries stand before line k; all of them where there is no line k.
 fn entries_before(b: &[u8], k: usize) -> usize

@@ -115,7 +115,7 @@ piecesAt s at = let r = repeatFrom (pieceStep s) (length s) at emptyHand in hand
 unfoldable pub handAt : List ℕ → ℕ → Hand
 handAt s at = onPlace (tagAt noneTag s at) (λ c. hand emptyHand c) (piecesAt s at)
 
--- The hand of a side with padding and a break; once の持駒： is met, any other end cannot be read.
+-- The hand of a side, which must go on to padding and a break: after の持駒： there is no other way to read the line.
 unfoldable pub heldAt : ℕ → List ℕ → ℕ → HandLine
 heldAt side s at =
     onPlace (paddedEndAt s (handAt s at .next .at)) (λ e. handLine (By side e) (handAt s at .counts)) (handLine Unreadable emptyHand)
@@ -199,11 +199,11 @@ saidOf Nothing counts h = ofPair h
 abbrev pub saidBy : Information → Header → Step Said
 saidBy i h = pick (isLine (i .info)) (more (i .next .at) (saidOf (i .info) (i .counts) h)) stop
 
--- Any # lines, then one information line.
+-- An information line, with the # lines in front of it.
 unfoldable pub informationItem : List ℕ → ℕ → Step Said
 informationItem s at = saidBy (informationAt s (hashLinesAt s at)) (headerAt s (hashLinesAt s at))
 
--- An information block; # lines with no information line after them are not taken.                    (the Rust's informations)
+-- An information block. # lines at its end belong to no information line, so it ends before them.      (the Rust's informations)
 unfoldable pub informationsAt : List ℕ → ℕ → Ended (List Said)
 informationsAt s at = manyFrom (informationItem s) (length s) at
 

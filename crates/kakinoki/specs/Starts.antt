@@ -40,7 +40,7 @@ addHands (x ∷ a) (y ∷ b) = addCounts x y ∷ addHands a b
 unfoldable pub merged : Told → Told → Told
 merged a b = told (either (a .preset) (b .preset)) (either (a .turn) (b .turn)) (addHands (a .black) (b .black)) (addHands (a .white) (b .white))
 
--- With a board the preset is その他, and the turn Black if none stands; without one there are no hands and no turn, and the preset is 平手
+-- With a board その他 is the preset, and Black is to move if nothing says who is; without one there are no hands and no turn, and the preset is 平手
 -- if none stands.
 unfoldable pub positionOf : Board → Told → Position
 positionOf b t =

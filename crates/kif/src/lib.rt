@@ -5,7 +5,7 @@ ghost use Rattle.block.specs.Sound.{soundb};
 ghost use Rattle.block.specs.Look.{lookAnswer, Told};
 ghost use Rattle.parser.specs.Read.{readOf};
 ghost use Rattle.converter.specs.Writing.{writeOf};
-ghost use Rattle.edit.specs.Editing.{putInOf, cutOf};
+ghost use Rattle.edit.specs.Outcomes.{putInOf, cutOf};
 
 // Whether a slice is just a sound block.
 #[no_mangle]

@@ -17,8 +17,8 @@ pub mod Firsts
 pub mod Relining
 pub mod Fewer
 pub mod Formed
-pub mod Edited
-pub mod Editing
 pub mod Unique
 pub mod Back
 pub mod Cases
+pub mod EditsDone
+pub mod Edits

@@ -11,7 +11,7 @@ use lib.Seq.{take-length, take-at, drop-at, take-add, drop-drop, length-take-le}
 use Rattle.lists.proofs.Laws.{drop-step}
 use Rattle.lent.specs.Bytes.{le16, bytes16}
 use Rattle.laws.specs.Blocks.{Bytes}
-use Rattle.block.proofs.Lining.{le16-drop}
+use Rattle.block.proofs.LineTables.{le16-drop}
 
 -- t is the n bytes of b from o on
 pub record Part (b : List ℕ) (o n : ℕ) (t : List ℕ) : Type 0 where

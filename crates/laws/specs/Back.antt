@@ -21,7 +21,7 @@ use Rattle.converter.specs.Show.{recordText, handsObstacle, linesObstacle}
 use Rattle.converter.specs.Writing.{writeOf}
 use Rattle.converter.specs.declared.Obstacle.the-variants.{Clear}
 use Rattle.edit.specs.Edit.{playsIn}
-use Rattle.edit.specs.Editing.{putInOf, cutOf}
+use Rattle.edit.specs.Outcomes.{putInOf, cutOf}
 use Rattle.laws.specs.Blocks.{Bytes, frontOf}
 use Rattle.laws.specs.Whole.{wholeText}
 use Rattle.laws.specs.Left.{left}

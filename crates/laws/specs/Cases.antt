@@ -20,7 +20,7 @@ use Rattle.block.specs.Decode.{run, linesIn, startOf, parentOf}
 use Rattle.moves.specs.Moves.{moveLineAt}
 use Rattle.moves.specs.declared.MoveLine.the-variants.{Numbered, NoLine}
 use Rattle.parser.specs.Read.{readOf}
-use Rattle.edit.specs.Editing.{putInOf, cutOf}
+use Rattle.edit.specs.Outcomes.{putInOf, cutOf}
 use Rattle.shown.specs.Listing.{listingText, refusalText}
 use Rattle.laws.specs.Blocks.{frontOf}
 use Rattle.laws.specs.CaseTexts.{moveLine, originLine, Variation, from, textOf, ninetyNine, workedText, workedListing}

@@ -89,7 +89,7 @@ moveToAt s at = onPlace (tagAt sameWord s at) (λ c. onPlace (tagAt wideSpace s 
 unfoldable pub promoteAt : List ℕ → ℕ → Mark
 promoteAt s at = onPlace (tagAt promotes s at) (λ c. mark 2 c) (onPlace (tagAt declines s at) (λ c. mark 1 c) (mark 0 (cursor at)))
 
--- A number up to 255 in brackets, split into tens and ones.
+-- In brackets the tens and the ones of a number of at most 255.
 unfoldable pub originAt : List ℕ → ℕ → Source
 originAt s at =
     onPlace (tagAt (40 ∷ []) s at)
@@ -171,7 +171,7 @@ finished color t Slot = Slot
 finished color t (Play m) = Play (record { color = color; piece = m .piece; promote = m .promote; to = m .to; from = m .from; time = t })
 finished color t (End x u) = End x t
 
--- Blanks, a number below 2^64, blanks, a special or a move, blanks, a time if there is one, tail, break.  (the Rust's move_line)
+-- The number, the special or the move, and the time if it can be read, with blanks before each; then the rest of the line.  (the Rust's move_line)
 unfoldable pub moveLineAt : List ℕ → ℕ → MoveLine
 moveLineAt s at =
     onNumber (digitsAt 18446744073709551615 s (blanksAt s at))

@@ -13,7 +13,7 @@ use Rattle.block.specs.Formed.{lineOf}
 use Rattle.block.specs.Encode.{table, concat, lineRow, lineStep, entriesOf, commentsOf, commentText}
 use Rattle.block.proofs.Tabling.{after, table-row}
 use Rattle.block.proofs.RowPlaces.{line-wide}
-use Rattle.block.proofs.Lining.{le16-drop}
+use Rattle.block.proofs.LineTables.{le16-drop}
 use Rattle.parser.specs.Filling.{entryTexts, lineTexts, entryEnds, lineEnds, EntriesFit, Entered, LineFits, Lined}
 use Rattle.parser.specs.declared.Walk.{Walk}
 use Rattle.parser.proofs.Texts.{entries-append}

@@ -46,13 +46,13 @@ skipItem s at = onPlace (skipLineAt s at) (λ c. more (c .at) tt) stop
 unfoldable pub skipsAt : List ℕ → ℕ → ℕ
 skipsAt s at = manyFrom (skipItem s) (length s) at .at
 
--- One or more move lines, each with its comments, then at most one skip line.                        (the Rust's moves_with_index)
+-- Move lines in a row, the comments of each behind it, and a skip line behind them all if one stands there.                        (the Rust's moves_with_index)
 unfoldable pub playItem : List ℕ → ℕ → Step Play
 playItem s at =
     let r = more (skippedAt s (entriesAt s at .at)) (play (plyAt s at) (entriesAt s at .state)) in
     pick (eqb (length (entriesAt s at .state)) 0) stop r
 
--- Any skip lines, then a line of play; skip lines with none after them are not taken.
+-- A line of play and the skip lines in front of it; where no line of play comes, they stay untaken.
 unfoldable pub variationItem : List ℕ → ℕ → Step Play
 variationItem s at = playItem s (skipsAt s at)
 

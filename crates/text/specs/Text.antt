@@ -91,7 +91,7 @@ textAt = spanAt isText
 abbrev pub tailEnd : List ℕ → ℕ → Place
 tailEnd s e = pick (eqb (getD s e 0) 13) (pick (eqb (getD s (e + 1) 0) 10) (Past (cursor e)) Absent) (Past (cursor e))
 
--- The text up to the first CR or LF, or to the end.                                                (01, Reading rules: tail)
+-- To the first CR or LF, or to the end of the text.                                                (01, Reading rules: tail)
 unfoldable pub tailAt : List ℕ → ℕ → Place
 tailAt s at = tailEnd s (textAt s at)
 

@@ -15,7 +15,7 @@ use Rattle.block.specs.Encode.{encode}
 use Rattle.block.specs.Decode.{linesIn, decode}
 use Rattle.edit.specs.Edit.{variationOf}
 use Rattle.edit.specs.Splicing.{linesAfter, AllRowed}
-use Rattle.edit.specs.Editing.{storedOf}
+use Rattle.edit.specs.Outcomes.{storedOf}
 use Rattle.edit.proofs.Texts.{one-variation}
 use Rattle.edit.proofs.Afresh.{rows-within, rows-are, after-long, put-record, put-asks, put-rowed, put-changed}
 use Rattle.edit.proofs.Outcomes.{parent-changes, none-changes}

@@ -12,7 +12,7 @@ use Rattle.jkf.proofs.Answering.{told}
 use Rattle.jkf.specs.Model.{Record}
 use Rattle.block.specs.Encode.{encode}
 use Rattle.edit.specs.Splicing.{linesAfter, AllRowed}
-use Rattle.edit.specs.Editing.{storedOf}
+use Rattle.edit.specs.Outcomes.{storedOf}
 use Rattle.edit.proofs.Afresh.{rows-within, rows-are, after-long, cut-record, cut-asks, cut-rowed}
 use Rattle.edit.proofs.remove_from.Statement.{statement}
 use Rattle.edit.proofs.remove_from.Tie as tie

@@ -26,14 +26,14 @@ use Rattle.converter.specs.declared.Obstacle.{Obstacle}
 use Rattle.converter.specs.declared.Obstacle.the-variants.{At, Clear}
 use Rattle.edit.specs.Edit.{playsIn, placeOf, variationOf}
 use Rattle.edit.specs.Splicing.{relined}
-use Rattle.edit.specs.Editing.{putInOf, cutOf}
+use Rattle.edit.specs.Outcomes.{putInOf, cutOf}
 use Rattle.laws.specs.Blocks.{Bytes}
 use Rattle.laws.specs.Back.{OnceRead, read, put, cut, readInto, ReadsBack}
 use Rattle.laws.proofs.Decoded.{decode-encode}
 use Rattle.laws.proofs.Made.{sound-encode}
 use Rattle.laws.proofs.Forming.{refused as not-done, read-done}
 use Rattle.laws.proofs.Formed.{decode-formed}
-use Rattle.laws.proofs.Edited.{put-done, cut-done}
+use Rattle.laws.proofs.EditsDone.{put-done, cut-done}
 use Rattle.laws.specs.Left.{left}
 use Rattle.laws.specs.Sayable.{Sayable, ColorsFollow}
 use Rattle.laws.proofs.Back.ReadPlays.{entries-sayable}

@@ -23,7 +23,7 @@ use Rattle.parser.specs.Plays.{commentItem, commentsAt, entryItem, entriesAt, p
 use Rattle.parser.specs.Parse.{headersOf, parse, needed}
 use Rattle.parser.specs.Read.{filledWith, storedOf, startedOf, readOf}
 use Rattle.edit.specs.Edit.{fresh, isVariation, isPlyOf, carries, above, changedFrom, insertAt, insertOn, insert, notBelow, remove}
-use Rattle.edit.specs.Editing.{storedOf as editStoredOf, editedOf, putInOf, cutOf}
+use Rattle.edit.specs.Outcomes.{storedOf as editStoredOf, editedOf, putInOf, cutOf}
 use Rattle.shown.specs.Listing.{readText, refusalText, rowText, lineText, linesText, listingText}
 
 unfoldable pub lists : Unit {0}

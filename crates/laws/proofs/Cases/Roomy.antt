@@ -23,7 +23,7 @@ use Rattle.kakinoki.specs.declared.Fault.the-variants.{NoFault, At}
 use Rattle.parser.specs.Parse.{Parsed, parse, needed}
 use Rattle.parser.specs.Read.{onFault, filledWith, storedOf, startedOf, readOf}
 use Rattle.edit.specs.Edit.{Edited, edited, refused, insert, remove}
-use Rattle.edit.specs.Editing.{storedOf as keptOf, editedOf, putInOf, cutOf}
+use Rattle.edit.specs.Outcomes.{storedOf as keptOf, editedOf, putInOf, cutOf}
 use Rattle.laws.specs.CaseTexts.{moveLine, textOf}
 use Rattle.laws.specs.Cases.{blockOf, listing, Result, Gives, Case, reads, puts, cuts, isFrom, isNoLine, counts, prints, Holds}
 

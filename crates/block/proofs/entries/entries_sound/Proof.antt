@@ -8,7 +8,7 @@ use denote.Ref.{now}
 use borrow.Author.Tests.{not-true, not-false}
 use Rattle.block.specs.Decode.{movesIn, commentCount}
 use Rattle.block.specs.Sound.{entryTest}
-use Rattle.block.proofs.Passing.{Passed, passed-start, passed-more, passed-not, passed-all}
+use Rattle.block.proofs.TablePasses.{Passed, passed-start, passed-more, passed-not, passed-all}
 use Rattle.block.proofs.entries.entries_sound.Statement.{statement}
 use Rattle.block.proofs.entries.entries_sound.Tie as tie
 

@@ -3,7 +3,7 @@
 use mathlib.Core.Path.{refl}
 use denote.Ref.{now}
 use borrow.Author.Needs.{needs}
-use Rattle.block.proofs.Looking.{looked}
+use Rattle.block.proofs.LookUps.{looked}
 use Rattle.block.specs.Decode.{keyOf}
 use Rattle.block.proofs.looks.key.Statement.{statement}
 use Rattle.block.proofs.looks.key.Tie as tie

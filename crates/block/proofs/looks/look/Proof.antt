@@ -7,7 +7,7 @@ use mathlib.Core.Path.{sym, _∙_, ap}
 use denote.Ref.{now}
 use borrow.Author.Tests.{not-true, not-false, lt-ltb, le-ltb}
 use borrow.Author.Needs.{needs}
-use Rattle.block.proofs.Looking.{told}
+use Rattle.block.proofs.LookUps.{told}
 use Rattle.block.specs.Decode.{textPlace, textAt}
 use Rattle.jkf.specs.declared.Answer.the-variants.{Done}
 use Rattle.lent.specs.Bytes.{le16}

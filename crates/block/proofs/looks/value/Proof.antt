@@ -5,7 +5,7 @@ use native.Mathlib.Omega.{arith}
 use mathlib.Core.Path.{_≡_}
 use denote.Ref.{now}
 use borrow.Author.Needs.{needs}
-use Rattle.block.proofs.Looking.{looked}
+use Rattle.block.proofs.LookUps.{looked}
 use Rattle.block.specs.Decode.{valueOf}
 use Rattle.block.proofs.looks.value.Statement.{statement}
 use Rattle.block.proofs.looks.value.Tie as tie

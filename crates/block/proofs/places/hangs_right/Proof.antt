@@ -12,7 +12,7 @@ use Rattle.jkf.specs.Attaching.{hangs}
 use Rattle.jkf.specs.Following.{hangsBy}
 use Rattle.jkf.proofs.Nears.{hangs-followed}
 use Rattle.block.specs.Decode.{startOf, entryCount}
-use Rattle.block.proofs.Lining.{table-hangs}
+use Rattle.block.proofs.LineTables.{table-hangs}
 use Rattle.block.proofs.places.hangs_right.Statement.{statement}
 use Rattle.block.proofs.places.hangs_right.Tie as tie
 

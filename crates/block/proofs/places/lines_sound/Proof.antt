@@ -11,7 +11,7 @@ use Rattle.lists.proofs.Tests.{says}
 use Rattle.block.specs.Decode.{linesIn, entryCount}
 use Rattle.block.specs.Sound.{lineTest}
 use Rattle.block.proofs.Hanging.{lines-linked}
-use Rattle.block.proofs.Passing.{Passed, passed-start, passed-more, passed-not, passed-all}
+use Rattle.block.proofs.TablePasses.{Passed, passed-start, passed-more, passed-not, passed-all}
 use Rattle.block.proofs.places.lines_sound.Statement.{statement}
 use Rattle.block.proofs.places.lines_sound.Tie as tie
 

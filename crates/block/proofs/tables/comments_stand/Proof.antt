@@ -8,7 +8,7 @@ use borrow.Author.Tests.{not-true, not-false}
 use Rattle.lent.specs.Bytes.{le16}
 use Rattle.block.specs.Decode.{headersIn, commentsIn, commentPlace, commentLength}
 use Rattle.block.specs.Sound.{headerBytes}
-use Rattle.block.proofs.Passing.{Passed, passed-start, passed-more, passed-not, passed-all}
+use Rattle.block.proofs.TablePasses.{Passed, passed-start, passed-more, passed-not, passed-all}
 use Rattle.block.proofs.Spans.{commentStands}
 use Rattle.block.proofs.tables.comments_stand.Statement.{statement}
 use Rattle.block.proofs.tables.comments_stand.Tie as tie

@@ -3,7 +3,7 @@
 use Rattle.block.proofs.tables.headers_stand.Statement.{statement}
 use Rattle.block.specs.Decode.{headersIn, keyLength, valueLength}
 use Rattle.block.proofs.Spans.{headerStands}
-use Rattle.block.proofs.Passing.{Passed, passed-start, passed-more, passed-not, passed-all}
+use Rattle.block.proofs.TablePasses.{Passed, passed-start, passed-more, passed-not, passed-all}
 use borrow.Author.Tests.{not-true, not-false}
 use denote.Ref.{now}
 use mathlib.Core.Path.{sym, _∙_}

@@ -36,7 +36,7 @@ use Rattle.parser.specs.Plays.{entriesAt, plyAt}
 use Rattle.parser.proofs.Hung.{attach-length, attach-line}
 use Rattle.edit.specs.Edit.{Edited, edited, playsIn, variationOf, renumbered, removedFrom, lowered, Kept, remove}
 use Rattle.edit.specs.Splicing.{relined, without}
-use Rattle.edit.specs.Editing.{storedOf, editedOf, putInOf, cutOf}
+use Rattle.edit.specs.Outcomes.{storedOf, editedOf, putInOf, cutOf}
 use Rattle.edit.proofs.Played.{starts-is, counts-is, plays-long}
 use Rattle.edit.proofs.Placing.{put-length, put-list, ply-low, ply-within, place-past, place-within, put-starts, put-counts, new-hangs}
 use Rattle.edit.proofs.Keeping.{kept-after-put, new-parent}
@@ -49,7 +49,7 @@ use Rattle.laws.proofs.Fields.{lines-are, start-is, entry-count-is}
 use Rattle.laws.proofs.Decoded.{formed-fits, decode-encode}
 use Rattle.laws.proofs.Encoded.{encode-decode}
 use Rattle.laws.proofs.Made.{sound-encode}
-use Rattle.laws.proofs.Edited.{putPlace, putLines, PutDone, put-done, parent-kept, cutMany, cutLines, CutDone, cut-done, cut-not-long}
+use Rattle.laws.proofs.EditsDone.{putPlace, putLines, PutDone, put-done, parent-kept, cutMany, cutLines, CutDone, cut-done, cut-not-long}
 use Rattle.laws.proofs.Fewer.{same-record}
 
 -- ---- words

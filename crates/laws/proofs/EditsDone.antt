@@ -28,7 +28,7 @@ use Rattle.block.proofs.Deciding.{sound-says}
 use Rattle.parser.specs.Plays.{plyAt}
 use Rattle.edit.specs.Edit.{fresh, withoutLines, Edited, edited, refused, Changed, none, onChanged, playsIn, isVariation, variationOf, isPlyOf, carries, placeOf, putIn, changedFrom, insertOn, insert, removedFrom, remove}
 use Rattle.edit.specs.Splicing.{relined, insertPlay, without}
-use Rattle.edit.specs.Editing.{storedOf, editedOf, putInOf, cutOf}
+use Rattle.edit.specs.Outcomes.{storedOf, editedOf, putInOf, cutOf}
 use Rattle.edit.proofs.Placing.{PutsIn, place-past}
 use Rattle.edit.proofs.Keeping.{still-lines, no-parent-changes}
 use Rattle.edit.proofs.Cutting.{CutsOut, lines-after-cut}
