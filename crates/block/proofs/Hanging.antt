@@ -22,10 +22,10 @@ use Rattle.block.proofs.LineTables.{table-start, table-parent}
 -- ---- where a line hangs
 
 module _ (start count parent : ℕ → ℕ) where
-  pub hang-first : claim (hangTest start count parent 0) → (start 0 ≡ 0) × (parent 0 ≡ 0)
+  pub hang-first : claim (hangTest 1 start count parent 0) → (start 0 ≡ 0) × (parent 0 ≡ 0)
   hang-first h = says (both (equals (start 0) 0) (equals (parent 0) 0)) h
 
-  pub hang-says : (k : ℕ) → 0 < k → claim (hangTest start count parent k) → (parent k ≡ near start (start k) k) × Hangs start count k
+  pub hang-says : (k : ℕ) → 0 < k → claim (hangTest 1 start count parent k) → (parent k ≡ near start (start k) k) × Hangs start count k
   hang-says k h c =
       let main = flag (both (equals (start 0) 0) (equals (parent 0) 0)) in
       let later = onHang (hangs start count (start k) k) (λ p e. eqb (parent k) p) false in

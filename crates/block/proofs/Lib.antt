@@ -18,3 +18,4 @@ pub mod RowPlaces
 pub mod LineTables
 pub mod TablePasses
 pub mod LookUps
+pub mod Attached

@@ -1,16 +1,21 @@
 -- The table of lines in a block, and the same table by itself, have the same numbers, and say the same of where a line hangs.
 -- Assumes nothing.
-use Prim.Native.Nat.{ℕ, _+_, _*_, _<_}
+use Prim.Native.Nat.{ℕ, suc, _+_, _*_, _<_}
 use native.Mathlib.Omega.{arith}
-use mathlib.Core.Path.{_≡_, ap, ap₂, _∙_}
-use mathlib.Core.List.{List}
-use lib.ListN.{getD, take, drop}
+use mathlib.Core.Path.{_≡_, sym, ap, ap₂, _∙_}
+use mathlib.Core.List.{List, [], _++_, append-nil}
+use lib.ListN.{length, getD, take, drop}
 use lib.Seq.{getD-take, getD-drop}
 use Rattle.lent.specs.Bytes.{le16}
+use Rattle.jkf.specs.Model.{Line}
 use Rattle.jkf.specs.Attaching.{hangs}
 use Rattle.jkf.specs.Following.{startAt, countAt, parentAt}
 use Rattle.jkf.proofs.Nears.{hangs-same}
 use Rattle.block.specs.Decode.{linePlace, startOf, entryCount, parentOf}
+use Rattle.block.specs.Encode.{table, lineRow, lineStep}
+use Rattle.block.specs.Formed.{lineOf}
+use Rattle.block.proofs.Tabling.{after, table-row}
+use Rattle.block.proofs.RowPlaces.{line-wide}
 
 -- a number in a part that begins at o
 pub le16-drop : (b : List ℕ) (o i : ℕ) → le16 (drop o b) i ≡ le16 b (o + i)
@@ -36,3 +41,27 @@ module _ (b : List ℕ) where
   table-hangs s k =
       hangs-same (startAt (drop (linePlace b 0) b)) (startOf b) (countAt (drop (linePlace b 0) b)) (entryCount b) table-start
       (λ j. in-table (8 * j + 4) (linePlace b j + 4) (omega arith)) s k
+
+-- ---- read back from a table
+
+module _ (n : ℕ) (ls : List Line) (j : ℕ) (h : j < length ls) where
+  abbrev here : Line
+  here = lineOf ls j
+
+  row-here : drop (8 * j) (table lineRow lineStep n ls ++ []) ≡ lineRow (after lineRow lineStep n (take j ls)) here ++ (table lineRow lineStep (lineStep (after lineRow lineStep n (take j ls)) here) (drop (suc j) ls) ++ [])
+  row-here = table-row lineRow lineStep 8 line-wide (record { start = 0; parent = 0; entries = [] }) n ls [] j h
+
+  field : (i : ℕ) → le16 (table lineRow lineStep n ls) (8 * j + i)
+      ≡ le16 (lineRow (after lineRow lineStep n (take j ls)) here ++ (table lineRow lineStep (lineStep (after lineRow lineStep n (take j ls)) here) (drop (suc j) ls) ++ [])) i
+  field i =
+      ap (λ (l : List ℕ). le16 l (8 * j + i)) (sym (append-nil (table lineRow lineStep n ls)))
+      ∙ sym (le16-drop (table lineRow lineStep n ls ++ []) (8 * j) i) ∙ ap (λ (l : List ℕ). le16 l i) row-here
+
+  pub start-back : here .start < 65536 → le16 (table lineRow lineStep n ls) (8 * j) ≡ here .start
+  start-back b = let z : 8 * j ≡ 8 * j + 0 = omega arith in ap (le16 (table lineRow lineStep n ls)) z ∙ field 0 ∙ omega arith
+
+  pub count-back : length (here .entries) < 65536 → le16 (table lineRow lineStep n ls) (8 * j + 4) ≡ length (here .entries)
+  count-back b = field 4 ∙ omega arith
+
+  pub parent-back : here .parent < 65536 → le16 (table lineRow lineStep n ls) (8 * j + 6) ≡ here .parent
+  parent-back b = field 6 ∙ omega arith

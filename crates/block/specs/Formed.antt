@@ -30,11 +30,11 @@ headerFits hs k =
     (both (valid (headerOf hs k .value))
     (holds (pick (ltb (k + 1) (length hs)) (before (headerOf hs k .key) (headerOf hs (k + 1) .key)) true)))
 
--- A line is not empty, and hangs where the attaching rule says.
-abbrev pub lineFits : List Line → ℕ → Test
-lineFits ls k =
+-- A line is not empty, and hangs where a block of its version lets it.
+abbrev pub lineFits : ℕ → List Line → ℕ → Test
+lineFits version ls k =
     both (atMost 1 (length (lineOf ls k .entries)))
-    (hangTest (λ j. lineOf ls j .start) (λ j. length (lineOf ls j .entries)) (λ j. lineOf ls j .parent) k)
+    (hangTest version (λ j. lineOf ls j .start) (λ j. length (lineOf ls j .entries)) (λ j. lineOf ls j .parent) k)
 
 pub record Formed (r : Record) : Type 0 where
   pub version : r .version ≡ 1
@@ -45,6 +45,6 @@ pub record Formed (r : Record) : Type 0 where
   pub position : claim (fitsTest (r .position))
   pub headers : claim (each (length (r .headers)) (headerFits (r .headers)))
   pub some : 1 ≤ length (r .lines)
-  pub lines : claim (each (length (r .lines)) (lineFits (r .lines)))
+  pub lines : claim (each (length (r .lines)) (lineFits (r .version) (r .lines)))
   pub entries : claim (each (length (entriesOf (r .lines))) (λ k. kindTest k (notedOf (entriesOf (r .lines)) k .what)))
   pub comments : claim (each (length (commentsOf (entriesOf (r .lines)))) (λ k. valid (getD (commentsOf (entriesOf (r .lines))) k [])))

@@ -137,9 +137,9 @@ entryTest b k =
 abbrev pub entriesBefore : List ℕ → ℕ → ℕ
 entriesBefore b = sum (λ k. entryCount b k)
 
--- Line 0 starts at 0 and has no parent; any other hangs on the parent that the attaching rule finds.
-abbrev pub hangTest : (ℕ → ℕ) → (ℕ → ℕ) → (ℕ → ℕ) → ℕ → Test
-hangTest start count parent k =
+-- Line 0 starts at 0 and has no parent; any other hangs, in a block of version 1, on the parent that the attaching rule finds.
+abbrev pub hangTest : ℕ → (ℕ → ℕ) → (ℕ → ℕ) → (ℕ → ℕ) → ℕ → Test
+hangTest version start count parent k =
     holds
     (pick (eqb k 0)
     (flag (both (equals (start 0) 0) (equals (parent 0) 0)))
@@ -147,7 +147,7 @@ hangTest start count parent k =
 
 abbrev pub lineTest : List ℕ → ℕ → Test
 lineTest b k =
-    both (equals (firstEntry b k) (entriesBefore b k)) (both (atMost 1 (entryCount b k)) (hangTest (startOf b) (entryCount b) (parentOf b) k))
+    both (equals (firstEntry b k) (entriesBefore b k)) (both (atMost 1 (entryCount b k)) (hangTest (le16 b 2) (startOf b) (entryCount b) (parentOf b) k))
 
 -- ---- the whole
 

@@ -8,6 +8,7 @@ ghost use mathlib.Core.Path.{_≡_};
 ghost use Prim.Native.Nat.{_<_};
 ghost use lib.ListN.{length, drop, getD};
 ghost use Rattle.lists.specs.Test.{equals, holds, each, flag};
+ghost use Rattle.lent.specs.Bytes.{le16};
 ghost use Rattle.jkf.specs.Following.{Linked};
 ghost use Rattle.block.specs.Decode.{linesIn, linePlace, startOf, entryCount, parentOf};
 ghost use Rattle.block.specs.Sound.{isCell, diagramTest, fitsTest, positionTest, hangTest, lineTest, entriesBefore};
@@ -102,7 +103,7 @@ pub(crate) fn position_sound(b: &[u8]) -> bool
 // Line 0 starts at 0 and has no parent; any other hangs where the attaching rule says. The parents of the lines before are known right.
 fn hangs_right(b: &[u8], k: usize) -> bool
     requires { ⌜ (k < 65536) × Linked (drop (linePlace (now b) 0) (now b)) k ⌝ }
-    ensures { λ r. ⌜ r ≡ flag (hangTest (startOf (now (b .entry))) (entryCount (now (b .entry))) (parentOf (now (b .entry))) k) ⌝ }
+    ensures { λ r. ⌜ r ≡ flag (hangTest (le16 (now (b .entry)) 2) (startOf (now (b .entry))) (entryCount (now (b .entry))) (parentOf (now (b .entry))) k) ⌝ }
 {
     if k == 0 {
         if fields::start_of(b, 0) != 0 {

@@ -1,42 +1,48 @@
--- The parts of an edited block are filled in one after the other, head and position, header entries, rows of lines, entries: together they are the
--- block of the edited record, which is as long as was reckoned.
+-- An edited block, filled in part by part, is the block of the edited record; or it is refused by its length.
 -- Assumes nothing.
-use Prim.Native.Nat.{ℕ, zero, suc, _+_, _*_, _-_, _/_, _≤_, _<_}
+use Prim.Native.Nat.{ℕ, zero, suc, _+_, _-_, _≤_}
 use native.Mathlib.Omega.{arith}
 use mathlib.Core.Path.{_≡_, refl, sym, ap, ap₂, _∙_, subst}
-use mathlib.Core.List.{List, _++_}
-use lib.ListN.{length, drop, length-append}
-use borrow.Author.Tests.{lt-ltb, le-ltb}
-use borrow.Rule.Slice.PartMut.{midOf, putMid}
-use Rattle.lent.specs.Bytes.{Wrote, fitting}
-use Rattle.lent.specs.Regions.{put, puts, Room, Stored}
-use Rattle.lent.proofs.Regions.{length-put, stored-all}
-use Rattle.text.specs.Text.{cursor}
-use Rattle.block.specs.PositionBytes.{positionBytes, positionIn}
+use mathlib.Core.List.{List, [], _++_}
+use mathlib.Core.Bool.{true}
+use lib.Dec.{ltb}
+use borrow.Author.Tests.{ltb-false}
+use Rattle.lists.proofs.Laws.{by-pick}
+use lib.ListN.{length, drop, length-append, length-drop}
+use Rattle.lent.specs.Bytes.{fitting}
+use Rattle.lent.specs.Regions.{put, Stored}
+use Rattle.jkf.specs.Answers.{Outcome}
+use Rattle.jkf.specs.declared.Answer.{Answer}
+use Rattle.jkf.specs.declared.Answer.the-variants.{Done}
 use Rattle.jkf.specs.declared.Position.{Position}
-use Rattle.jkf.specs.declared.Answer.the-variants.{Done, BlockTooLong, BufferShort}
+use Rattle.jkf.specs.Model.{Header, Noted, Line}
+use Rattle.jkf.specs.Attaching.{Play, attach}
+use Rattle.block.specs.PositionBytes.{positionBytes, positionIn}
+use Rattle.block.specs.Encode.{table, lineRow, lineStep, blockLength, concat, headerText, entriesOf, commentsOf, commentText, encodeFlat, encode}
+use Rattle.block.specs.Decode.{run, headersIn, linesIn, movesIn, keyLength, valueLength, keyOf, valueOf, headerIn, notedIn, decode}
+use Rattle.block.specs.Sound.{Sound, headerBytes, entriesBefore}
 use Rattle.block.proofs.ByteArrays.{bytes-length}
 use Rattle.block.proofs.PositionsBack.{position-length}
-use Rattle.jkf.specs.Model.{Header, Noted, Line}
-use Rattle.jkf.specs.Attaching.{attach}
-use Rattle.block.specs.Encode.{table, lineRow, lineStep, headBytes, blockLength, headerText, entriesOf, commentsOf, commentText, encodeFlat, encode}
-use Rattle.block.specs.Decode.{run, headersIn, linesIn, keyLength, valueLength, keyOf, valueOf, headerIn, decode}
-use Rattle.block.specs.Sound.{Sound, headerBytes}
 use Rattle.block.proofs.Sums.{sum-none, sum-suc}
-use Rattle.block.proofs.Tabling.{table-length, length-run, run-snoc, concat-snoc, concat-none}
-use Rattle.block.proofs.RowPlaces.{line-wide}
-use Rattle.block.proofs.Lengths.{head-length, block-length}
+use Rattle.block.proofs.Tabling.{length-run, run-snoc, concat-snoc, concat-none}
+use Rattle.block.proofs.Lengths.{block-length}
 use Rattle.block.proofs.Within.{key-length, value-length}
-use Rattle.parser.specs.Filling.{entryTexts, entryEnds, HeadersFit, Headed, LinesFit}
-use Rattle.parser.specs.declared.Heads.{Heads}
-use Rattle.parser.specs.declared.Walk.{Walk}
-use Rattle.parser.specs.declared.Sizes.{Sizes}
-use Rattle.parser.proofs.Fronts.{front-put}
-use Rattle.parser.proofs.Hung.{attach-length}
-use Rattle.parser.proofs.Wholes.{head, linePlace, movePlace, commentPlace, textPlace as textStart, headers-room, lines-room, block-filled}
-use Rattle.edit.specs.Splicing.{relined, linesAfter, recordAfter, entriesAfter, sizesOf, Unfilled}
+use Rattle.block.proofs.Attached.{attach-length}
+use Rattle.filling.specs.Parts.{Headed}
+use Rattle.filling.specs.Filling.{unlessRefused, atFront, sizesOf, areSmall, lengthOf, onOpening, begun, opening, opened, Grown, grown, putHeaders, putNoted, putEntries}
+use Rattle.filling.specs.declared.Sizes.{Sizes}
+use Rattle.filling.specs.declared.Walk.{Walk}
+use Rattle.filling.specs.declared.Opening.{Opening}
+use Rattle.filling.specs.declared.Opening.the-variants.{Begun, Refused}
+use Rattle.filling.proofs.Growing.{headers-put, all-then}
+use Rattle.filling.proofs.Putting.{length-is, not-begun, begun-walk, begun-total, Opens, opens, refuses, unrefused}
+use Rattle.filling.proofs.Wholes.{headers-fit, block-by-rows}
+use Rattle.plays.specs.Counted.{playEntries}
+use Rattle.edit.specs.Splicing.{relined, linesAfter, recordAfter, entriesAfter, addedSizes, sizesAfter, headersPut, withRows, beginning, beginningOf}
 use Rattle.edit.specs.Outcomes.{storedOf}
 use Rattle.edit.proofs.Sounds.{entries-after}
+use Rattle.edit.proofs.Afresh.{after-length}
+use Rattle.edit.proofs.Measured.{entries-three, comments-three, bytes-three, sizes-same}
 
 -- ---- the header entries of a sound block
 
@@ -53,6 +59,25 @@ module _ (b : List ℕ) (s : Sound b) where
       ∙ ap length (concat-snoc (λ (x : Header). x .key ++ x .value) hs (headerIn b n)) ∙ length-append (headerText hs) (key ++ value) in
       omega (arith, e, length-append key value, key-length b s n (omega arith), value-length b s n (omega arith), texts-long n (omega arith), sum-suc (λ k. keyLength b k + valueLength b k) n)
 
+-- ---- a block that lacks its entries
+
+module _ (b rows o : List ℕ) {z y : Sizes} (sized : z ≡ y) {p : Position} (at : p ≡ positionIn (drop 28 b)) {o₁ : List ℕ} (left : o₁ ≡ opened 1 z p o) where
+  left-is : o₁ ≡ opened 1 y (positionIn (drop 28 b)) o
+  left-is = left ∙ ap₂ (λ (c : Sizes) (d : Position). opened 1 c d o) sized at
+
+  pub begins-not : {a : Answer} → Refused a ≡ opening z (length o) → (Refused a ≡ beginning b y o) × (o₁ ≡ beginningOf b y rows o)
+  unfolding beginning beginningOf
+  begins-not {a} e = rw (← (e ∙ ap (λ (c : Sizes). opening c (length o)) sized)) (refl, left-is)
+
+  pub begins : {w v : Walk} {n r : ℕ} {o₂ o₃ : List ℕ} → Begun w n ≡ opening z (length o) → v ≡ headersPut b w o₁ .walk → o₂ ≡ headersPut b w o₁ .buffer
+      → Stored (fitting rows (drop (v .lines) o₂)) o₂ o₃ (v .lines) r → (Begun v n ≡ beginning b y o) × (o₃ ≡ beginningOf b y rows o)
+  unfolding beginning beginningOf
+  begins {w} {v} {n} {r} {o₂} {o₃} e f g st =
+      let walk = f ∙ ap (λ (l : List ℕ). headersPut b w l .walk) left-is in
+      let buffer = g ∙ ap (λ (l : List ℕ). headersPut b w l .buffer) left-is in
+      rw (← (e ∙ ap (λ (c : Sizes). opening c (length o)) sized))
+      (ap (λ (c : Walk). Begun c n) walk, st .bytes ∙ ap₂ (λ (c : Walk) (l : List ℕ). withRows rows (grown c l)) walk buffer)
+
 -- ---- the block of the edited record
 
 -- a position that is read has all its bytes
@@ -60,189 +85,143 @@ pub position-long : (b : List ℕ) → length (positionBytes (positionIn (drop 2
 unfolding positionIn
 position-long b = position-length (positionIn (drop 28 b)) (bytes-length (drop 28 b) 4 81) (bytes-length (drop 28 b) 85 14)
 
-module _ (b : List ℕ) (s : Sound b) (p q : ℕ) (t : List ℕ) (within : (p ≤ q) × (q ≤ linesIn b)) where
+module _ (b : List ℕ) (s : Sound b) (p q : ℕ) (vs : List Play) (within : (p ≤ q) × (q ≤ linesIn b)) where
   abbrev hd : List Header
   hd = run (headerIn b) 0 (headersIn b)
 
   abbrev ls : List Line
-  ls = attach (linesAfter b p q t)
+  ls = attach (linesAfter b p q vs)
 
   abbrev start : Position
   start = positionIn (drop 28 b)
 
   abbrev block : List ℕ
-  block = encode (recordAfter b p q t)
-
-  block-long : length block
-      ≡ blockLength (length hd) (length ls) (length (entriesOf ls)) (length (commentsOf (entriesOf ls))) (length (headerText hd) + length (commentText (commentsOf (entriesOf ls))))
-  unfolding relined decode
-  block-long = block-length (recordAfter b p q t) (position-long b)
+  block = encode (recordAfter b p q vs)
 
   block-is : encodeFlat 1 (positionBytes start) hd ls (entriesOf ls) (commentsOf (entriesOf ls)) ≡ block
   unfolding encode relined decode
   block-is = ap (λ (v : ℕ). encodeFlat v (positionBytes start) hd ls (entriesOf ls) (commentsOf (entriesOf ls))) (sym (s .head .1 .1 .1 .1 .0))
 
-  entries-are : entriesOf ls ≡ entriesAfter b p q t
-  entries-are = entries-after b s p q t (within .0) (within .1)
+  entries-are : entriesOf ls ≡ entriesAfter b p q (playEntries vs)
+  entries-are = entries-after b s p q vs (within .0) (within .1)
 
-  module _ {z : Sizes} (sized : z ≡ sizesOf (length (linesAfter b p q t)) (entriesAfter b p q t)) {m : ℕ} (few : m ≡ headersIn b) where
-    z-headers : m ≡ length hd
-    z-headers = few ∙ sym (length-run (headerIn b) 0 (headersIn b))
+  -- it has the sizes that were reckoned
+  sizes-are : sizesAfter b p q (addedSizes vs) ≡ sizesOf hd ls
+  sizes-are =
+      let front = run (notedIn b) 0 (entriesBefore b p) in
+      let back = run (notedIn b) (entriesBefore b q) (movesIn b - entriesBefore b q) in
+      let own = playEntries vs in
+      let h : headersIn b ≡ length hd = sym (length-run (headerIn b) 0 (headersIn b)) in
+      let l : p + length vs + (linesIn b - q) ≡ length ls = sym (attach-length (linesAfter b p q vs) ∙ after-length b p q vs (within .0) (within .1)) in
+      let n : entriesBefore b p + length own + (movesIn b - entriesBefore b q) ≡ length (entriesOf ls) =
+      omega (arith, ap length entries-are, entries-three front own back, length-run (notedIn b) 0 (entriesBefore b p), length-run (notedIn b) (entriesBefore b q) (movesIn b - entriesBefore b q)) in
+      let c = sym (ap (λ (es : List Noted). length (commentsOf es)) entries-are ∙ comments-three front own back) in
+      let t = sym (ap (λ (es : List Noted). length (commentText (commentsOf es))) entries-are ∙ bytes-three front own back) in
+      sizes-same h l n c (ap₂ _+_ (texts-long b s (headersIn b) (omega arith)) t)
 
-    z-lines : z .lines ≡ length ls
-    z-lines = ap (λ (y : Sizes). y .lines) sized ∙ sym (attach-length (linesAfter b p q t))
+  module _ {added : Sizes} (counted : added ≡ addedSizes vs) (small : areSmall (sizesAfter b p q added) ≡ true) (second : ℕ) (o : List ℕ) where
+    abbrev z : Sizes
+    z = sizesAfter b p q added
 
-    z-entries : z .entries ≡ length (entriesOf ls)
-    z-entries = ap (λ (y : Sizes). y .entries) sized ∙ ap length (sym entries-are)
+    sized : z ≡ sizesOf hd ls
+    sized = ap (sizesAfter b p q) counted ∙ sizes-are
 
-    z-comments : z .comments ≡ length (commentsOf (entriesOf ls))
-    z-comments = ap (λ (y : Sizes). y .comments) sized ∙ ap (λ (l : List Noted). length (commentsOf l)) (sym entries-are)
+    block-long : lengthOf z ≡ length block
+    unfolding relined decode
+    block-long = sym (length-is z small) ∙ whole ∙ sym (block-length (recordAfter b p q vs) (position-long b))
+      where
+        sizeOf : Sizes → ℕ
+        sizeOf y = blockLength (y .headers) (y .lines) (y .entries) (y .comments) (y .bytes)
 
-    z-bytes : z .bytes ≡ length (commentText (commentsOf (entriesOf ls)))
-    z-bytes = ap (λ (y : Sizes). y .bytes) sized ∙ ap (λ (l : List Noted). length (commentText (commentsOf l))) (sym entries-are)
+        whole : sizeOf z ≡ sizeOf (sizesOf hd ls)
+        whole = ap sizeOf sized
 
-    pub block-total : {x : ℕ} → x ≡ headerBytes b (headersIn b) → blockLength m (z .lines) (z .entries) (z .comments) (x + z .bytes) ≡ length block
-    block-total {x} e =
-        omega (arith, block-long, e, texts-long b s (headersIn b) (omega arith), z-headers, z-lines, z-entries, z-comments, z-bytes)
+    -- refused
+    pub refused-stored : (rows : List ℕ) {a : Answer} {o₁ : List ℕ} → Refused a ≡ beginning b z o → o₁ ≡ beginningOf b z rows o
+        → (a ≡ storedOf block second o .answer) × (o₁ ≡ storedOf block second o .buffer)
+    unfolding beginning beginningOf storedOf
+    refused-stored rows {a} {o₁} e f = go (opening z (length o)) refl e f
+      where
+        done : Outcome
+        done = record { answer = Done (length block) second; buffer = atFront block o }
 
-    module _ {n : ℕ} (o : List ℕ) (fits : (n ≡ length block) × (n ≤ 65535) × (n ≤ length o)) where
-      size : n
-          ≡ blockLength (length hd) (length ls) (length (entriesOf ls)) (length (commentsOf (entriesOf ls))) (length (headerText hd) + length (commentText (commentsOf (entriesOf ls))))
-      size = fits .0 ∙ block-long
+        go : (r : Opening) → opening z (length o) ≡ r → Refused a ≡ onOpening r (λ w n. Begun (headersPut b w (opened 1 z start o) .walk) n) (λ c. Refused c)
+            → o₁ ≡ onOpening r (λ w n. withRows rows (headersPut b w (opened 1 z start o))) (λ c. opened 1 z start o) → (a ≡ unlessRefused (length block) o done .answer) × (o₁ ≡ unlessRefused (length block) o done .buffer)
+        go (Begun w n) k x y = not-begun (sym x)
+        go (Refused c) k x y =
+            subst (λ (n : ℕ). (a ≡ unlessRefused n o done .answer) × (o₁ ≡ unlessRefused n o done .buffer)) block-long
+            (refuses 1 z start o (x ∙ sym k) y done)
 
-      -- the places as they were reckoned
-      line-place : 128 + 8 * m ≡ linePlace n start hd ls
-      line-place = omega (arith, z-headers)
+    -- or filled in
+    pub begun-stored : {w : Walk} {n : ℕ} {rows o₁ o₂ : List ℕ} → rows ≡ table lineRow lineStep 0 ls → Begun w n ≡ beginning b z o → o₁ ≡ beginningOf b z rows o
+        → o₂ ≡ putEntries (entriesAfter b p q (playEntries vs)) w o₁ .buffer → (Done n second ≡ storedOf block second o .answer) × (o₂ ≡ storedOf block second o .buffer)
+    unfolding beginning beginningOf storedOf
+    begun-stored {w} {n} {rows} {o₁} {o₂} table-is e f d = go (opening z (length o)) refl e f
+      where
+        done : Outcome
+        done = record { answer = Done (length block) second; buffer = atFront block o }
 
-      move-place : 128 + 8 * m + 8 * z .lines ≡ movePlace n start hd ls
-      move-place = omega (arith, z-headers, z-lines)
+        go : (r : Opening) → opening z (length o) ≡ r → Begun w n ≡ onOpening r (λ v m. Begun (headersPut b v (opened 1 z start o) .walk) m) (λ c. Refused c)
+            → o₁ ≡ onOpening r (λ v m. withRows rows (headersPut b v (opened 1 z start o))) (λ c. opened 1 z start o)
+            → (Done n second ≡ unlessRefused (length block) o done .answer) × (o₂ ≡ unlessRefused (length block) o done .buffer)
+        go (Refused c) k x y = not-begun x
+        go (Begun v m) k x y =
+            let q = opened 1 z start o in
+            let t = subst (λ (c : Sizes). Opens 1 c start v m o q) sized (opens 1 z start o (sym k) refl) in
+            let g = headersPut b v q in
+            let filled = headers-put hd (headers-fit 1 start hd ls (position-long b) (t .short) o (t .room) q (t .front)) in
+            let headed : Headed hd (begun (sizesOf hd ls)) (g .walk) q (g .buffer) =
+            subst (λ (c : Walk). Headed hd (begun (sizesOf hd ls)) (putHeaders hd c q .walk) q (putHeaders hd c q .buffer)) (sym (t .walk)) filled in
+            let row = y ∙ ap (λ (c : List ℕ). put (g .buffer) (g .walk .lines) (fitting c (drop (g .walk .lines) (g .buffer)))) table-is in
+            let entered = d ∙ ap₂ (λ (c : List Noted) (u : Walk). putEntries c u o₁ .buffer) (sym entries-are) (begun-walk x) in
+            let long : lengthOf (sizesOf hd ls) ≡ length block = ap lengthOf (sym sized) ∙ block-long in
+            let last = block-by-rows 1 start hd ls (position-long b) (t .short) o (t .room) q (t .front) (g .walk) (g .buffer) headed row entered in
+            let fits = unrefused (length block) o done (omega (arith, long, t .short)) (omega (arith, long, t .room)) in (
+              ap (λ (c : ℕ). Done c second) (begun-total x ∙ t .total ∙ long) ∙ ap (λ (c : Outcome). c .answer) (sym fits),
+              last ∙ ap₂ _++_ block-is (ap (λ (c : ℕ). drop c o) long) ∙ ap (λ (c : Outcome). c .buffer) (sym fits),
+            )
 
-      comment-place : 128 + 8 * m + 8 * z .lines + 20 * z .entries ≡ commentPlace n start hd ls
-      comment-place = omega (arith, z-headers, z-lines, z-entries)
+-- it keeps the buffer's length
+pub stored-size : (block : List ℕ) (second : ℕ) (o : List ℕ) → length (storedOf block second o .buffer) ≡ length o
+unfolding storedOf
+stored-size block second o =
+    by-pick (λ (r : Outcome). length (r .buffer) ≡ length o) (ltb 65535 (length block)) _ _ (λ _. refl)
+    (λ _. by-pick (λ (r : Outcome). length (r .buffer) ≡ length o) (ltb (length o) (length block)) _ _ (λ _. refl)
+    (λ e. length-append block (drop (length block) o) ∙ omega (arith, length-drop (length block) o, ltb-false (length o) (length block) e)))
 
-      text-place : 128 + 8 * m + 8 * z .lines + 20 * z .entries + 4 * z .comments ≡ textStart n start hd ls
-      text-place = omega (arith, z-headers, z-lines, z-entries, z-comments)
+-- ---- the entries, put run by run
 
-      -- the numbers of the head have 16 bits
-      pub reckoned : blockLength m (z .lines) (z .entries) (z .comments) 0 ≤ 65535
-      reckoned = omega (arith, z-headers, z-lines, z-entries, z-comments, size, fits .1)
+-- those before line p, and those from line q on
+module _ (b : List ℕ) (p q : ℕ) (w : Walk) (o : List ℕ) {before after moves : ℕ} (e : before ≡ entriesBefore b p) (f : after ≡ entriesBefore b q) (g : moves ≡ movesIn b)
+    {v : Walk} {o₁ : List ℕ} (a : v ≡ putEntries (run (notedIn b) 0 before) w o .walk) (c : o₁ ≡ putEntries (run (notedIn b) 0 before) w o .buffer) where
+  abbrev front : List Noted
+  front = run (notedIn b) 0 (entriesBefore b p)
 
-      pub head-room : 128 ≤ length o
-      head-room = omega (arith, size, fits .2)
+  abbrev back : List Noted
+  back = run (notedIn b) (entriesBefore b q) (movesIn b - entriesBefore b q)
 
-      abbrev front : List ℕ
-      front = headBytes 1 n m (z .lines) (z .entries) (z .comments)
+  back-is : run (notedIn b) after (moves - after) ≡ back
+  back-is = ap₂ (λ (i j : ℕ). run (notedIn b) i (j - i)) f g
 
-      -- the head
-      head-stored : {o₁ : List ℕ} {r : ℕ} → Stored (fitting front o) o o₁ 0 r → o₁ ≡ put o 0 front
-      head-stored one = stored-all {t = front} {o = o} (omega (arith, head-length 1 n m (z .lines) (z .entries) (z .comments), head-room)) one .bytes
+  walk-is : v ≡ putEntries front w o .walk
+  walk-is = a ∙ ap (λ (i : ℕ). putEntries (run (notedIn b) 0 i) w o .walk) e
 
-      -- and the position
-      pub front-stored : {o₁ o₂ : List ℕ} {r j : ℕ} {y : Position} → y ≡ start → Stored (fitting front o) o o₁ 0 r → Stored (fitting (positionBytes y) (drop 28 o₁)) o₁ o₂ 28 j
-          → o₂ ≡ put o 0 (front ++ positionBytes start)
-      front-stored {o₁} {o₂} {r} {j} {y} e one two =
-          front-put front start o (head-length 1 n m (z .lines) (z .entries) (z .comments)) head-room (position-long b) (head-stored one)
-          (subst (λ (a : Position). Stored (fitting (positionBytes a) (drop 28 o₁)) o₁ o₂ 28 j) e two)
+  buffer-is : o₁ ≡ putEntries front w o .buffer
+  buffer-is = c ∙ ap (λ (i : ℕ). putEntries (run (notedIn b) 0 i) w o .buffer) e
 
-      module _ {o₁ : List ℕ} (one : o₁ ≡ put o 0 (front ++ positionBytes start)) where
-        first-is : o₁ ≡ put o 0 (head n start hd ls)
-        first-is =
-            one ∙ ap (λ (k : ℕ). put o 0 (headBytes 1 n k (z .lines) (z .entries) (z .comments) ++ positionBytes start)) z-headers
-            ∙ ap (λ (k : ℕ). put o 0 (headBytes 1 n (length hd) k (z .entries) (z .comments) ++ positionBytes start)) z-lines
-            ∙ ap (λ (k : ℕ). put o 0 (headBytes 1 n (length hd) (length ls) k (z .comments) ++ positionBytes start)) z-entries
-            ∙ ap (λ (k : ℕ). put o 0 (headBytes 1 n (length hd) (length ls) (length (entriesOf ls)) k ++ positionBytes start)) z-comments
+  -- with new ones between them
+  pub put-between : {es own : List Noted} {u : Walk} {o₂ o₃ : List ℕ} → es ≡ own → u ≡ putEntries es v o₁ .walk → o₂ ≡ putEntries es v o₁ .buffer
+      → o₃ ≡ putEntries (run (notedIn b) after (moves - after)) u o₂ .buffer → o₃ ≡ putEntries (entriesAfter b p q own) w o .buffer
+  put-between {es} {own} {u} {o₂} {o₃} k x y t =
+      let x₁ = x ∙ ap₂ (λ (c : Walk) (l : List ℕ). putEntries es c l .walk) walk-is buffer-is ∙ ap (λ (l : List Noted). putEntries l (putEntries front w o .walk) (putEntries front w o .buffer) .walk) k in
+      let y₁ = y ∙ ap₂ (λ (c : Walk) (l : List ℕ). putEntries es c l .buffer) walk-is buffer-is ∙ ap (λ (l : List Noted). putEntries l (putEntries front w o .walk) (putEntries front w o .buffer) .buffer) k in
+      t ∙ ap (λ (l : List Noted). putEntries l u o₂ .buffer) back-is ∙ ap₂ (λ (c : Walk) (l : List ℕ). putEntries back c l .buffer) x₁ y₁
+      ∙ ap (λ (r : Grown). r .buffer) (sym (all-then putNoted own back (putEntries front w o .walk) (putEntries front w o .buffer)))
+      ∙ ap (λ (r : Grown). r .buffer) (sym (all-then putNoted front (own ++ back) w o))
 
-        abbrev begins : Heads
-        begins = record { rows = 128; text = 128 + 8 * m + 8 * z .lines + 20 * z .entries + 4 * z .comments; bytes = 0 }
-
-        begins-is : begins ≡ record { rows = 128; text = textStart n start hd ls; bytes = 0 }
-        begins-is = ap (λ (k : ℕ). heads k) text-place
-          where
-            heads : ℕ → Heads
-            heads k = record { rows = 128; text = k; bytes = 0 }
-
-        pub headers-fit : HeadersFit hd begins o₁
-        headers-fit = headers-room n start hd ls (position-long b) o size (fits .2) o₁ first-is begins begins-is (fits .1)
-
-        module _ {r : Heads} {o₂ : List ℕ} (two : Headed hd begins r o₁ o₂) where
-          abbrev walk : Walk
-          walk =
-              record {
-                moves = 128 + 8 * m + 8 * z .lines;
-                comments = 128 + 8 * m + 8 * z .lines + 20 * z .entries;
-                text = r .text;
-                entries = 0;
-                noted = 0;
-                bytes = r .bytes;
-                next = cursor 0;
-              }
-
-          walk-is : walk ≡ record { moves = movePlace n start hd ls; comments = commentPlace n start hd ls; text = r .text; entries = 0; noted = 0; bytes = r .bytes; next = cursor 0 }
-          walk-is = ap (λ (k : ℕ). walked k (128 + 8 * m + 8 * z .lines + 20 * z .entries)) move-place ∙ ap (λ (k : ℕ). walked (movePlace n start hd ls) k) comment-place
-            where
-              walked : ℕ → ℕ → Walk
-              walked i j = record { moves = i; comments = j; text = r .text; entries = 0; noted = 0; bytes = r .bytes; next = cursor 0 }
-
-          lines-fit : LinesFit ls (linePlace n start hd ls) walk o₂
-          lines-fit = lines-room n start hd ls (position-long b) o size (fits .2) o₁ first-is begins r o₂ begins-is two walk (cursor 0) walk-is (fits .1)
-
-          -- the rows of the lines
-          module _ {rows : List ℕ} (rows-are : rows ≡ table lineRow lineStep 0 ls) {o₃ : List ℕ} {e : ℕ}
-              (three : Stored (fitting rows (drop (128 + 8 * m) o₂)) o₂ o₃ (128 + 8 * m) e) where
-            rows-put : o₃ ≡ put o₂ (128 + 8 * m) rows
-            rows-put =
-                let f = lines-fit .room in
-                stored-all {t = rows} (omega (arith, line-place, ap length rows-are, f .0, f .1 .0, f .1 .1 .0, f .1 .1 .1 .0)) three .bytes
-
-            same-room : length o₃ ≡ length o₂
-            same-room = ap length rows-put ∙ length-put o₂ (128 + 8 * m) rows
-
-            pub entries-unfilled : Unfilled (entriesAfter b p q t) walk o₃
-            entries-unfilled =
-                subst (λ (es : List Noted). Unfilled es walk o₃) entries-are
-                (record {
-                  none = refl;
-                  unnoted = refl;
-                  start = refl;
-                  entries = lines-fit .entries;
-                  comments = lines-fit .comments;
-                  bytes = lines-fit .bytes;
-                  room = subst (λ (k : ℕ). Room k (entryEnds walk) (entryTexts 0 (walk .bytes) (entriesOf ls))) (sym same-room) (lines-fit .room .1);
-                })
-
-            pub block-stored : {o₄ : List ℕ} → o₄ ≡ puts o₃ (entryEnds walk) (entryTexts 0 (walk .bytes) (entriesAfter b p q t)) → o₄ ≡ block ++ drop n o
-            block-stored {o₄} q =
-                block-filled n start hd ls (position-long b) o size (fits .2) o₁ first-is begins r o₂ begins-is two walk (cursor 0) walk-is
-                (q ∙ ap (λ (es : List Noted). puts o₃ (entryEnds walk) (entryTexts 0 (walk .bytes) es)) (sym entries-are)
-                ∙ ap (λ (u : List ℕ). puts u (entryEnds walk) (entryTexts 0 (walk .bytes) (entriesOf ls))) (rows-put ∙ ap₂ (put o₂) line-place rows-are))
-                ∙ ap (λ (l : List ℕ). l ++ drop n o) block-is
-
--- ---- the answer
-
--- rows of 8 bytes, counted
-pub rows-counted : (b : List ℕ) (p q : ℕ) (t : List ℕ) {rows : List ℕ} {z : Sizes} → rows ≡ table lineRow lineStep 0 (attach (linesAfter b p q t))
-    → z ≡ sizesOf (length rows / 8) (entriesAfter b p q t) → z ≡ sizesOf (length (linesAfter b p q t)) (entriesAfter b p q t)
-rows-counted b p q t {rows} {z} e f =
-    let ps = linesAfter b p q t in
-    let l : length rows ≡ 8 * length (attach ps) = ap length e ∙ table-length lineRow lineStep 8 line-wide 0 (attach ps) in
-    let n : length rows / 8 ≡ length ps = omega (arith, attach-length ps) in
-    f ∙ ap (λ (k : ℕ). sizesOf k (entriesAfter b p q t)) n
-
-pub rows-few : (n : ℕ) (es : List Noted) {z : Sizes} → z ≡ sizesOf (n / 8) es → 8 * z .lines ≤ n
-rows-few n es e = omega (arith, ap (λ (y : Sizes). y .lines) e)
-
-module _ (block : List ℕ) (second : ℕ) (o : List ℕ) {n : ℕ} (is : n ≡ length block) where
-  pub stored-long : 65535 < n → (BlockTooLong n ≡ storedOf block second o .answer) × (o ≡ storedOf block second o .buffer)
-  unfolding storedOf
-  stored-long h = rw (lt-ltb 65535 (length block) (omega arith)) (ap BlockTooLong is, refl)
-
-  module _ (short : n ≤ 65535) where
-    pub stored-short : length o < n → (BufferShort n ≡ storedOf block second o .answer) × (o ≡ storedOf block second o .buffer)
-    unfolding storedOf
-    stored-short h = rw (le-ltb 65535 (length block) (omega arith), lt-ltb (length o) (length block) (omega arith)) (ap BufferShort is, refl)
-
-    pub stored-whole : {o₁ : List ℕ} → n ≤ length o → o₁ ≡ block ++ drop n o → (Done n second ≡ storedOf block second o .answer) × (o₁ ≡ storedOf block second o .buffer)
-    unfolding storedOf
-    stored-whole {o₁} h e =
-        rw (le-ltb 65535 (length block) (omega arith), le-ltb (length o) (length block) (omega arith))
-        (ap (λ (k : ℕ). Done k second) is, e ∙ ap (λ (k : ℕ). block ++ drop k o) is)
+  -- with none
+  pub put-next : {o₂ : List ℕ} → o₂ ≡ putEntries (run (notedIn b) after (moves - after)) v o₁ .buffer → o₂ ≡ putEntries (entriesAfter b p q (playEntries [])) w o .buffer
+  unfolding concat
+  put-next t =
+      t ∙ ap (λ (l : List Noted). putEntries l v o₁ .buffer) back-is ∙ ap₂ (λ (c : Walk) (l : List ℕ). putEntries back c l .buffer) walk-is buffer-is
+      ∙ ap (λ (r : Grown). r .buffer) (sym (all-then putNoted front back w o))

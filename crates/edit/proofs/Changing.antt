@@ -19,8 +19,8 @@ use Rattle.jkf.specs.Attaching.{Play, starts, parentIn, attach}
 use Rattle.block.specs.Decode.{run, linesIn, parentOf, lineIn, decode}
 use Rattle.block.proofs.Tabling.{run-next, run-end}
 use Rattle.block.proofs.LineTables.{le16-take}
-use Rattle.parser.proofs.Hung.{attach-length, attach-line, parent-first}
-use Rattle.parser.proofs.Rowed.{parent-back}
+use Rattle.block.proofs.Attached.{attach-length, attach-line, parent-first}
+use Rattle.block.proofs.LineTables.{parent-back}
 use Rattle.edit.specs.Edit.{renumbered, none, line, changedFrom}
 use Rattle.edit.specs.Splicing.{AllRowed}
 use Rattle.edit.proofs.Nearing.{renumbered-low, renumbered-high}

@@ -13,7 +13,7 @@ use lib.ListN.{length, getD, take, drop, length-append, length-drop}
 use lib.Seq.{length-take-le, getD-drop}
 use Rattle.jkf.specs.Attaching.{near, all, Play, play, starts, counts, parentIn, allHung}
 use Rattle.jkf.proofs.Nears.{near-before, near-last, Hangs}
-use Rattle.parser.proofs.Hung.{parent-first, parent-later}
+use Rattle.block.proofs.Attached.{parent-first, parent-later}
 use Rattle.edit.specs.Edit.{notBelow, removedFrom, lowered, Kept}
 use Rattle.edit.specs.Splicing.{without, Lines}
 use Rattle.edit.proofs.Leading.{Runs, notBelow-leads, behind}

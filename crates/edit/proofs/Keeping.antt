@@ -18,7 +18,7 @@ use Rattle.jkf.specs.Attaching.{near, all, Play, starts, counts, parentIn, atta
 use Rattle.jkf.proofs.Nears.{near-before, Hangs}
 use Rattle.jkf.specs.Model.{Line}
 use Rattle.block.specs.Formed.{lineOf}
-use Rattle.parser.proofs.Hung.{attach-length, attach-line, parent-first, parent-later}
+use Rattle.block.proofs.Attached.{attach-length, attach-line, parent-first, parent-later}
 use Rattle.edit.specs.Edit.{placeOf, putIn, renumbered, none, line, changedFrom}
 use Rattle.edit.specs.Splicing.{Lines}
 use Rattle.edit.proofs.Nearing.{put-kept, renumbered-low, renumbered-high, hangs-there, hang-moved, hung-all}

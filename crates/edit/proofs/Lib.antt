@@ -1,6 +1,5 @@
 pub mod Rests
 pub mod Copied
-pub mod Headers
 pub mod Played
 pub mod Leading
 pub mod Nearing
@@ -12,7 +11,6 @@ pub mod Texts
 pub mod Sounds
 pub mod Rowing
 pub mod Measured
-pub mod Spliced
 pub mod Assembled
 pub mod Changing
 pub mod Afresh

@@ -15,7 +15,7 @@ plays-append : (ls ms : List Line) → playsIn (ls ++ ms) ≡ playsIn ls ++ play
 plays-append [] ms = refl
 plays-append (l ∷ ls) ms = ap (λ (ps : List Play). play (l .start) (l .entries) ∷ ps) (plays-append ls ms)
 
-plays-take : (n : ℕ) (ls : List Line) → playsIn (take n ls) ≡ take n (playsIn ls)
+pub plays-take : (n : ℕ) (ls : List Line) → playsIn (take n ls) ≡ take n (playsIn ls)
 plays-take zero ls = refl
 plays-take (suc n) [] = refl
 plays-take (suc n) (l ∷ ls) = ap (λ (ps : List Play). play (l .start) (l .entries) ∷ ps) (plays-take n ls)

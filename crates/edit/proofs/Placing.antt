@@ -22,7 +22,7 @@ use Rattle.jkf.specs.declared.Hang.the-variants.{On}
 use Rattle.jkf.proofs.Nears.{hangs-made, Hangs}
 use Rattle.jkf.specs.Model.{Line}
 use Rattle.block.specs.Formed.{lineOf}
-use Rattle.parser.proofs.Hung.{all-hang, attach-length, attach-line, parent-later}
+use Rattle.block.proofs.Attached.{all-hang, attach-length, attach-line, parent-later}
 use Rattle.edit.specs.Edit.{isPlyOf, carries, above, placeOf, putIn, renumbered}
 use Rattle.edit.specs.Splicing.{Lines}
 use Rattle.edit.proofs.Leading.{Runs, above-leads, behind}

@@ -31,10 +31,11 @@ use Rattle.block.specs.Encode.{table, concat, lineRow, lineStep, entriesOf}
 use Rattle.block.specs.Decode.{linesIn, startOf, firstEntry, entryCount, notedIn, decode}
 use Rattle.block.proofs.Tabling.{after, table-snoc, after-adds, length-run, concat-sum, concat-next}
 use Rattle.block.proofs.LineTables.{le16-take}
-use Rattle.parser.specs.Filling.{playEntries}
-use Rattle.parser.proofs.Rowed.{line, start-back, count-back, parent-back}
-use Rattle.parser.proofs.Lining.{hangs-before}
-use Rattle.parser.proofs.Hung.{no-parent, attach-length, attach-line}
+use Rattle.plays.specs.Counted.{playEntries}
+use Rattle.filling.proofs.Growing.{line}
+use Rattle.block.proofs.LineTables.{start-back, count-back, parent-back}
+use Rattle.jkf.proofs.Hangings.{hangs-before}
+use Rattle.block.proofs.Attached.{no-parent, attach-length, attach-line}
 use Rattle.edit.specs.Edit.{playsIn}
 use Rattle.edit.specs.Splicing.{spliced, playIn, rowAfter, RowsFit, Rowed, Keeps, Adds, AllRowed}
 use Rattle.edit.proofs.Placing.{parent-near, in-front, past-front}

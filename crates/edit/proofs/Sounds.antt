@@ -24,16 +24,16 @@ use Rattle.block.specs.Formed.{lineOf}
 use Rattle.block.proofs.Sums.{sum-more, sum-rises, sum-within, sum-some}
 use Rattle.block.proofs.Hanging.{hang-first, hang-says}
 use Rattle.block.proofs.Tabling.{run-add, run-all, concat-append, take-run, drop-run}
-use Rattle.parser.specs.Plays.{plyAt}
-use Rattle.parser.specs.Filling.{playEntries}
-use Rattle.parser.proofs.Hung.{start-low, attach-length, attach-entries, attach-line, parent-first, parent-later}
+use Rattle.plays.specs.Plays.{plyAt}
+use Rattle.plays.specs.Counted.{playEntries}
+use Rattle.block.proofs.Attached.{start-low, attach-length, attach-entries, attach-line, parent-first, parent-later}
 use Rattle.edit.specs.Edit.{playsIn, isVariation, variationOf, isPlyOf, carries, putIn, removedFrom}
-use Rattle.edit.specs.Splicing.{without, linesOf, spliced, linesAfter, Lines, playIn, RowsFit, entriesAfter}
+use Rattle.edit.specs.Splicing.{without, linesAfter, Lines, playIn, RowsFit, entriesAfter}
 use Rattle.edit.proofs.Played.{plays-are, play-is, starts-is, counts-is, plays-long}
 use Rattle.edit.proofs.Nearing.{Put, Cut, hang-moved, hung-all}
 use Rattle.edit.proofs.Placing.{PutsIn, put-length, put-list, ply-within}
 use Rattle.edit.proofs.Cutting.{CutsOut, cut-length, cut-list, run-within, lines-after-cut}
-use Rattle.edit.proofs.Texts.{text-small, no-lines, one-variation, lines-entries}
+use Rattle.edit.proofs.Texts.{text-small, variation-says}
 
 -- without the parents that they were given, lines are what they were
 module _ (ps : List Play) where
@@ -135,12 +135,12 @@ module _ (b : List ℕ) (s : Sound b) where
       ∙ entries-of (linesIn b - q) q (omega arith)
       ∙ ap (λ (i : ℕ). run (notedIn b) (entriesBefore b q) (i - entriesBefore b q)) (ap (entriesBefore b) e ∙ before-all)
 
-  pub entries-after : (p q : ℕ) (t : List ℕ) → p ≤ q → q ≤ linesIn b → entriesOf (attach (linesAfter b p q t)) ≡ entriesAfter b p q t
-  entries-after p q t h l =
-      attach-entries (linesAfter b p q t)
-      ∙ concat-append (λ (x : Play). x .entries) (take p ps) (linesOf t ++ drop q ps)
+  pub entries-after : (p q : ℕ) (vs : List Play) → p ≤ q → q ≤ linesIn b → entriesOf (attach (linesAfter b p q vs)) ≡ entriesAfter b p q (playEntries vs)
+  entries-after p q vs h l =
+      attach-entries (linesAfter b p q vs)
+      ∙ concat-append (λ (x : Play). x .entries) (take p ps) (vs ++ drop q ps)
       ∙ ap₂ _++_ (entries-front p (omega arith))
-      (concat-append (λ (x : Play). x .entries) (linesOf t) (drop q ps) ∙ ap₂ _++_ (lines-entries t) (entries-back q l))
+      (concat-append (λ (x : Play). x .entries) vs (drop q ps) ∙ ap (λ (es : List Noted). playEntries vs ++ es) (entries-back q l))
 
   -- ---- how many lines there are
 
@@ -216,10 +216,8 @@ module _ (b : List ℕ) (s : Sound b) where
 
   -- with a variation put in
   pub put-fits : (n : ℕ) → n ≤ linesIn b → (t : List ℕ) → isVariation t ≡ true → plyAt t 0 < 65536 → Lines (putIn n (variationOf t) ps)
-      → RowsFit (linesAfter b n n t) 18688
-  put-fits n h t v j w =
-      let (short, e) = one-variation t v in
-      subst (λ (vs : List Play). RowsFit (spliced n n vs ps) 18688) (sym e) (rows-fit (putIn n (variationOf t) ps) w (omega (arith, long, lines-few)) (each short))
+      → RowsFit (linesAfter b n n (variationOf t ∷ [])) 18688
+  put-fits n h t v j w = rows-fit (putIn n (variationOf t) ps) w (omega (arith, long, lines-few)) (each (variation-says t v .0))
     where
       fits : n ≤ length ps
       fits = omega (arith, plays-long b)
@@ -234,9 +232,7 @@ module _ (b : List ℕ) (s : Sound b) where
 
   -- with what hangs from line k cut out
   pub cut-fits : (k : ℕ) → 0 < k → k < linesIn b → RowsFit (linesAfter b k (k + removedFrom ps k) []) 18688
-  cut-fits k z h =
-      subst (λ (vs : List Play). RowsFit (spliced k (k + removedFrom ps k) vs ps) 18688) (sym no-lines)
-      (rows-fit (without k (removedFrom ps k) ps) (lines-after-cut ps k ok) (omega (arith, long, plays-long b, lines-few)) each)
+  cut-fits k z h = rows-fit (without k (removedFrom ps k) ps) (lines-after-cut ps k ok) (omega (arith, long, plays-long b, lines-few)) each
     where
       ok : CutsOut ps k
       ok = record { lines = lines-hang; later = z; line = omega (arith, plays-long b) }

@@ -11,7 +11,7 @@ use Rattle.jkf.specs.declared.Answer.{Answer}
 use Rattle.jkf.specs.declared.Answer.the-variants.{NoSuchPart, NotOneVariation, OutsideLine, EntryTaken, ParentChanges}
 use Rattle.jkf.specs.Model.{Line, Record}
 use Rattle.jkf.specs.Attaching.{Play, play, starts, counts, parentIn, attach}
-use Rattle.parser.specs.Plays.{entriesAt, plyAt}
+use Rattle.plays.specs.Plays.{entriesAt, plyAt}
 
 -- ---- the lines afresh
 
@@ -71,6 +71,7 @@ above j (p ∷ ps) = let r = above j ps in pick (leb (p .start) j) 0 (suc r)
 abbrev pub placeOf : List Play → ℕ → ℕ → ℕ
 placeOf ps k j = k + 1 + above j (drop (k + 1) ps)
 
+-- A line of play more, as number n.
 abbrev pub putIn : ℕ → Play → List Play → List Play
 putIn n p ps = take n ps ++ (p ∷ drop n ps)
 
@@ -88,6 +89,7 @@ putLine n l ls = let qs = map (reparented (renumbered n)) ls in take n qs ++ (l 
 abbrev pub lineOn : ℕ → Play → Line
 lineOn k v = record { start = v .start; parent = k; entries = v .entries }
 
+-- Whether an old line would hang on another, and which.
 pub data Changed : Type 0 where
   none : Changed
   line : ℕ → Changed
@@ -138,10 +140,11 @@ notBelow s (p ∷ ps) = let r = notBelow s ps in pick (leb s (p .start)) (suc r)
 abbrev pub removedFrom : List Play → ℕ → ℕ
 removedFrom ps k = 1 + notBelow (starts ps k) (drop (k + 1) ps)
 
--- A line's number once m lines from line k on are gone, and the lines that stay.
+-- A line's number once m lines from line k on are gone.
 abbrev pub lowered : ℕ → ℕ → ℕ → ℕ
 lowered k m i = pick (leb k i) (i - m) i
 
+-- Line i is none of m lines from line k on.
 abbrev pub Kept : ℕ → ℕ → ℕ → Type 0
 Kept k m i = k ≤ i → k + m ≤ i
 

@@ -1,25 +1,20 @@
 -- What `put_in` and `cut` answer, and what the lent buffer then holds.                                (01, Numbers of refusal)
 -- Assumes nothing: these are definitions.
 use Prim.Native.Nat.{ℕ}
-use mathlib.Core.List.{List, _++_}
-use lib.ListN.{length, drop}
-use lib.Dec.{ltb}
+use mathlib.Core.List.{List}
+use lib.ListN.{length}
 use Rattle.lists.specs.Pick.{pick}
 use Rattle.jkf.specs.Answers.{Outcome, refuse}
-use Rattle.jkf.specs.declared.Answer.the-variants.{Done, BlockTooLong, BufferShort, NotSound}
+use Rattle.jkf.specs.declared.Answer.the-variants.{Done, NotSound}
 use Rattle.block.specs.Encode.{encode}
 use Rattle.block.specs.Decode.{decode}
 use Rattle.block.specs.Sound.{soundb}
+use Rattle.filling.specs.Filling.{unlessRefused, atFront}
 use Rattle.edit.specs.Edit.{Edited, edited, refused, insert, remove}
 
 -- The block of the edited record stands at the front of the buffer, and nothing past it changes.
 unfoldable pub storedOf : List ℕ → ℕ → List ℕ → Outcome
-storedOf b second o =
-    pick (ltb 65535 (length b))
-    (refuse (BlockTooLong (length b)) o)
-    (pick (ltb (length o) (length b))
-    (refuse (BufferShort (length b)) o)
-    (record { answer = Done (length b) second; buffer = b ++ drop (length b) o }))
+storedOf b second o = unlessRefused (length b) o (record { answer = Done (length b) second; buffer = atFront b o })
 
 unfoldable pub editedOf : Edited → List ℕ → Outcome
 editedOf (edited r second) o = storedOf (encode r) second o

@@ -1,32 +1,28 @@
--- On the way to an edited block: the lines before line p, those of a text, and the lines from line q on; their rows, and their entries.
+-- On the way to an edited block: the lines before line p, new ones, and the lines from line q on; their rows, and their entries.
 -- Assumes nothing: these are definitions.
 use Prim.Native.Nat.{ℕ, _+_, _*_, _-_, _≤_, _<_}
 use mathlib.Core.Path.{_≡_}
-use mathlib.Core.List.{List, [], _∷_, _++_}
+use mathlib.Core.List.{List, _++_}
 use lib.ListN.{length, take, drop}
-use lib.Dec.{eqb}
-use Rattle.lists.specs.Pick.{pick}
-use Rattle.lent.specs.Bytes.{bytes16}
-use Rattle.lent.specs.Regions.{Room}
-use Rattle.text.specs.Text.{cursor}
+use Rattle.lent.specs.Bytes.{bytes16, fitting}
+use Rattle.lent.specs.Regions.{put}
 use Rattle.jkf.specs.declared.Answer.the-variants.{ParentChanges}
 use Rattle.jkf.specs.Attaching.{onHang, all, Play, play, playOf, starts, counts, attach, allHung}
 use Rattle.jkf.specs.Following.{hangsBy}
 use Rattle.jkf.specs.Model.{Noted, Record}
 use Rattle.block.specs.Encode.{table, lineRow, lineStep, commentsOf, commentText}
-use Rattle.block.specs.Decode.{run, movesIn, startOf, firstEntry, entryCount, notedIn, decode}
-use Rattle.block.specs.Sound.{entriesBefore}
-use Rattle.parser.specs.Plays.{entriesAt}
-use Rattle.parser.specs.Filling.{playEntries, entryTexts, entryEnds}
-use Rattle.parser.specs.declared.Sizes.{Sizes}
-use Rattle.parser.specs.declared.Walk.{Walk}
-use Rattle.edit.specs.Edit.{playsIn, Edited, edited, refused, variationOf, putIn, changedFrom, onChanged}
+use Rattle.block.specs.Decode.{run, headersIn, linesIn, movesIn, headerIn, startOf, firstEntry, entryCount, notedIn, decode}
+use Rattle.block.specs.Sound.{headerBytes, entriesBefore}
+use Rattle.block.specs.PositionBytes.{positionIn}
+use Rattle.filling.specs.Filling.{onOpening, opening, opened, Grown, putHeaders}
+use Rattle.filling.specs.declared.Sizes.{Sizes}
+use Rattle.filling.specs.declared.Walk.{Walk}
+use Rattle.filling.specs.declared.Opening.{Opening}
+use Rattle.filling.specs.declared.Opening.the-variants.{Begun, Refused}
+use Rattle.plays.specs.Counted.{playEntries}
+use Rattle.edit.specs.Edit.{playsIn, Edited, edited, refused, putIn, changedFrom, onChanged}
 
 -- ---- the lines
-
--- The line of a text; none where it has no entry.
-abbrev pub linesOf : List ℕ → List Play
-linesOf t = pick (eqb (length (entriesAt t 0 .state)) 0) [] (variationOf t ∷ [])
 
 -- A record with other lines of play, each hung by the attaching rule.
 unfoldable pub relined : Record → List Play → Record
@@ -46,11 +42,11 @@ without k n ps = take k ps ++ drop (k + n) ps
 abbrev pub spliced : ℕ → ℕ → List Play → List Play → List Play
 spliced p q vs ps = take p ps ++ (vs ++ drop q ps)
 
-abbrev pub linesAfter : List ℕ → ℕ → ℕ → List ℕ → List Play
-linesAfter b p q t = spliced p q (linesOf t) (playsIn (decode b .lines))
+abbrev pub linesAfter : List ℕ → ℕ → ℕ → List Play → List Play
+linesAfter b p q vs = spliced p q vs (playsIn (decode b .lines))
 
-abbrev pub recordAfter : List ℕ → ℕ → ℕ → List ℕ → Record
-recordAfter b p q t = relined (decode b) (linesAfter b p q t)
+abbrev pub recordAfter : List ℕ → ℕ → ℕ → List Play → Record
+recordAfter b p q vs = relined (decode b) (linesAfter b p q vs)
 
 -- Lines of play that all hang, the first of them the main line.
 pub record Lines (ps : List Play) : Type 0 where
@@ -100,28 +96,57 @@ pub record AllRowed (ps : List Play) (rows : List ℕ) : Type 0 where
 
 -- ---- their entries
 
-abbrev pub entriesAfter : List ℕ → ℕ → ℕ → List ℕ → List Noted
-entriesAfter b p q t =
-    run (notedIn b) 0 (entriesBefore b p)
-    ++ (entriesAt t 0 .state ++ run (notedIn b) (entriesBefore b q) (movesIn b - entriesBefore b q))
+abbrev pub entriesAfter : List ℕ → ℕ → ℕ → List Noted → List Noted
+entriesAfter b p q es =
+    run (notedIn b) 0 (entriesBefore b p) ++ (es ++ run (notedIn b) (entriesBefore b q) (movesIn b - entriesBefore b q))
 
--- So many lines with these entries, counted.
-abbrev pub sizesOf : ℕ → List Noted → Sizes
-sizesOf lines es =
+-- How many comments a run of the block's entries has, and how many bytes these have.
+abbrev pub commentsWithin : List ℕ → ℕ → ℕ → ℕ
+commentsWithin b k n = length (commentsOf (run (notedIn b) k n))
+
+abbrev pub bytesWithin : List ℕ → ℕ → ℕ → ℕ
+bytesWithin b k n = length (commentText (commentsOf (run (notedIn b) k n)))
+
+-- New lines, counted; and the sizes of the block that has them.
+abbrev pub addedSizes : List Play → Sizes
+addedSizes vs =
     record {
-      lines = lines;
-      entries = length es;
-      comments = length (commentsOf es);
-      bytes = length (commentText (commentsOf es));
-      next = cursor 0;
+      headers = 0;
+      lines = length vs;
+      entries = length (playEntries vs);
+      comments = length (commentsOf (playEntries vs));
+      bytes = length (commentText (commentsOf (playEntries vs)));
     }
 
--- None of these entries is filled in yet, there is room for them, and numbers of 16 bits do for them.
-pub record Unfilled (es : List Noted) (w : Walk) (o : List ℕ) : Type 0 where
-  pub none : w .entries ≡ 0
-  pub unnoted : w .noted ≡ 0
-  pub start : w .next .at ≡ 0
-  pub entries : length es ≤ 65535
-  pub comments : length (commentsOf es) ≤ 65535
-  pub bytes : w .bytes + length (commentText (commentsOf es)) ≤ 65535
-  pub room : Room (length o) (entryEnds w) (entryTexts 0 (w .bytes) es)
+abbrev pub sizesAfter : List ℕ → ℕ → ℕ → Sizes → Sizes
+sizesAfter b p q z =
+    let back = movesIn b - entriesBefore b q in
+    record {
+      headers = headersIn b;
+      lines = p + z .lines + (linesIn b - q);
+      entries = entriesBefore b p + z .entries + back;
+      comments = commentsWithin b 0 (entriesBefore b p) + z .comments + commentsWithin b (entriesBefore b q) back;
+      bytes = headerBytes b (headersIn b) + (bytesWithin b 0 (entriesBefore b p) + z .bytes + bytesWithin b (entriesBefore b q) back);
+    }
+
+-- ---- the block without them
+
+-- The header entries of a block, put into another.
+abbrev pub headersPut : List ℕ → Walk → List ℕ → Grown
+headersPut b w o = putHeaders (run (headerIn b) 0 (headersIn b)) w o
+
+-- With the rows of the lines where these begin.
+abbrev pub withRows : List ℕ → Grown → List ℕ
+withRows rows g = put (g .buffer) (g .walk .lines) (fitting rows (drop (g .walk .lines) (g .buffer)))
+
+-- A block of these sizes that is begun, its header entries and the rows of its lines filled in.
+unfoldable pub beginning : List ℕ → Sizes → List ℕ → Opening
+beginning b z o =
+    onOpening (opening z (length o))
+    (λ w n. Begun (headersPut b w (opened 1 z (positionIn (drop 28 b)) o) .walk) n)
+    (λ a. Refused a)
+
+unfoldable pub beginningOf : List ℕ → Sizes → List ℕ → List ℕ → List ℕ
+beginningOf b z rows o =
+    let q = opened 1 z (positionIn (drop 28 b)) o in
+    onOpening (opening z (length o)) (λ w n. withRows rows (headersPut b w q)) (λ a. q)

@@ -8,7 +8,7 @@ ghost use mathlib.Core.Bool.{false};
 ghost use Rattle.lists.specs.Pick.{pick};
 ghost use Rattle.block.specs.Decode.{linesIn, startOf, parentOf, decode};
 ghost use Rattle.block.specs.Sound.{Sound};
-ghost use Rattle.parser.specs.Plays.{entriesAt};
+ghost use Rattle.plays.specs.Plays.{entriesAt};
 ghost use Rattle.edit.specs.Edit.{playsIn, isVariation, isPlyOf, carries, placeOf, removedFrom};
 
 // Whether a text is one variation, of which so many entries were counted up to this end.

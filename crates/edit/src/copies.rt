@@ -1,92 +1,53 @@
-// Header entries and entries of a block, filled into another block.
-use parser::Heads;
-use parser::Remarks;
-use parser::Walk;
-use text::Cursor;
+// Header entries, entries and comments of a block: put into another block, and counted.
+use crate::Comments;
+use filling::Walk;
 ghost use mathlib.Core.Path.{_≡_};
-ghost use mathlib.Core.List.{[], _∷_};
 ghost use Prim.Native.Nat.{_+_, _*_, _≤_, _<_};
 ghost use lib.ListN.{length};
-ghost use lib.Dec.{eqb};
-ghost use Rattle.lists.specs.Pick.{pick};
-ghost use Rattle.block.specs.Encode.{commentsOf, commentText};
-ghost use Rattle.block.specs.Decode.{run, movesIn, headersIn, commentOf, headerIn, notedIn};
+ghost use Rattle.block.specs.Encode.{commentText};
+ghost use Rattle.block.specs.Decode.{run, movesIn, commentOf, notedIn};
 ghost use Rattle.block.specs.Sound.{Sound};
-ghost use Rattle.parser.specs.Filling.{CommentsFit, EntriesFit, HeadersFit, Commented, Entered, Headed};
-
-// A comment: its row, and its bytes.
-fn copy_comment(c: &[u8], w: Walk, out: &mut [u8]) -> Walk
-    requires { ⌜ CommentsFit (now c ∷ []) w (now out) ⌝ }
-    ensures { λ r. ⌜ Commented (now (c .entry) ∷ []) (w .next .at) w r (now (out .entry)) (now (out .exit)) ⌝ }
-{
-    let n = c.len();
-    let comments = block::put_comment(out, w.comments, w.bytes, n);
-    let text = lent::put_at(out, w.text, c);
-    let next = w.next;
-    Walk {
-        moves: w.moves,
-        comments,
-        text,
-        entries: w.entries,
-        noted: w.noted + 1,
-        bytes: w.bytes + n,
-        next,
-    }
-}
+ghost use Rattle.filling.specs.Filling.{putComments, putNoted, putEntries};
+ghost use Rattle.edit.specs.Splicing.{commentsWithin, bytesWithin, headersPut};
 
 // So many comments from one on.
 fn copy_comments(b: &[u8], first: usize, count: usize, w: Walk, out: &mut [u8]) -> Walk
-    requires { ⌜ (first + count < 65536) × CommentsFit (run (commentOf (now b)) first count) w (now out) ⌝ }
-    ensures { λ r. ⌜ Commented (run (commentOf (now (b .entry))) first count) (w .next .at) w r (now (out .entry)) (now (out .exit)) ⌝ }
+    requires { ⌜ first + count < 65536 ⌝ }
+    ensures { λ r. ⌜ r ≡ putComments (run (commentOf (now (b .entry))) first count) w (now (out .entry)) .walk ⌝ }
+    ensures { λ r. ⌜ now (out .exit) ≡ putComments (run (commentOf (now (b .entry))) first count) w (now (out .entry)) .buffer ⌝ }
 {
     let mut v = w;
     let mut i = 0;
     while i < count {
-        v = copy_comment(block::comment_of(b, (first + i) as u16), v, out);
+        v = filling::put_comment(out, v, block::comment_of(b, (first + i) as u16));
         i += 1;
     }
     v
 }
 
-// The number of the first comment, which is 0 where there is none.
-fn first_of(count: usize, noted: usize) -> usize
-    ensures { λ r. ⌜ r ≡ pick (eqb count 0) 0 noted ⌝ }
-{
-    if count == 0 { 0 } else { noted }
-}
-
 // Entry k with its comments.
 fn copy_entry(b: &[u8], k: usize, w: Walk, out: &mut [u8]) -> Walk
-    requires { ⌜ Sound (now b) × (k < movesIn (now b)) × EntriesFit (notedIn (now b) k ∷ []) w (now out) ⌝ }
-    ensures { λ r. ⌜ Entered (notedIn (now (b .entry)) k ∷ []) (w .next .at) w r (now (out .entry)) (now (out .exit)) ⌝ }
+    requires { ⌜ Sound (now b) × (k < movesIn (now b)) ⌝ }
+    ensures { λ r. ⌜ r ≡ putNoted (notedIn (now (b .entry)) k) w (now (out .entry)) .walk ⌝ }
+    ensures { λ r. ⌜ now (out .exit) ≡ putNoted (notedIn (now (b .entry)) k) w (now (out .entry)) .buffer ⌝ }
 {
     let i = k as u16;
-    let count = block::comment_count(b, i);
-    let noted = w.noted;
-    let v = copy_comments(b, block::first_comment(b, i), count, w, out);
-    let moves = block::put_entry(
+    let v = copy_comments(
+        b,
+        block::first_comment(b, i),
+        block::comment_count(b, i),
+        w,
         out,
-        v.moves,
-        block::entry_of(b, i),
-        first_of(count, noted),
-        count,
     );
-    let next = v.next;
-    Walk {
-        moves,
-        comments: v.comments,
-        text: v.text,
-        entries: v.entries + 1,
-        noted: v.noted,
-        bytes: v.bytes,
-        next,
-    }
+    let e = block::entry_of(b, i);
+    filling::put_entry(out, v, e, w.noted, v.noted - w.noted)
 }
 
 // So many entries from entry k on.
 pub(crate) fn copy_entries(b: &[u8], k: usize, count: usize, w: Walk, out: &mut [u8]) -> Walk
-    requires { ⌜ Sound (now b) × (k + count ≤ movesIn (now b)) × EntriesFit (run (notedIn (now b)) k count) w (now out) ⌝ }
-    ensures { λ r. ⌜ Entered (run (notedIn (now (b .entry))) k count) (w .next .at) w r (now (out .entry)) (now (out .exit)) ⌝ }
+    requires { ⌜ Sound (now b) × (k + count ≤ movesIn (now b)) ⌝ }
+    ensures { λ r. ⌜ r ≡ putEntries (run (notedIn (now (b .entry))) k count) w (now (out .entry)) .walk ⌝ }
+    ensures { λ r. ⌜ now (out .exit) ≡ putEntries (run (notedIn (now (b .entry))) k count) w (now (out .entry)) .buffer ⌝ }
 {
     let mut v = w;
     let mut i = 0;
@@ -97,34 +58,17 @@ pub(crate) fn copy_entries(b: &[u8], k: usize, count: usize, w: Walk, out: &mut 
     v
 }
 
-// Header entry k: its row, its key and its value.
-fn copy_header(b: &[u8], k: usize, h: Heads, out: &mut [u8]) -> Heads
-    requires { ⌜ (k < 65536) × HeadersFit (headerIn (now b) k ∷ []) h (now out) ⌝ }
-    ensures { λ r. ⌜ Headed (headerIn (now (b .entry)) k ∷ []) h r (now (out .entry)) (now (out .exit)) ⌝ }
-{
-    let key = block::key_of(b, k as u16);
-    let value = block::value_of(b, k as u16);
-    let middle = h.bytes + key.len();
-    let rows = block::put_header(out, h.rows, h.bytes, key.len(), middle, value.len());
-    let at = lent::put_at(out, h.text, key);
-    let text = lent::put_at(out, at, value);
-    Heads {
-        rows,
-        text,
-        bytes: middle + value.len(),
-    }
-}
-
 // All header entries.
-pub(crate) fn copy_headers(b: &[u8], h: Heads, out: &mut [u8]) -> Heads
-    requires { ⌜ HeadersFit (run (headerIn (now b)) 0 (headersIn (now b))) h (now out) ⌝ }
-    ensures { λ r. ⌜ Headed (run (headerIn (now (b .entry))) 0 (headersIn (now (b .entry)))) h r (now (out .entry)) (now (out .exit)) ⌝ }
+pub(crate) fn copy_headers(b: &[u8], w: Walk, out: &mut [u8]) -> Walk
+    ensures { λ r. ⌜ r ≡ headersPut (now (b .entry)) w (now (out .entry)) .walk ⌝ }
+    ensures { λ r. ⌜ now (out .exit) ≡ headersPut (now (b .entry)) w (now (out .entry)) .buffer ⌝ }
 {
     let count = block::headers_in(b);
-    let mut v = h;
+    let mut v = w;
     let mut k = 0;
     while k < count {
-        v = copy_header(b, k, v, out);
+        let i = k as u16;
+        v = filling::put_header(out, v, block::key_of(b, i), block::value_of(b, i));
         k += 1;
     }
     v
@@ -145,9 +89,9 @@ fn comment_bytes(b: &[u8], first: usize, count: usize) -> usize
 }
 
 // How many comments so many entries from entry k on have, and how many bytes these have.
-pub(crate) fn count_entries(b: &[u8], k: usize, count: usize) -> Remarks
+pub(crate) fn count_entries(b: &[u8], k: usize, count: usize) -> Comments
     requires { ⌜ Sound (now b) × (k + count ≤ movesIn (now b)) ⌝ }
-    ensures { λ r. ⌜ (r .count ≡ length (commentsOf (run (notedIn (now (b .entry))) k count))) × (r .bytes ≡ length (commentText (commentsOf (run (notedIn (now (b .entry))) k count)))) ⌝ }
+    ensures { λ r. ⌜ (r .count ≡ commentsWithin (now (b .entry)) k count) × (r .bytes ≡ bytesWithin (now (b .entry)) k count) ⌝ }
     ensures { λ r. ⌜ (r .count ≤ 65535 * count) × (r .bytes ≤ 4294967295 * count) ⌝ }
 {
     let mut comments = 0;
@@ -160,9 +104,8 @@ pub(crate) fn count_entries(b: &[u8], k: usize, count: usize) -> Remarks
         bytes += comment_bytes(b, block::first_comment(b, e), c);
         i += 1;
     }
-    Remarks {
+    Comments {
         count: comments,
         bytes,
-        next: Cursor { at: 0 },
     }
 }

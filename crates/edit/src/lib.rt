@@ -10,10 +10,11 @@ use checks::is_variation;
 use checks::place_of;
 use checks::removed_from;
 use jkf::Answer;
-use parser::Extent;
+use plays::Extent;
 use rows::changed_parent;
 use rows::put_rows;
-use stores::store;
+use stores::store_with;
+use stores::store_without;
 use text::Cursor;
 ghost use mathlib.Core.Path.{_≡_};
 ghost use mathlib.Core.Bool.{true};
@@ -21,25 +22,32 @@ ghost use Prim.Native.Nat.{_≤_, _<_};
 ghost use Rattle.block.specs.Decode.{linesIn, decode};
 ghost use Rattle.block.specs.Encode.{encode};
 ghost use Rattle.block.specs.Sound.{Sound};
-ghost use Rattle.parser.specs.Filling.{extentAt};
+ghost use Rattle.plays.specs.Plays.{plyAt};
+ghost use Rattle.plays.specs.Counted.{extentAt};
 ghost use Rattle.edit.specs.Edit.{playsIn, isVariation, variationOf, putIn, insertOn, insert, removedFrom, remove};
 ghost use Rattle.edit.specs.Splicing.{relined, insertPlay, without, Lines};
 ghost use Rattle.edit.specs.Outcomes.{storedOf, editedOf, putInOf, cutOf};
 
+// Comments: how many, and how many bytes they have.
+pub(crate) struct Comments {
+    pub count: usize,
+    pub bytes: usize,
+}
+
 // The new line has its number: the rows of all lines are made, and the parents in them looked at.
-fn insert_at(b: &[u8], n: usize, t: &[u8], x: Extent, out: &mut [u8]) -> Answer
+fn insert_at(b: &[u8], n: usize, t: &[u8], start: u64, x: Extent, out: &mut [u8]) -> Answer
     requires { ⌜ Sound (now b) × (n ≤ linesIn (now b)) × (isVariation (now t) ≡ true) × (x ≡ extentAt (now t) 0) ⌝ }
-    requires { ⌜ (x .start < 65536) × Lines (putIn n (variationOf (now t)) (playsIn (decode (now b) .lines))) ⌝ }
+    requires { ⌜ (start ≡ plyAt (now t) 0) × (start < 65536) × Lines (putIn n (variationOf (now t)) (playsIn (decode (now b) .lines))) ⌝ }
     ensures { λ r. ⌜ r ≡ editedOf (insertPlay (decode (now (b .entry))) n (variationOf (now (t .entry)))) (now (out .entry)) .answer ⌝ }
     ensures { λ r. ⌜ now (out .exit) ≡ editedOf (insertPlay (decode (now (b .entry))) n (variationOf (now (t .entry)))) (now (out .entry)) .buffer ⌝ }
 {
     let mut rows = [0u8; 18688];
-    let lines = put_rows(&mut rows, b, n, n, x.start, x.entries);
+    let lines = put_rows(&mut rows, b, n, n, start, x.entries);
     let changed = changed_parent(b, n, &rows);
     if changed < block::lines_in(b) {
         return Answer::ParentChanges(changed as u64);
     }
-    store(b, n, n, t, x, &rows[..8 * lines], n, out)
+    store_with(b, n, t, x, &rows[..8 * lines], out)
 }
 
 // On line k, where its ply is.
@@ -48,14 +56,14 @@ fn insert_on(b: &[u8], k: usize, t: &[u8], x: Extent, out: &mut [u8]) -> Answer
     ensures { λ r. ⌜ r ≡ editedOf (insertOn (decode (now (b .entry))) k (variationOf (now (t .entry)))) (now (out .entry)) .answer ⌝ }
     ensures { λ r. ⌜ now (out .exit) ≡ editedOf (insertOn (decode (now (b .entry))) k (variationOf (now (t .entry)))) (now (out .entry)) .buffer ⌝ }
 {
-    let j = x.start;
+    let j = plays::ply(Cursor { at: 0 }, t);
     if !is_ply_of(b, k, j) {
         return Answer::OutsideLine(k as u64, j);
     }
     if carries(b, k, j) {
         return Answer::EntryTaken(k as u64, j);
     }
-    insert_at(b, place_of(b, k, j), t, x, out)
+    insert_at(b, place_of(b, k, j), t, j, x, out)
 }
 
 // Into a sound block.
@@ -67,7 +75,7 @@ fn insert(b: &[u8], line: u64, t: &[u8], out: &mut [u8]) -> Answer
     if block::lines_in(b) as u64 <= line {
         return Answer::NoSuchPart(line);
     }
-    let x = parser::count_moves(Cursor { at: 0 }, t);
+    let x = plays::count_moves(Cursor { at: 0 }, t);
     if !is_variation(t, x.entries, x.next.at) {
         return Answer::NotOneVariation;
     }
@@ -92,10 +100,9 @@ fn remove_from(b: &[u8], k: usize, out: &mut [u8]) -> Answer
     ensures { λ r. ⌜ now (out .exit) ≡ storedOf (encode (relined (decode (now (b .entry))) (without k (removedFrom (playsIn (decode (now (b .entry)) .lines)) k) (playsIn (decode (now (b .entry)) .lines))))) (removedFrom (playsIn (decode (now (b .entry)) .lines)) k) (now (out .entry)) .buffer ⌝ }
 {
     let n = removed_from(b, k);
-    let x = parser::count_moves(Cursor { at: 0 }, &[]);
     let mut rows = [0u8; 18688];
-    let lines = put_rows(&mut rows, b, k, k + n, x.start, x.entries);
-    store(b, k, k + n, &[], x, &rows[..8 * lines], n, out)
+    let lines = put_rows(&mut rows, b, k, k + n, 0, 0);
+    store_without(b, k, n, &rows[..8 * lines], out)
 }
 
 fn remove(b: &[u8], line: u64, out: &mut [u8]) -> Answer

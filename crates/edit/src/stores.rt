@@ -2,23 +2,24 @@
 use crate::copies::copy_entries;
 use crate::copies::copy_headers;
 use crate::copies::count_entries;
+use filling::Opening;
+use filling::Sizes;
 use jkf::Answer;
-use parser::Extent;
-use parser::Heads;
-use parser::Sizes;
-use parser::Walk;
+use plays::Extent;
 use text::Cursor;
 ghost use mathlib.Core.Path.{_≡_};
-ghost use mathlib.Core.List.{_++_};
-ghost use Prim.Native.Nat.{_≤_};
-ghost use lib.ListN.{length, drop};
-ghost use Rattle.lent.specs.Regions.{puts};
+ghost use mathlib.Core.Bool.{true};
+ghost use mathlib.Core.List.{[], _∷_};
+ghost use Prim.Native.Nat.{_+_, _≤_};
+ghost use lib.ListN.{length};
 ghost use Rattle.jkf.specs.Attaching.{attach};
 ghost use Rattle.block.specs.Encode.{table, lineRow, lineStep, encode};
 ghost use Rattle.block.specs.Decode.{linesIn, movesIn};
 ghost use Rattle.block.specs.Sound.{Sound, entriesBefore};
-ghost use Rattle.parser.specs.Filling.{extentAt, entryTexts, entryEnds};
-ghost use Rattle.edit.specs.Splicing.{linesAfter, recordAfter, entriesAfter, sizesOf, Unfilled};
+ghost use Rattle.filling.specs.Filling.{areSmall};
+ghost use Rattle.plays.specs.Counted.{extentAt};
+ghost use Rattle.edit.specs.Edit.{variationOf};
+ghost use Rattle.edit.specs.Splicing.{linesAfter, recordAfter, sizesAfter, beginning, beginningOf};
 ghost use Rattle.edit.specs.Outcomes.{storedOf};
 
 // How many entries stand before line k; all of them where there is no line k.
@@ -32,12 +33,11 @@ fn entries_before(b: &[u8], k: usize) -> usize
     block::moves_in(b)
 }
 
-// So many lines, with the entries of the lines before p, those of a text, and those of the lines from q on.
-fn measure(b: &[u8], p: usize, q: usize, t: &[u8], x: Extent, lines: usize) -> Sizes
+// The sizes of the block with the lines before p, new ones of these sizes, and the lines from q on.
+fn measure(b: &[u8], p: usize, q: usize, added: Sizes) -> Sizes
     requires { ⌜ Sound (now b) × (p ≤ q) × (q ≤ linesIn (now b)) ⌝ }
-    requires { ⌜ (length (now t) ≤ 65535) × (x ≡ extentAt (now t) 0) ⌝ }
-    ensures { λ r. ⌜ r ≡ sizesOf lines (entriesAfter (now (b .entry)) p q (now (t .entry))) ⌝ }
-    ensures { λ r. ⌜ (r .entries ≤ 4294967295) × (r .comments ≤ 281474976710655) × (r .bytes ≤ 18446744073709551) ⌝ }
+    requires { ⌜ (added .lines ≤ 65535) × (added .entries ≤ 65535) × (added .comments ≤ 65535) × (added .bytes ≤ 65535) ⌝ }
+    ensures { λ r. ⌜ (r ≡ sizesAfter (now (b .entry)) p q added) × (areSmall r ≡ true) ⌝ }
 {
     let before = entries_before(b, p);
     let after = entries_before(b, q);
@@ -45,101 +45,87 @@ fn measure(b: &[u8], p: usize, q: usize, t: &[u8], x: Extent, lines: usize) -> S
     let front = count_entries(b, 0, before);
     let back = count_entries(b, after, rest);
     Sizes {
-        lines,
-        entries: before + x.entries + rest,
-        comments: front.count + x.comments + back.count,
-        bytes: front.bytes + x.bytes + back.bytes,
-        next: Cursor { at: 0 },
+        headers: block::headers_in(b),
+        lines: p + added.lines + (block::lines_in(b) - q),
+        entries: before + added.entries + rest,
+        comments: front.count + added.comments + back.count,
+        bytes: block::header_bytes(b) + (front.bytes + added.bytes + back.bytes),
     }
 }
 
-// Entries, comments and texts, for which there is room.
-fn fill_entries(b: &[u8], p: usize, q: usize, t: &[u8], w: Walk, out: &mut [u8])
-    requires { ⌜ Sound (now b) × (p ≤ q) × (q ≤ linesIn (now b)) × (length (now t) ≤ 65535) ⌝ }
-    requires { ⌜ Unfilled (entriesAfter (now b) p q (now t)) w (now out) ⌝ }
-    ensures { λ _. ⌜ now (out .exit) ≡ puts (now (out .entry)) (entryEnds w) (entryTexts 0 (w .bytes) (entriesAfter (now (b .entry)) p q (now (t .entry)))) ⌝ }
+// An edited block that lacks its entries alone: measured, begun, its header entries and the rows of its lines filled in.
+fn begin(b: &[u8], p: usize, q: usize, added: Sizes, rows: &[u8], out: &mut [u8]) -> Opening
+    requires { ⌜ Sound (now b) × (p ≤ q) × (q ≤ linesIn (now b)) ⌝ }
+    requires { ⌜ (added .lines ≤ 65535) × (added .entries ≤ 65535) × (added .comments ≤ 65535) × (added .bytes ≤ 65535) ⌝ }
+    ensures { λ r. ⌜ areSmall (sizesAfter (now (b .entry)) p q added) ≡ true ⌝ }
+    ensures { λ r. ⌜ r ≡ beginning (now (b .entry)) (sizesAfter (now (b .entry)) p q added) (now (out .entry)) ⌝ }
+    ensures { λ r. ⌜ now (out .exit) ≡ beginningOf (now (b .entry)) (sizesAfter (now (b .entry)) p q added) (now (rows .entry)) (now (out .entry)) ⌝ }
 {
-    let after = entries_before(b, q);
-    let v = copy_entries(b, 0, entries_before(b, p), w, out);
-    let u = parser::fill_moves(t, v, out);
-    copy_entries(b, after, block::moves_in(b) - after, u, out);
+    match filling::open(out, 1, measure(b, p, q, added), block::position_of(b)) {
+        Opening::Begun(w, total) => {
+            let v = copy_headers(b, w, out);
+            lent::put_at(out, v.lines, rows);
+            Opening::Begun(v, total)
+        }
+        Opening::Refused(a) => Opening::Refused(a),
+    }
 }
 
-// All parts of a block, for which there is room.
-fn fill(b: &[u8], p: usize, q: usize, t: &[u8], z: Sizes, rows: &[u8], total: usize, out: &mut [u8])
-    requires { ⌜ Sound (now b) × (p ≤ q) × (q ≤ linesIn (now b)) × (length (now t) ≤ 65535) ⌝ }
-    requires { ⌜ z ≡ sizesOf (length (linesAfter (now b) p q (now t))) (entriesAfter (now b) p q (now t)) ⌝ }
-    requires { ⌜ now rows ≡ table lineRow lineStep 0 (attach (linesAfter (now b) p q (now t))) ⌝ }
-    requires { ⌜ (total ≡ length (encode (recordAfter (now b) p q (now t)))) × (total ≤ 65535) × (total ≤ length (now out)) ⌝ }
-    ensures { λ _. ⌜ now (out .exit) ≡ encode (recordAfter (now (b .entry)) p q (now (t .entry))) ++ drop total (now (out .entry)) ⌝ }
-{
-    let headers = block::headers_in(b);
-    let lines = 128 + 8 * headers;
-    let moves = lines + 8 * z.lines;
-    let comments = moves + 20 * z.entries;
-    let text = comments + 4 * z.comments;
-    block::put_head(
-        out,
-        1,
-        total as u16,
-        headers as u16,
-        z.lines as u16,
-        z.entries as u16,
-        z.comments as u16,
-    );
-    block::put_position(out, 28, block::position_of(b));
-    let h = copy_headers(
-        b,
-        Heads {
-            rows: 128,
-            text,
-            bytes: 0,
-        },
-        out,
-    );
-    lent::put_at(out, lines, rows);
-    let w = Walk {
-        moves,
-        comments,
-        text: h.text,
-        entries: 0,
-        noted: 0,
-        bytes: h.bytes,
-        next: Cursor { at: 0 },
-    };
-    fill_entries(b, p, q, t, w, out);
-}
-
-// The block with the lines before p, those of a text, and the lines from q on, of which the rows are given.
-pub(crate) fn store(
+// The block with the line of a text as line n, of which the rows are given.
+pub(crate) fn store_with(
     b: &[u8],
-    p: usize,
-    q: usize,
+    n: usize,
     t: &[u8],
     x: Extent,
     rows: &[u8],
-    second: usize,
     out: &mut [u8],
 ) -> Answer
-    requires { ⌜ Sound (now b) × (p ≤ q) × (q ≤ linesIn (now b)) ⌝ }
-    requires { ⌜ (length (now t) ≤ 65535) × (x ≡ extentAt (now t) 0) ⌝ }
-    requires { ⌜ now rows ≡ table lineRow lineStep 0 (attach (linesAfter (now b) p q (now t))) ⌝ }
-    ensures { λ r. ⌜ r ≡ storedOf (encode (recordAfter (now (b .entry)) p q (now (t .entry)))) second (now (out .entry)) .answer ⌝ }
-    ensures { λ r. ⌜ now (out .exit) ≡ storedOf (encode (recordAfter (now (b .entry)) p q (now (t .entry)))) second (now (out .entry)) .buffer ⌝ }
+    requires { ⌜ Sound (now b) × (n ≤ linesIn (now b)) × (length (now t) ≤ 65535) × (x ≡ extentAt (now t) 0) ⌝ }
+    requires { ⌜ now rows ≡ table lineRow lineStep 0 (attach (linesAfter (now b) n n (variationOf (now t) ∷ []))) ⌝ }
+    ensures { λ r. ⌜ r ≡ storedOf (encode (recordAfter (now (b .entry)) n n (variationOf (now (t .entry)) ∷ []))) n (now (out .entry)) .answer ⌝ }
+    ensures { λ r. ⌜ now (out .exit) ≡ storedOf (encode (recordAfter (now (b .entry)) n n (variationOf (now (t .entry)) ∷ []))) n (now (out .entry)) .buffer ⌝ }
 {
-    let z = measure(b, p, q, t, x, rows.len() / 8);
-    let total = 128
-        + 8 * block::headers_in(b)
-        + 8 * z.lines
-        + 20 * z.entries
-        + 4 * z.comments
-        + (block::header_bytes(b) + z.bytes);
-    if 65535 < total {
-        return Answer::BlockTooLong(total as u64);
+    let added = Sizes {
+        headers: 0,
+        lines: 1,
+        entries: x.entries,
+        comments: x.comments,
+        bytes: x.bytes,
+    };
+    match begin(b, n, n, added, rows, out) {
+        Opening::Begun(w, total) => {
+            let before = entries_before(b, n);
+            let v = copy_entries(b, 0, before, w, out);
+            let u = plays::fill_moves(t, Cursor { at: 0 }, v, out);
+            copy_entries(b, before, block::moves_in(b) - before, u.walk, out);
+            Answer::Done(total, n as u64)
+        }
+        Opening::Refused(a) => a,
     }
-    if out.len() < total {
-        return Answer::BufferShort(total as u64);
+}
+
+// The block without n lines from line k on, of which the rows are given.
+pub(crate) fn store_without(b: &[u8], k: usize, n: usize, rows: &[u8], out: &mut [u8]) -> Answer
+    requires { ⌜ Sound (now b) × (k + n ≤ linesIn (now b)) ⌝ }
+    requires { ⌜ now rows ≡ table lineRow lineStep 0 (attach (linesAfter (now b) k (k + n) [])) ⌝ }
+    ensures { λ r. ⌜ r ≡ storedOf (encode (recordAfter (now (b .entry)) k (k + n) [])) n (now (out .entry)) .answer ⌝ }
+    ensures { λ r. ⌜ now (out .exit) ≡ storedOf (encode (recordAfter (now (b .entry)) k (k + n) [])) n (now (out .entry)) .buffer ⌝ }
+{
+    let nothing = Sizes {
+        headers: 0,
+        lines: 0,
+        entries: 0,
+        comments: 0,
+        bytes: 0,
+    };
+    match begin(b, k, k + n, nothing, rows, out) {
+        Opening::Begun(w, total) => {
+            let after = entries_before(b, k + n);
+            let v = copy_entries(b, 0, entries_before(b, k), w, out);
+            copy_entries(b, after, block::moves_in(b) - after, v, out);
+            let removed = n as u64;
+            Answer::Done(total, removed)
+        }
+        Opening::Refused(a) => a,
     }
-    fill(b, p, q, t, z, rows, total, out);
-    Answer::Done(total as u64, second as u64)
 }

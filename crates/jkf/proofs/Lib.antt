@@ -1,3 +1,4 @@
 pub mod Nears
 pub mod Answering
 pub mod Specials
+pub mod Hangings

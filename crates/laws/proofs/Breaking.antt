@@ -38,7 +38,7 @@ use Rattle.kakinoki.proofs.Lines.{OnHeld, HeaderLine}
 use Rattle.kakinoki.proofs.Items.{lineAt, item, keyed-line}
 use Rattle.kakinoki.proofs.Places.{placeAt}
 use Rattle.parser.proofs.Alls.{all-append}
-use Rattle.parser.proofs.Items.{on-more, no-more}
+use Rattle.plays.proofs.Items.{on-more, no-more}
 
 -- what every item keeps holds where the items end
 many-keeps : {A : Type 0} (item : ℕ → Step A) (P : ℕ → Type 0) → ((at to : ℕ) (a : A) → item at ≡ more to a → P to)

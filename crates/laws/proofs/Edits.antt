@@ -32,8 +32,8 @@ use Rattle.block.specs.Decode.{decode, linesIn, startOf, entryCount, parentOf}
 use Rattle.block.specs.Sound.{Sound}
 use Rattle.block.specs.Formed.{lineOf, Formed}
 use Rattle.block.proofs.Deciding.{sound-answers}
-use Rattle.parser.specs.Plays.{entriesAt, plyAt}
-use Rattle.parser.proofs.Hung.{attach-length, attach-line}
+use Rattle.plays.specs.Plays.{entriesAt, plyAt}
+use Rattle.block.proofs.Attached.{attach-length, attach-line}
 use Rattle.edit.specs.Edit.{Edited, edited, playsIn, variationOf, renumbered, removedFrom, lowered, Kept, remove}
 use Rattle.edit.specs.Splicing.{relined, without}
 use Rattle.edit.specs.Outcomes.{storedOf, editedOf, putInOf, cutOf}

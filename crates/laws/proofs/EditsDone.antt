@@ -25,7 +25,7 @@ use Rattle.block.specs.Decode.{decode}
 use Rattle.block.specs.Sound.{soundb, Sound}
 use Rattle.block.specs.Formed.{Formed}
 use Rattle.block.proofs.Deciding.{sound-says}
-use Rattle.parser.specs.Plays.{plyAt}
+use Rattle.plays.specs.Plays.{plyAt}
 use Rattle.edit.specs.Edit.{fresh, withoutLines, Edited, edited, refused, Changed, none, onChanged, playsIn, isVariation, variationOf, isPlyOf, carries, placeOf, putIn, changedFrom, insertOn, insert, removedFrom, remove}
 use Rattle.edit.specs.Splicing.{relined, insertPlay, without}
 use Rattle.edit.specs.Outcomes.{storedOf, editedOf, putInOf, cutOf}

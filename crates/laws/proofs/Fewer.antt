@@ -13,8 +13,8 @@ use Rattle.block.specs.Decode.{decode}
 use Rattle.block.specs.Sound.{Sound}
 use Rattle.block.proofs.Tabling.{concat-append}
 use Rattle.block.proofs.Lengths.{block-length}
-use Rattle.parser.specs.Filling.{playEntries}
-use Rattle.parser.proofs.Hung.{attach-length, attach-entries}
+use Rattle.plays.specs.Counted.{playEntries}
+use Rattle.block.proofs.Attached.{attach-length, attach-entries}
 use Rattle.edit.specs.Edit.{playsIn}
 use Rattle.edit.specs.Splicing.{relined, without}
 use Rattle.edit.proofs.Sounds.{lines-afresh}

@@ -24,10 +24,11 @@ use Rattle.kakinoki.specs.Starts.{startOf}
 use Rattle.kakinoki.specs.declared.Fault.{Fault}
 use Rattle.kakinoki.specs.declared.Fault.the-variants.{NoFault, At}
 use Rattle.kakinoki.proofs.Reach.{repeat-keeps}
-use Rattle.parser.specs.Plays.{playsAt}
+use Rattle.plays.specs.Plays.{playsAt}
+use Rattle.filling.specs.Filling.{atFront}
 use Rattle.parser.specs.Parse.{headersOf, parse, recordOf, needed}
 use Rattle.parser.specs.Read.{onFault, onHung, filledWith, storedOf, startedOf, readOf}
-use Rattle.parser.proofs.Items.{on-more, no-more}
+use Rattle.plays.proofs.Items.{on-more, no-more}
 use Rattle.laws.proofs.Playing.{entries-kind, comments-valid, some-lines, lines-fit}
 use Rattle.laws.proofs.Smalling.{lines-bytes, entries-bytes, remarks-bytes, comments-bytes}
 use Rattle.parser.proofs.Opening.{start-cells, start-hands, start-fits, start-bytes}
@@ -105,10 +106,10 @@ module _ (s o : List ℕ) (b : (k : ℕ) → getD s k 0 < 256) where
     where
       go : (h : Hung) → allHung (parse s .plays) ≡ h
           → Fronted (onHung h (λ k ply. record { answer = NoEntry k ply; buffer = replicate (length o) 0 })
-          (record { answer = Done (parse s .taken) (needed (parse s)); buffer = encode (recordOf (parse s)) ++ drop (needed (parse s)) o }))
+          (record { answer = Done (parse s .taken) (needed (parse s)); buffer = atFront (encode (recordOf (parse s))) o }))
       go (first k ply) g t m e = refused (NoEntry k ply) t m (omega arith) e
       go all g t m e =
-          (take-at (encode (recordOf (parse s))) (drop (needed (parse s)) o) m (needed-is s ∙ done-second _ _ t m e), read-formed s b w n g)
+          (take-at (encode (recordOf (parse s))) (drop (length (encode (recordOf (parse s)))) o) m (needed-is s ∙ done-second _ _ t m e), read-formed s b w n g)
 
   stored-front : wellFormed s ≡ length s → Fronted (storedOf (parse s) o)
   unfolding storedOf figures

@@ -14,13 +14,13 @@ use Rattle.jkf.specs.Attaching.{near, hangOn, hangs, onHang}
 use Rattle.block.specs.Sound.{sum, hangTest}
 use Rattle.block.proofs.Hanging.{hang-first, hang-says}
 use Rattle.jkf.proofs.Nears.{near-before, near-same}
-use Rattle.parser.proofs.Hung.{start-low as lines-low}
+use Rattle.block.proofs.Attached.{start-low as lines-low}
 
 -- ---- where a line hangs
 
 module _ (start count parent : ℕ → ℕ) where
   -- a line starts no later than the entries before it are many
-  module _ (n : ℕ) (hang : (k : ℕ) → k < n → claim (hangTest start count parent k)) where
+  module _ (n : ℕ) (hang : (k : ℕ) → k < n → claim (hangTest 1 start count parent k)) where
     pub start-low : (k : ℕ) → k < n → start k ≤ sum count k
     start-low k l =
         lines-low start count (hang-first start count parent (hang 0 (omega arith)) .0) k
@@ -63,7 +63,7 @@ module _ (f g c d p q : ℕ → ℕ) (k : ℕ) (e₁ : (j : ℕ) → j ≤ k →
       same-line (f k) (g k) m (near g (g k) k) (f m) (g (near g (g k) k)) (c m) (d (near g (g k) k)) (p k) (q k) (e₁ k (omega arith)) e (e₁ m l ∙ ap g e) (e₂ m l ∙ ap d e)
       (e₃ k (omega arith)) h
 
-  pub hang-same : claim (hangTest f c p k) → claim (hangTest g d q k)
+  pub hang-same : claim (hangTest 1 f c p k) → claim (hangTest 1 g d q k)
   hang-same h =
       zero-or k (flag (both (equals (f 0) 0) (equals (p 0) 0))) (onHang (hangs f c (f k) k) (λ i e. eqb (p k) i) false)
       (flag (both (equals (g 0) 0) (equals (q 0) 0))) (onHang (hangs g d (g k) k) (λ i e. eqb (q k) i) false) first-same later-same h

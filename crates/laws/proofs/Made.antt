@@ -182,7 +182,7 @@ module _ (r : Record) (f : Fits r) where
           go true e a = rw (key-is r f k h, key-is r f (k + 1) (ltb-true (k + 1) (length (r .headers)) e)) a
           go false e a = refl
 
-  line-sound : (k : ℕ) → k < length (r .lines) → claim (lineFits (r .lines) k) → claim (lineTest (encode r) k)
+  line-sound : (k : ℕ) → k < length (r .lines) → claim (lineFits (r .version) (r .lines) k) → claim (lineTest (encode r) k)
   line-sound k h w =
       let n = w .0 in (
         first-entry r f k h ∙ sym (entries-before k (omega arith)),

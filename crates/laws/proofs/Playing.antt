@@ -30,10 +30,10 @@ use Rattle.moves.proofs.Answers.{line-is}
 use Rattle.moves.specs.Fits.{EntryFits, playFits, endFits}
 use Rattle.moves.proofs.Fits.{move-line-fits}
 use Rattle.moves.proofs.Worded.{remark-well}
-use Rattle.parser.specs.Plays.{noted, commentItem, commentsAt, entryItem, entriesAt, skippedAt, plyAt, skipsAt, playItem, variationItem, variationsAt, slotAt, pastMain, mainAt, playsAt}
+use Rattle.plays.specs.Plays.{noted, commentItem, commentsAt, entryItem, entriesAt, skippedAt, plyAt, skipsAt, playItem, variationItem, variationsAt, slotAt, pastMain, mainAt, playsAt}
 use Rattle.parser.proofs.Alls.{OnStep, goes, stops, all-at, all-append, all-concat, many-all}
-use Rattle.parser.proofs.Hung.{attach-length, attach-entries, starts-small, lines-hang}
-use Rattle.parser.proofs.Items.{textOf}
+use Rattle.block.proofs.Attached.{attach-length, attach-entries, starts-small, lines-hang}
+use Rattle.plays.proofs.Items.{textOf}
 
 -- ---- what holds of all that is read
 
@@ -147,7 +147,7 @@ unfolding playsAt
 some-lines s at = omega (arith, attach-length (playsAt s at .state))
 
 pub lines-fit : (s : List ℕ) (at : ℕ) → allHung (playsAt s at .state) ≡ all
-    → claim (each (length (attach (playsAt s at .state))) (lineFits (attach (playsAt s at .state))))
+    → claim (each (length (attach (playsAt s at .state))) (lineFits 1 (attach (playsAt s at .state))))
 lines-fit s at g = lines-hang (playsAt s at .state) (first-start s at) (plays-some s at) g
 
 pub starts-fit : (s : List ℕ) (at : ℕ) → allHung (playsAt s at .state) ≡ all

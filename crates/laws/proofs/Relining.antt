@@ -38,7 +38,7 @@ use Rattle.moves.proofs.Fits.{move-line-fits}
 use Rattle.laws.proofs.EntryBytes.{entry-bytes-small}
 use Rattle.moves.proofs.Smalls.{Bytes as AllBytes, empty, each as eachByte, bytes-at, bytes-from, bytes-take, bytes-drop, bytes-join, bytes-16}
 use Rattle.parser.proofs.Alls.{all-at, all-concat}
-use Rattle.parser.proofs.Hung.{attach-length, attach-entries, lines-hang}
+use Rattle.block.proofs.Attached.{attach-length, attach-entries, lines-hang}
 use Rattle.moves.proofs.Worded.{remark-well}
 use Rattle.edit.specs.Edit.{playsIn, isVariation, variationOf}
 use Rattle.edit.specs.Splicing.{relined, Lines, playIn}

@@ -12,7 +12,7 @@ use Rattle.moves.proofs.Answers.{line-is}
 use Rattle.moves.proofs.Fits.{move-line-fits}
 use Rattle.laws.proofs.EntryBytes.{entry-bytes-small, slot-bytes-small}
 use Rattle.moves.proofs.Smalls.{Bytes, empty, bytes-from, bytes-take, bytes-drop, bytes-join, bytes-16}
-use Rattle.parser.specs.Plays.{playsAt}
+use Rattle.plays.specs.Plays.{playsAt}
 use Rattle.parser.proofs.Alls.{all-any}
 use Rattle.laws.proofs.Playing.{comments-all, entries-all, notes-all, remarks-all}
 

@@ -1,6 +1,6 @@
 -- No second result meets a promise.                                                                   (01, What the promises say)
 -- Every promise of a public function is made of the shapes below: an equation for the result, for a lent buffer or for a part, or one of
--- `Wrote`, `Stored`, `Entered` and `Told`. Of each, two results, buffers and numbers that meet it for the same input are equal, since its
+-- `Wrote`, `Stored` and `Told`. Of each, two results, buffers and numbers that meet it for the same input are equal, since its
 -- equations give the count by the input, and all else by the input and the count. A look-up's part has the bytes that stand where its figures say.
 -- Assumes nothing.
 use Prim.Native.Nat.{ℕ, _+_, _≤_, _<_}
@@ -17,12 +17,11 @@ use Rattle.jkf.specs.Answers.{figures, figured}
 use Rattle.jkf.specs.declared.Answer.{Answer}
 use Rattle.jkf.specs.declared.Answer.the-variants.{Done, NotSound, NoSuchPart}
 use Rattle.jkf.proofs.Answering.{figures-one}
-use Rattle.jkf.specs.Model.{Noted}
 use Rattle.block.specs.Decode.{textPlace, textAt}
 use Rattle.block.specs.Sound.{soundb}
 use Rattle.block.specs.Look.{Told, lookAnswer, lookPart}
-use Rattle.parser.specs.Filling.{Entered}
-use Rattle.parser.specs.declared.Walk.{Walk}
+use Rattle.filling.specs.declared.Walk.{Walk}
+use Rattle.plays.specs.declared.Reached.{Reached}
 
 -- ---- equations
 
@@ -54,36 +53,15 @@ wrote-one {t} {o} w v =
 pub stored-one : {t o a b : List ℕ} {at n m : ℕ} → Stored t o a at n → Stored t o b at m → (a ≡ b) × (n ≡ m)
 stored-one s u = (equation-one (s .bytes) (u .bytes), equation-one (s .end) (u .end))
 
--- a walk is its seven fields
-abbrev walk : ℕ → ℕ → ℕ → ℕ → ℕ → ℕ → Cursor → Walk
-walk moves comments text entries noted bytes next =
-    record {
-      moves = moves;
-      comments = comments;
-      text = text;
-      entries = entries;
-      noted = noted;
-      bytes = bytes;
-      next = next;
-    }
+-- what was filled in, the block and the place past it
+abbrev reached : Walk → Cursor → Reached
+reached w c = record { walk = w; next = c }
 
-walk-one : {a b c d e f a′ b′ c′ d′ e′ f′ : ℕ} {g g′ : Cursor} → a ≡ a′ → b ≡ b′ → c ≡ c′ → d ≡ d′ → e ≡ e′ → f ≡ f′ → g ≡ g′
-    → walk a b c d e f g ≡ walk a′ b′ c′ d′ e′ f′ g′
-walk-one h₀ h₁ h₂ h₃ h₄ h₅ h₆ = cc
-
--- entries filled in, and the walk past them
-pub entered-one : {es : List Noted} {at : ℕ} {w u v : Walk} {o a b : List ℕ} → Entered es at w u o a → Entered es at w v o b → (a ≡ b) × (u ≡ v)
-entered-one s t = (
-  equation-one (s .filled .bytes) (t .filled .bytes),
-  walk-one
-      (equation-one (s .filled .ends .0) (t .filled .ends .0))
-      (equation-one (s .filled .ends .1 .0) (t .filled .ends .1 .0))
-      (equation-one (s .filled .ends .1 .1 .0) (t .filled .ends .1 .1 .0))
-      (equation-one (s .entries) (t .entries))
-      (equation-one (s .noted) (t .noted))
-      (equation-one (s .bytes) (t .bytes))
-      (cursor-one _ _ (s .next) (t .next)),
-)
+pub reached-one : {w : Walk} {n : ℕ} {o a b : List ℕ} (r s : Reached) → (r .walk ≡ w) × ((a ≡ o) × (r .next .at ≡ n)) → (s .walk ≡ w) × ((b ≡ o) × (s .next .at ≡ n)) → (a ≡ b) × (r ≡ s)
+reached-one r s p q =
+    let walk = equation-one (p .0) (q .0) in
+    let next = cursor-one (r .next) (s .next) (p .1 .1) (q .1 .1) in
+    (equation-one (p .1 .0) (q .1 .0), ap (λ (w : Walk). reached w (r .next)) walk ∙ ap (reached (s .walk)) next)
 
 -- ---- the three lent numbers
 

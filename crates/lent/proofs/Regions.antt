@@ -9,7 +9,7 @@ use lib.Seq.{set-append-left, getD-take, getD-drop, drop-at, length-take-le, tak
 use borrow.Rule.Slice.PartMut.{midOf, putMid}
 use Rattle.lent.specs.Bytes.{Wrote, fitting}
 use Rattle.lent.proofs.Writes.{fitting-all, fitting-empty, rest, back}
-use Rattle.lent.specs.Regions.{only, Stored, put, puts, moved, join, first, Room, Same, Filled, Left, Counted, ToCount, all, starts, Empty}
+use Rattle.lent.specs.Regions.{Stored, put, puts, moved, join, first, Room, Same, Filled, all, starts}
 
 -- ---- one text
 
@@ -109,9 +109,9 @@ room-front n [] (t ∷ ts) (u ∷ us) r = absurd r
 room-front n (p ∷ ps) (t ∷ ts) (u ∷ us) r = (omega (arith, r .0, length-append t u), room-front n ps ts us (r .1))
 
 -- the next region does not come nearer
-join-none : (ts : List (List ℕ)) → join ts [] ≡ ts
-join-none [] = refl
-join-none (t ∷ ts) = refl
+pub join-nil : (ts : List (List ℕ)) → join ts [] ≡ ts
+join-nil [] = refl
+join-nil (t ∷ ts) = refl
 
 further : (n : ℕ) (ps : List ℕ) (ts : List (List ℕ)) → first n ps ≤ first n (moved ps ts)
 further n [] ts = omega arith
@@ -123,7 +123,7 @@ room-rest n [] [] us r = r
 room-rest n [] (t ∷ ts) [] r = absurd r
 room-rest n [] (t ∷ ts) (u ∷ us) r = absurd r
 room-rest n (p ∷ ps) [] us r = r
-room-rest n (p ∷ ps) (t ∷ ts) [] r = (omega (arith, r .0, further n ps ts), room-rest n ps ts [] (rw (join-none ts) (r .1)))
+room-rest n (p ∷ ps) (t ∷ ts) [] r = (omega (arith, r .0, further n ps ts), room-rest n ps ts [] (rw (join-nil ts) (r .1)))
 room-rest n (p ∷ ps) (t ∷ ts) (u ∷ us) r =
     (omega (arith, r .0, length-append t u, further n ps ts), room-rest n ps ts us (r .1))
 
@@ -184,68 +184,6 @@ then-room {ts} {o} {o₁} {ps} {ps₁} us r f =
 
 pub as-texts : {ts ts′ : List (List ℕ)} {o o′ ps ps′ : List ℕ} → ts ≡ ts′ → Filled ts o o′ ps ps′ → Filled ts′ o o′ ps ps′
 as-texts {ts} {ts′} {o} {o′} {ps} {ps′} e f = subst (λ (x : List (List ℕ)). Filled x o o′ ps ps′) e f
-
--- ---- a loop
-
-pub left-start : {ts : List (List ℕ)} {o ps : List ℕ} → Room (length o) ps ts → Left ts ts o o ps ps
-left-start r = record { bytes = refl; ends = refl; room = r }
-
-pub left-length : {ts₀ ts : List (List ℕ)} {o₀ o ps₀ ps : List ℕ} → Left ts₀ ts o₀ o ps₀ ps → length o ≡ length o₀
-left-length {ts₀} {ts} {o₀} {o} {ps₀} {ps} l = sym (length-puts o ps ts) ∙ ap length (l .bytes) ∙ length-puts o₀ ps₀ ts₀
-
--- the next turn's texts are `now`, those after it `rest`
-pub left-room : {ts₀ ts : List (List ℕ)} {o₀ o ps₀ ps : List ℕ} (now rest : List (List ℕ)) → ts ≡ join now rest
-    → Left ts₀ ts o₀ o ps₀ ps → Room (length o) ps now
-left-room {ts₀} {ts} {o₀} {o} {ps₀} {ps} now rest e l =
-    room-front (length o) ps now rest (subst (λ (x : List (List ℕ)). Room (length o) ps x) e (l .room))
-
-pub left-step : {ts₀ ts now rest : List (List ℕ)} {o₀ o o₁ ps₀ ps ps₁ : List ℕ} → ts ≡ join now rest
-    → Left ts₀ ts o₀ o ps₀ ps → Filled now o o₁ ps ps₁ → Left ts₀ rest o₀ o₁ ps₀ ps₁
-left-step {ts₀} {ts} {now} {rest} {o₀} {o} {o₁} {ps₀} {ps} {ps₁} e l f =
-    let r = subst (λ (x : List (List ℕ)). Room (length o) ps x) e (l .room) in
-    let m = same-is ps₁ (moved ps now) (f .ends) in
-    record {
-      bytes =
-          ap (λ (x : List ℕ). puts x ps₁ rest) (f .bytes) ∙ ap (λ (x : List ℕ). puts (puts o ps now) x rest) m
-          ∙ puts-puts (length o) o ps now rest r ∙ ap (λ (x : List (List ℕ)). puts o ps x) (sym e) ∙ l .bytes;
-      ends = ap (λ (x : List ℕ). moved x rest) m ∙ moved-moved ps now rest ∙ ap (λ (x : List (List ℕ)). moved ps x) (sym e) ∙ l .ends;
-      room = then-room rest r f;
-    }
-
-puts-none : (o ps : List ℕ) (ts : List (List ℕ)) → Empty ts → puts o ps ts ≡ o
-puts-none o [] ts e = refl
-puts-none o (p ∷ ps) [] e = refl
-puts-none o (p ∷ ps) (t ∷ ts) e =
-    puts-none (put o p t) ps ts (e .1) ∙ ap (λ (x : List ℕ). put o p x) (e .0) ∙ put-none o p
-
-pub moved-none : (ps : List ℕ) (ts : List (List ℕ)) → Empty ts → moved ps ts ≡ ps
-moved-none [] ts e = refl
-moved-none (p ∷ ps) [] e = refl
-moved-none (p ∷ ps) (t ∷ ts) e =
-    let z : p + length t ≡ p = omega (arith, ap length (e .0)) in
-    ap (λ (n : ℕ). n ∷ moved ps ts) z ∙ ap (λ (l : List ℕ). p ∷ l) (moved-none ps ts (e .1))
-
-pub left-done : {ts₀ ts : List (List ℕ)} {o₀ o ps₀ ps : List ℕ} → Left ts₀ ts o₀ o ps₀ ps → Empty ts → Filled ts₀ o₀ o ps₀ ps
-left-done {ts₀} {ts} {o₀} {o} {ps₀} {ps} l e =
-    record {
-      bytes = sym (puts-none o ps ts e) ∙ l .bytes;
-      ends = same-of (sym (moved-none ps ts e) ∙ l .ends);
-    }
-
--- a loop that only measures
-pub count-start : {ts : List (List ℕ)} {ps : List ℕ} → ToCount ts ts ps ps
-count-start = record { ends = refl }
-
-pub count-step : {ts₀ ts now rest : List (List ℕ)} {ps₀ ps ps₁ : List ℕ} → ts ≡ join now rest → ToCount ts₀ ts ps₀ ps → Counted now ps ps₁ → ToCount ts₀ rest ps₀ ps₁
-count-step {ts₀} {ts} {now} {rest} {ps₀} {ps} {ps₁} e h m =
-    record {
-      ends =
-          ap (λ (x : List ℕ). moved x rest) (same-is ps₁ (moved ps now) (m .ends)) ∙ moved-moved ps now rest
-          ∙ ap (λ (x : List (List ℕ)). moved ps x) (sym e) ∙ h .ends;
-    }
-
-pub count-done : {ts₀ ts : List (List ℕ)} {ps₀ ps : List ℕ} → ToCount ts₀ ts ps₀ ps → Empty ts → Counted ts₀ ps₀ ps
-count-done {ts₀} {ts} {ps₀} {ps} h e = record { ends = same-of (sym (moved-none ps ts e) ∙ h .ends) }
 
 -- ---- the whole
 
@@ -320,81 +258,13 @@ filled-at {ts} {o} {o′} {ps} {ps′} k i r f h l =
     sym (getD-take (length (getD ts k [])) (drop (getD ps k 0) o′) i 0 l ∙ getD-drop (getD ps k 0) o′ i 0)
     ∙ ap (λ (x : List ℕ). getD x i 0) (filled-holds k r f h)
 
--- what was done, and what is left
-pub left-of : {whole done rest : List (List ℕ)} {o₀ o ps₀ ps : List ℕ} → whole ≡ join done rest → Room (length o₀) ps₀ whole
-    → Filled done o₀ o ps₀ ps → Left whole rest o₀ o ps₀ ps
-left-of e r f = left-step e (left-start r) f
-
--- ---- texts of runs
-
-pub join-assoc : (ts us vs : List (List ℕ)) → join (join ts us) vs ≡ join ts (join us vs)
-join-assoc [] us vs = refl
-join-assoc (t ∷ ts) [] vs = refl
-join-assoc (t ∷ ts) (u ∷ us) [] = refl
-join-assoc (t ∷ ts) (u ∷ us) (v ∷ vs) =
-    ap (λ (l : List ℕ). l ∷ join (join ts us) vs) (append-assoc t u v) ∙ ap (λ (x : List (List ℕ)). (t ++ (u ++ v)) ∷ x) (join-assoc ts us vs)
-
-pub join-nil : (ts : List (List ℕ)) → join ts [] ≡ ts
-join-nil ts = join-none ts
-
-pub getD-join : (k : ℕ) (ts us : List (List ℕ)) → getD (join ts us) k [] ≡ getD ts k [] ++ getD us k []
-getD-join zero [] us = refl
-getD-join (suc k) [] us = refl
-getD-join zero (t ∷ ts) [] = sym (append-nil t)
-getD-join (suc k) (t ∷ ts) [] = sym (append-nil (getD ts k []))
-getD-join zero (t ∷ ts) (u ∷ us) = refl
-getD-join (suc k) (t ∷ ts) (u ∷ us) = getD-join k ts us
-
--- ---- writes one by one, in any order of the regions
-
 puts-nil : (o ps : List ℕ) → puts o ps [] ≡ o
 puts-nil o [] = refl
 puts-nil o (p ∷ ps) = refl
 
-puts-only : (k : ℕ) (o ps t : List ℕ) → k < length ps → puts o ps (only k t) ≡ put o (getD ps k 0) t
-puts-only k o [] t h = absurd (not-lt-zero k h)
-puts-only zero o (p ∷ ps) t h = puts-nil (put o p t) ps
-puts-only (suc k) o (p ∷ ps) t h =
-    ap (λ (l : List ℕ). puts l ps (only k t)) (put-none o p) ∙ puts-only k o ps t (omega arith)
-
--- nothing yet
-pub unfilled : {o ps : List ℕ} → Filled [] o o ps ps
-unfilled {o} {ps} = record { bytes = sym (puts-nil o ps); ends = same-of (sym (moved-none ps [] tt)) }
-
--- a text more at the end of region k
-pub wrote : {ts : List (List ℕ)} {o o₁ o₂ ps ps₁ : List ℕ} (k : ℕ) (t ps₂ : List ℕ) → Filled ts o o₁ ps ps₁ → k < length ps₁
-    → Room (length o) ps (join ts (only k t)) → o₂ ≡ put o₁ (getD ps₁ k 0) t → Same ps₂ (moved ps₁ (only k t)) → Filled (join ts (only k t)) o o₂ ps ps₂
-wrote {ts} {o} {o₁} {o₂} {ps} {ps₁} k t ps₂ f h r b e =
-    then-fill r f (record { bytes = b ∙ sym (puts-only k o₁ ps₁ t h); ends = e })
-
--- ---- a front part of the buffer is lent, and comes back
-
-sets-front : (t x y : List ℕ) (p : ℕ) → p + length t ≤ length x → sets (x ++ y) p t ≡ sets x p t ++ y
-sets-front [] x y p h = refl
-sets-front (a ∷ t) x y p h =
-    ap (λ (l : List ℕ). sets l (suc p) t) (set-append-left x y p a (omega arith))
-    ∙ sets-front t (set x p a) y (suc p) (omega (arith, length-set x p a))
-
-put-before : (t x y : List ℕ) (p : ℕ) → p + length t ≤ length x → put (x ++ y) p t ≡ put x p t ++ y
-unfolding put
-put-before t x y p h = sets-front t x y p h
-
-puts-before : (x y ps : List ℕ) (ts : List (List ℕ)) → Room (length x) ps ts → puts (x ++ y) ps ts ≡ puts x ps ts ++ y
-puts-before x y [] ts r = refl
-puts-before x y (p ∷ ps) [] r = refl
-puts-before x y (p ∷ ps) (t ∷ ts) r =
-    ap (λ (l : List ℕ). puts l ps ts) (put-before t x y p (omega (arith, r .0, room-end (length x) ps ts (r .1))))
-    ∙ puts-before (put x p t) y ps ts (rw (length-put x p t) (r .1))
-
-pub filled-front : {ts : List (List ℕ)} {x ps ps′ : List ℕ} (n : ℕ) (o : List ℕ) → n ≤ length o → Room n ps ts
-    → Filled ts (take n o) x ps ps′ → Filled ts o (x ++ drop n o) ps ps′
-filled-front {ts} {x} {ps} {ps′} n o h r f =
-    record {
-      bytes =
-          ap (λ (l : List ℕ). l ++ drop n o) (f .bytes) ∙ sym (puts-before (take n o) (drop n o) ps ts (rw (length-take-le n o h) r))
-          ∙ ap (λ (l : List ℕ). puts l ps ts) (take-append-drop n o);
-      ends = f .ends;
-    }
+moved-nil : (ps : List ℕ) → moved ps [] ≡ ps
+moved-nil [] = refl
+moved-nil (p ∷ ps) = refl
 
 -- ---- a text that has its room
 
@@ -414,4 +284,4 @@ filled-under {ts} {o} {o′} {ps} {ps′} p q e f =
 -- one text at the first region
 pub filled-first : {t o o′ : List ℕ} {p r : ℕ} (ps : List ℕ) → Stored t o o′ p r → Filled (t ∷ []) o o′ (p ∷ ps) (r ∷ ps)
 filled-first {t} {o} {o′} {p} {r} ps s =
-    record { bytes = s .bytes ∙ sym (puts-nil (put o p t) ps); ends = (s .end, same-of (sym (moved-none ps [] tt))) }
+    record { bytes = s .bytes ∙ sym (puts-nil (put o p t) ps); ends = (s .end, same-of (sym (moved-nil ps))) }

@@ -57,19 +57,6 @@ pub record Filled (ts : List (List ℕ)) (o o′ : List ℕ) (ps ps′ : List �
   pub bytes : o′ ≡ puts o ps ts
   pub ends : Same ps′ (moved ps ts)
 
--- The same, measured and not written.
-pub record Counted (ts : List (List ℕ)) (ps ps′ : List ℕ) : Type 0 where
-  pub ends : Same ps′ (moved ps ts)
-
-pub record ToCount (ts₀ ts : List (List ℕ)) (ps₀ ps : List ℕ) : Type 0 where
-  pub ends : moved ps ts ≡ moved ps₀ ts₀
-
--- What a walk has still to do, ts from ps on in o, comes to what it had to do at first.
-pub record Left (ts₀ ts : List (List ℕ)) (o₀ o : List ℕ) (ps₀ ps : List ℕ) : Type 0 where
-  pub bytes : puts o ps ts ≡ puts o₀ ps₀ ts₀
-  pub ends : moved ps ts ≡ moved ps₀ ts₀
-  pub room : Room (length o) ps ts
-
 abbrev pub all : List (List ℕ) → List ℕ
 all [] = []
 all (t ∷ ts) = t ++ all ts
@@ -78,13 +65,3 @@ all (t ∷ ts) = t ++ all ts
 abbrev pub starts : ℕ → List (List ℕ) → List ℕ
 starts p [] = []
 starts p (t ∷ ts) = p ∷ starts (p + length t) ts
-
--- Nothing for any region.
-abbrev pub Empty : List (List ℕ) → Type 0
-Empty [] = Unit {0}
-Empty (t ∷ ts) = (t ≡ []) × Empty ts
-
--- A text for region k alone.
-abbrev pub only : ℕ → List ℕ → List (List ℕ)
-only zero t = t ∷ []
-only (suc k) t = [] ∷ only k t

@@ -41,13 +41,6 @@ pub fn put_bytes(out: &mut [u8], t: &[u8]) -> usize
     bytes::copy(t, out)
 }
 
-// The low 16 bits of a number, the low byte first.
-pub fn put16(out: &mut [u8], v: usize) -> usize
-    ensures { λ r. ⌜ Wrote (fitting (bytes16 v) (now (out .entry))) (now (out .entry)) (now (out .exit)) r ⌝ }
-{
-    put_bytes(out, &[(v % 256) as u8, (v / 256 % 256) as u8])
-}
-
 // One byte n times.
 pub fn put_run(out: &mut [u8], b: u8, n: usize) -> usize
     ensures { λ r. ⌜ Wrote (fitting (replicate n b) (now (out .entry))) (now (out .entry)) (now (out .exit)) r ⌝ }

@@ -1,33 +1,38 @@
 -- The parts that were filled in are the block of what the text says; or the first variation that does not hang is told.
 -- Assumes nothing.
-use Prim.Native.Nat.{ℕ, _+_, _*_, _≤_}
+use Prim.Native.Nat.{ℕ, _≤_}
 use native.Mathlib.Omega.{arith}
-use mathlib.Core.Path.{_≡_, refl, sym, ap, _∙_, subst}
+use mathlib.Core.Path.{_≡_, refl, sym, ap, ap₂, _∙_, subst}
 use mathlib.Core.List.{List, _++_}
-use lib.ListN.{length, drop, replicate, length-map}
-use Rattle.lent.specs.Regions.{put, puts}
+use lib.ListN.{length, drop, replicate}
+use Rattle.lent.specs.Regions.{puts}
 use Rattle.text.specs.declared.Cursor.{Cursor}
-use Rattle.block.specs.PositionBytes.{positionBytes}
+use Rattle.jkf.specs.Answers.{Outcome}
 use Rattle.jkf.specs.Attaching.{Hung, all, first, Play, attach, allHung}
 use Rattle.jkf.specs.declared.Position.{Position}
+use Rattle.jkf.specs.declared.Answer.{Answer}
 use Rattle.jkf.specs.declared.Answer.the-variants.{Done, NoEntry}
-use Rattle.jkf.specs.Model.{Header, Noted, Line}
-use Rattle.block.specs.Encode.{headBytes, blockLength, headerText, entriesOf, commentsOf, commentText, encodeFlat, encode}
-use Rattle.kakinoki.specs.Informations.{headerAt}
-use Rattle.kakinoki.specs.Starts.{startOf}
-use Rattle.parser.specs.Plays.{playsAt}
-use Rattle.parser.specs.Filling.{headersAt, sizesAt, hanging, lineTexts, lineEnds, Headed, HeadersFit, HeaderLines, LinesFit}
-use Rattle.parser.specs.Parse.{Parsed, headersOf, parse, needed, recordOf}
-use Rattle.parser.specs.Read.{Prepared, Measured, headOf, filledWith}
-use Rattle.parser.specs.declared.Heads.{Heads}
-use Rattle.parser.specs.declared.Walk.{Walk}
-use Rattle.parser.specs.declared.Sizes.{Sizes}
+use Rattle.jkf.specs.Model.{Header, Line}
+use Rattle.block.specs.PositionBytes.{positionBytes}
+use Rattle.block.specs.Encode.{entriesOf, commentsOf, encodeFlat, encode}
+use Rattle.filling.specs.Filling.{atFront, unlessRefused, lengthOf, begun, opening, opened, putHeaders}
+use Rattle.filling.specs.Parts.{lineTexts, lineEnds, Headed, LinesFit}
+use Rattle.filling.specs.declared.Sizes.{Sizes}
+use Rattle.filling.specs.declared.Walk.{Walk}
+use Rattle.filling.specs.declared.Opening.the-variants.{Begun, Refused}
+use Rattle.filling.proofs.Growing.{headers-put}
+use Rattle.filling.proofs.Putting.{Opens, opens, refuses, unrefused}
+use Rattle.filling.proofs.Wholes.{front-size, front-rest, headers-fit, lines-fit, block-filled}
+use Rattle.plays.specs.Plays.{playsAt}
+use Rattle.parser.specs.Headers.{headersAt}
+use Rattle.parser.specs.Lines.{hanging}
+use Rattle.parser.specs.Parse.{Parsed, parse, needed, recordOf}
+use Rattle.parser.specs.Read.{Prepared, parsedSizes, Opened, filledWith, storedOf}
 use Rattle.parser.specs.declared.Hanging.{Hanging}
 use Rattle.parser.specs.declared.Hanging.the-variants.{AllHung, Lost}
-use Rattle.parser.proofs.Hung.{attach-length, attach-entries}
 use Rattle.parser.proofs.Opening.{start-length}
-use Rattle.parser.proofs.Storing.{header-lines, headers-are}
-use Rattle.parser.proofs.Wholes.{head, linePlace, movePlace, commentPlace, textPlace, headers-room, lines-room, block-filled}
+use Rattle.parser.proofs.Needing.{needed-is}
+use Rattle.parser.proofs.Storing.{headers-are, needed-length}
 
 -- what a filling of lines answered
 hanging-all : (h : Hung) (at : ℕ) (c : Cursor) → AllHung c ≡ hanging h at → (h ≡ all) × (c .at ≡ at)
@@ -56,7 +61,7 @@ hanging-lost (first j q) at k ply e = sym (ap back e)
 
 -- the answer and the buffer of a record that hangs, and of one that does not
 hung-filled : (r : Parsed) (o : List ℕ) → allHung (r .plays) ≡ all
-    → (filledWith r o .answer ≡ Done (r .taken) (needed r)) × (filledWith r o .buffer ≡ encode (recordOf r) ++ drop (needed r) o)
+    → (filledWith r o .answer ≡ Done (r .taken) (needed r)) × (filledWith r o .buffer ≡ atFront (encode (recordOf r)) o)
 unfolding filledWith
 hung-filled r o e = rw e (refl, refl)
 
@@ -65,149 +70,124 @@ lost-filled : (r : Parsed) (o : List ℕ) (k ply : ℕ) → allHung (r .plays) �
 unfolding filledWith
 lost-filled r o k ply e = rw e (refl, refl)
 
--- the block of what a text says
-block-of : (s : List ℕ) (p : Position) (at : ℕ) (hd : List Header) → p ≡ startOf s .position → at ≡ startOf s .next .at → hd ≡ headersOf s
-    → encodeFlat 1 (positionBytes p) hd (attach (playsAt s at .state)) (entriesOf (attach (playsAt s at .state))) (commentsOf (entriesOf (attach (playsAt s at .state)))) ≡ encode (recordOf (parse s))
-unfolding encode parse
-block-of s p at hd a b e =
-    ap (λ (q : Position). flat q at hd) a ∙ ap (λ (k : ℕ). flat (startOf s .position) k hd) b ∙ ap (flat (startOf s .position) (startOf s .next .at)) e
-  where
-    flat : Position → ℕ → List Header → List ℕ
-    flat q k l = encodeFlat 1 (positionBytes q) l (attach (playsAt s k .state)) (entriesOf (attach (playsAt s k .state))) (commentsOf (entriesOf (attach (playsAt s k .state))))
+-- both look at a buffer's length, and at what stands past the block
+filled-same : (r : Parsed) (o o₁ : List ℕ) → length o₁ ≡ length o → drop (length (encode (recordOf r))) o₁ ≡ drop (length (encode (recordOf r))) o → filledWith r o₁ ≡ filledWith r o
+unfolding filledWith
+filled-same r o o₁ e q = rw (e, q)
 
--- all hang where the moves begin
-hung-there : (s : List ℕ) (at : ℕ) (h : Hung) → at ≡ startOf s .next .at → allHung (playsAt s at .state) ≡ h → allHung (parse s .plays) ≡ h
-unfolding parse
-hung-there s at h e q = ap (λ (k : ℕ). allHung (playsAt s k .state)) (sym e) ∙ q
+-- ---- the parts of a text
 
-taken-there : (s : List ℕ) (at : ℕ) → at ≡ startOf s .next .at → playsAt s at .at ≡ parse s .taken
-unfolding parse
-taken-there s at e = ap (λ (k : ℕ). playsAt s k .at) e
-
-module _ (s : List ℕ) (p : Position) (c : Cursor) (hs : List ℕ) (z : Sizes) (n : ℕ) (o : List ℕ) (f : Prepared s p (c .at) hs) (m : Measured s z n o) where
+module _ (s : List ℕ) {p : Position} (c : Cursor) (hs : List ℕ) (f : Prepared s p (c .at) hs) where
   abbrev hd : List Header
-  hd = headersAt s hs
-
-  abbrev ps : List Play
-  ps = playsAt s (c .at) .state
+  hd = parse s .headers
 
   abbrev ls : List Line
-  ls = attach ps
+  ls = attach (parse s .plays)
 
-  headers-is : hd ≡ headersOf s
-  headers-is = ap (headersAt s) (f .headers) ∙ sym (headers-are s)
+  headers-there : headersAt s hs ≡ hd
+  unfolding parse
+  headers-there = ap (headersAt s) (f .headers) ∙ sym (headers-are s)
 
-  sized : z ≡ sizesAt s (c .at)
-  sized = m .sizes ∙ ap (sizesAt s) (sym (f .place))
+  plays-there : playsAt s (c .at) .state ≡ parse s .plays
+  unfolding parse
+  plays-there = ap (λ (k : ℕ). playsAt s k .state) (f .place)
 
-  few : length hs ≡ length hd
-  few = sym (length-map hs (headerAt s))
+  taken-there : playsAt s (c .at) .at ≡ parse s .taken
+  unfolding parse
+  taken-there = ap (λ (k : ℕ). playsAt s k .at) (f .place)
 
-  lines-are : z .lines ≡ length ls
-  unfolding sizesAt
-  lines-are = ap (λ (y : Sizes). y .lines) sized ∙ sym (attach-length ps)
+  position-long : length (positionBytes (parse s .position)) ≡ 100
+  unfolding parse
+  position-long = start-length s
 
-  entries-are : z .entries ≡ length (entriesOf ls)
-  unfolding sizesAt
-  entries-are = ap (λ (y : Sizes). y .entries) sized ∙ ap length (sym (attach-entries ps))
+  block-is : encodeFlat 1 (positionBytes (parse s .position)) hd ls (entriesOf ls) (commentsOf (entriesOf ls)) ≡ encode (recordOf (parse s))
+  unfolding encode
+  block-is = refl
 
-  comments-are : z .comments ≡ length (commentsOf (entriesOf ls))
-  unfolding sizesAt
-  comments-are = ap (λ (y : Sizes). y .comments) sized ∙ ap (λ (l : List Noted). length (commentsOf l)) (sym (attach-entries ps))
+  block-long : lengthOf (parsedSizes (parse s)) ≡ length (encode (recordOf (parse s)))
+  block-long = needed-length f ∙ sym (needed-is s)
 
-  position-long : length (positionBytes p) ≡ 100
-  position-long = ap (λ (q : Position). length (positionBytes q)) (f .position) ∙ start-length s
+  -- ---- filled
 
-  size : n ≡ blockLength (length hd) (length ls) (length (entriesOf ls)) (length (commentsOf (entriesOf ls))) (length (headerText hd) + length (commentText (commentsOf (entriesOf ls))))
-  unfolding needed parse
-  size =
-      m .needs ∙ ap (λ (l : List Header). neededWith l (attach (playsAt s (startOf s .next .at) .state))) (sym headers-is)
-      ∙ ap (λ (k : ℕ). neededWith hd (attach (playsAt s k .state))) (sym (f .place))
-    where
-      neededWith : List Header → List Line → ℕ
-      neededWith l x = blockLength (length l) (length x) (length (entriesOf x)) (length (commentsOf (entriesOf x))) (length (headerText l) + length (commentText (commentsOf (entriesOf x))))
+  module _ (w : Walk) (n : ℕ) (o : List ℕ) (m : Opened (parse s) w n o) where
+    short : lengthOf (parsedSizes (parse s)) ≤ 65535
+    short = omega (arith, m .most, m .total)
 
-  -- the places as they were reckoned
-  line-place : 128 + 8 * length hs ≡ linePlace n p hd ls
-  line-place = omega (arith, few)
+    room : lengthOf (parsedSizes (parse s)) ≤ length (m .before)
+    room = omega (arith, m .room, m .total)
 
-  move-place : 128 + 8 * length hs + 8 * z .lines ≡ movePlace n p hd ls
-  move-place = omega (arith, few, lines-are)
+    module _ (v : Walk) (o₁ : List ℕ) (a : v ≡ putHeaders (headersAt s hs) w o .walk) (b : o₁ ≡ putHeaders (headersAt s hs) w o .buffer) where
+      headed : Headed hd (begun (parsedSizes (parse s))) v o o₁
+      headed =
+          let z = begun (parsedSizes (parse s)) in
+          let a₁ : v ≡ putHeaders hd z o .walk = a ∙ ap₂ (λ (l : List Header) (x : Walk). putHeaders l x o .walk) headers-there (m .walk) in
+          let b₁ : o₁ ≡ putHeaders hd z o .buffer = b ∙ ap₂ (λ (l : List Header) (x : Walk). putHeaders l x o .buffer) headers-there (m .walk) in
+          subst (λ (x : Walk). Headed hd z x o o₁) (sym a₁)
+          (subst (λ (l : List ℕ). Headed hd z (putHeaders hd z o .walk) o l) (sym b₁)
+          (headers-put hd (headers-fit 1 (parse s .position) hd ls position-long short (m .before) room o (m .front))))
 
-  comment-place : 128 + 8 * length hs + 8 * z .lines + 20 * z .entries ≡ commentPlace n p hd ls
-  comment-place = omega (arith, few, lines-are, entries-are)
+      pub lines-there : LinesFit (attach (playsAt s (c .at) .state)) v o₁
+      lines-there =
+          subst (λ (ps : List Play). LinesFit (attach ps) v o₁) (sym plays-there)
+          (lines-fit 1 (parse s .position) hd ls position-long short (m .before) room o (m .front) v o₁ headed)
 
-  text-place : 128 + 8 * length hs + 8 * z .lines + 20 * z .entries + 4 * z .comments ≡ textPlace n p hd ls
-  text-place = omega (arith, few, lines-are, entries-are, comments-are)
-
-  pub reckoned : blockLength (length hs) (z .lines) (z .entries) (z .comments) 0 ≤ 65535
-  reckoned = omega (arith, few, lines-are, entries-are, comments-are, size, m .most)
-
-  pub front-fits : (128 ≤ length o) × (n ≤ 65535) × (blockLength (length hs) (z .lines) (z .entries) (z .comments) 0 ≤ 65535) × (length (positionBytes p) ≡ 100)
-  front-fits = (omega (arith, size, m .room), m .most, reckoned, position-long)
-
-  pub lines-known : HeaderLines s hs
-  lines-known = subst (HeaderLines s) (sym (f .headers)) (header-lines s (f .short))
-
-  module _ (o₁ : List ℕ) (one : o₁ ≡ put o 0 (headOf n (length hs) z p)) where
-    first-is : o₁ ≡ put o 0 (head n p hd ls)
-    first-is =
-        one ∙ ap (λ (k : ℕ). put o 0 (headBytes 1 n k (z .lines) (z .entries) (z .comments) ++ positionBytes p)) few
-        ∙ ap (λ (k : ℕ). put o 0 (headBytes 1 n (length hd) k (z .entries) (z .comments) ++ positionBytes p)) lines-are
-        ∙ ap (λ (k : ℕ). put o 0 (headBytes 1 n (length hd) (length ls) k (z .comments) ++ positionBytes p)) entries-are
-        ∙ ap (λ (k : ℕ). put o 0 (headBytes 1 n (length hd) (length ls) (length (entriesOf ls)) k ++ positionBytes p)) comments-are
-
-    abbrev begins : Heads
-    begins = record { rows = 128; text = 128 + 8 * length hs + 8 * z .lines + 20 * z .entries + 4 * z .comments; bytes = 0 }
-
-    begins-is : begins ≡ record { rows = 128; text = textPlace n p hd ls; bytes = 0 }
-    begins-is = ap (λ (k : ℕ). heads k) text-place
-      where
-        heads : ℕ → Heads
-        heads k = record { rows = 128; text = k; bytes = 0 }
-
-    pub headers-fit : HeadersFit hd begins o₁
-    headers-fit = headers-room n p hd ls position-long o size (m .room) o₁ first-is begins begins-is (m .most)
-
-    module _ (r : Heads) (o₂ : List ℕ) (two : Headed hd begins r o₁ o₂) where
-      abbrev walk : Walk
-      walk =
-          record {
-            moves = 128 + 8 * length hs + 8 * z .lines;
-            comments = 128 + 8 * length hs + 8 * z .lines + 20 * z .entries;
-            text = r .text;
-            entries = 0;
-            noted = 0;
-            bytes = r .bytes;
-            next = c;
-          }
-
-      walk-is : walk ≡ record { moves = movePlace n p hd ls; comments = commentPlace n p hd ls; text = r .text; entries = 0; noted = 0; bytes = r .bytes; next = c }
-      walk-is = ap (λ (k : ℕ). walked k (128 + 8 * length hs + 8 * z .lines + 20 * z .entries)) move-place ∙ ap (λ (k : ℕ). walked (movePlace n p hd ls) k) comment-place
-        where
-          walked : ℕ → ℕ → Walk
-          walked a b = record { moves = a; comments = b; text = r .text; entries = 0; noted = 0; bytes = r .bytes; next = c }
-
-      pub lines-fit : LinesFit ls (128 + 8 * length hs) walk o₂
-      lines-fit =
-          subst (λ (l : ℕ). LinesFit ls l walk o₂) (sym line-place)
-          (lines-room n p hd ls position-long o size (m .room) o₁ first-is begins r o₂ begins-is two walk c walk-is (m .most))
-
-      pub all-stored : (h : Hanging) (end : Cursor) (o₃ : List ℕ) → h ≡ hanging (allHung ps) (playsAt s (c .at) .at)
-          → (allHung ps ≡ all → o₃ ≡ puts o₂ (lineEnds (128 + 8 * length hs) walk) (lineTexts 0 0 (r .bytes) ls)) → h ≡ AllHung end
-          → (Done (end .at) n ≡ filledWith (parse s) o .answer) × (o₃ ≡ filledWith (parse s) o .buffer)
-      all-stored h end o₃ e g q =
-          let (a, b) = hanging-all (allHung ps) (playsAt s (c .at) .at) end (sym q ∙ e) in
-          let k = hung-filled (parse s) o (hung-there s (c .at) all (f .place) a) in
-          let w = block-filled n p hd ls position-long o size (m .room) o₁ first-is begins r o₂ begins-is two walk c walk-is
-          (g a ∙ ap (λ (l : ℕ). puts o₂ (lineEnds l walk) (lineTexts 0 0 (r .bytes) ls)) line-place) in (
-            ap (λ (x : ℕ). Done x n) (b ∙ taken-there s (c .at) (f .place)) ∙ ap (Done (parse s .taken)) (m .needs) ∙ sym (k .0),
-            w ∙ ap (λ (l : List ℕ). l ++ drop n o) (block-of s p (c .at) hd (f .position) (f .place) headers-is)
-                ∙ ap (λ (x : ℕ). encode (recordOf (parse s)) ++ drop x o) (m .needs) ∙ sym (k .1),
+      pub all-stored : (h : Hanging) (end : Cursor) {o₂ : List ℕ} → h ≡ hanging (allHung (playsAt s (c .at) .state)) (playsAt s (c .at) .at)
+          → (allHung (playsAt s (c .at) .state) ≡ all → o₂ ≡ puts o₁ (lineEnds v) (lineTexts 0 0 (v .bytes) (attach (playsAt s (c .at) .state)))) → h ≡ AllHung end
+          → (Done (end .at) n ≡ filledWith (parse s) o .answer) × (o₂ ≡ filledWith (parse s) o .buffer)
+      all-stored h end {o₂} e g q =
+          let (x, y) = hanging-all (allHung (playsAt s (c .at) .state)) (playsAt s (c .at) .at) end (sym q ∙ e) in
+          let k = hung-filled (parse s) o (ap allHung (sym plays-there) ∙ x) in
+          let l : length (encode (recordOf (parse s))) ≡ lengthOf (parsedSizes (parse s)) = sym block-long in
+          let z = block-filled 1 (parse s .position) hd ls position-long short (m .before) room o (m .front) v o₁ headed
+          (g x ∙ ap (λ (ps : List Play). puts o₁ (lineEnds v) (lineTexts 0 0 (v .bytes) (attach ps))) plays-there) in
+          let r = front-rest 1 (parse s .position) hd ls position-long short (m .before) room o (m .front) in (
+            ap₂ Done (y ∙ taken-there) (m .total ∙ needed-length f) ∙ sym (k .0),
+            z ∙ ap₂ _++_ block-is (sym r ∙ ap (λ (j : ℕ). drop j o) block-long) ∙ sym (k .1),
           )
 
-pub none-stored : (s o : List ℕ) (c : Cursor) (h : Hanging) (k ply : ℕ) (o₃ : List ℕ) → c .at ≡ startOf s .next .at → h ≡ hanging (allHung (playsAt s (c .at) .state)) (playsAt s (c .at) .at)
-    → h ≡ Lost k ply → o₃ ≡ replicate (length o) 0 → (NoEntry k ply ≡ filledWith (parse s) o .answer) × (o₃ ≡ filledWith (parse s) o .buffer)
-none-stored s o c h k ply o₃ a e q b =
-    let l = lost-filled (parse s) o k ply (hung-there s (c .at) (first k ply) a (hanging-lost (allHung (playsAt s (c .at) .state)) (playsAt s (c .at) .at) k ply (sym q ∙ e))) in
-    (sym (l .0), b ∙ sym (l .1))
+      pub none-stored : (h : Hanging) (k ply : ℕ) {o₃ : List ℕ} → h ≡ hanging (allHung (playsAt s (c .at) .state)) (playsAt s (c .at) .at)
+          → h ≡ Lost k ply → o₃ ≡ replicate (length o) 0 → (NoEntry k ply ≡ filledWith (parse s) o .answer) × (o₃ ≡ filledWith (parse s) o .buffer)
+      none-stored h k ply {o₃} e q b =
+          let x = hanging-lost (allHung (playsAt s (c .at) .state)) (playsAt s (c .at) .at) k ply (sym q ∙ e) in
+          let l = lost-filled (parse s) o k ply (ap allHung (sym plays-there) ∙ x) in
+          (sym (l .0), b ∙ sym (l .1))
+
+  -- ---- stored
+
+  position-there : p ≡ parse s .position
+  unfolding parse
+  position-there = f .position
+
+  pub prepared-so : Prepared s (parse s .position) (c .at) hs
+  prepared-so = subst (λ (r : Position). Prepared s r (c .at) hs) position-there f
+
+  module _ (o : List ℕ) {z : Sizes} (sized : z ≡ parsedSizes (parse s)) {o₁ : List ℕ} (left : o₁ ≡ opened 1 z p o) where
+    -- a refusal is the one that the block's length calls for
+    pub refused-so : {a : Answer} → Refused a ≡ opening z (length o) → (a ≡ storedOf (parse s) o .answer) × (o₁ ≡ storedOf (parse s) o .buffer)
+    unfolding storedOf
+    refused-so {a} e =
+        subst (λ (n : ℕ). (a ≡ unlessRefused n o (filledWith (parse s) o) .answer) × (o₁ ≡ unlessRefused n o (filledWith (parse s) o) .buffer))
+        (ap lengthOf sized ∙ needed-length f) (refuses 1 z p o e left (filledWith (parse s) o))
+
+    module _ {w : Walk} {n : ℕ} (e : Begun w n ≡ opening z (length o)) where
+      opens-so : Opens 1 (parsedSizes (parse s)) (parse s .position) w n o o₁
+      opens-so =
+          opens 1 (parsedSizes (parse s)) (parse s .position) o (e ∙ ap (λ (y : Sizes). opening y (length o)) sized)
+          (left ∙ ap₂ (λ (y : Sizes) (r : Position). opened 1 y r o) sized position-there)
+
+      pub opened-so : Opened (parse s) w n o₁
+      opened-so =
+          let q = opens-so in
+          record { before = o; walk = q .walk; total = q .total; most = omega (arith, q .total, q .short); room = omega (arith, q .total, q .room); front = q .front }
+
+      -- what is filled into a block that is begun is what is stored
+      pub stored-so : {a : Answer} {o₂ : List ℕ} → a ≡ filledWith (parse s) o₁ .answer → o₂ ≡ filledWith (parse s) o₁ .buffer
+          → (a ≡ storedOf (parse s) o .answer) × (o₂ ≡ storedOf (parse s) o .buffer)
+      unfolding storedOf
+      stored-so {a} {o₂} x y =
+          let q = opens-so in
+          let k = front-size 1 (parse s .position) hd ls position-long (q .short) o (q .room) o₁ (q .front) in
+          let r = front-rest 1 (parse s .position) hd ls position-long (q .short) o (q .room) o₁ (q .front) in
+          let same = filled-same (parse s) o o₁ k (subst (λ (j : ℕ). drop j o₁ ≡ drop j o) block-long r) in
+          let u = unrefused (needed (parse s)) o (filledWith (parse s) o) (omega (arith, needed-length f, q .short)) (omega (arith, needed-length f, q .room)) in
+          (x ∙ ap (λ (g : Outcome). g .answer) (same ∙ sym u), y ∙ ap (λ (g : Outcome). g .buffer) (same ∙ sym u))

@@ -2,27 +2,26 @@
 -- Assumes nothing.
 use Prim.Native.Nat.{ℕ, _+_, _-_, _*_, _≤_, _<_}
 use native.Mathlib.Omega.{arith}
-use mathlib.Core.Path.{_≡_, refl, sym, ap, ap₂, _∙_, subst}
-use mathlib.Core.List.{List, [], _∷_, _++_, append-nil}
+use mathlib.Core.Path.{_≡_, refl, sym, ap, ap₂, _∙_}
+use mathlib.Core.List.{List, [], _∷_}
 use mathlib.Core.Bool.{true, false, false≢true}
-use lib.ListN.{length, take, drop, getD, length-append, length-drop, drop-of-length-le}
+use lib.ListN.{length, take, drop, getD, length-drop, drop-of-length-le}
 use lib.Seq.{length-take-le}
 use Rattle.lists.proofs.Laws.{drop-step}
-use Rattle.lent.specs.Bytes.{bytes16, fitting}
-use Rattle.lent.specs.Regions.{join, Room, Left, Stored, put}
-use Rattle.lent.proofs.Regions.{left-start, left-room, left-step, left-done, length-put, put-more, stored-all}
 use Rattle.text.specs.Text.{keyAt}
 use Rattle.text.specs.declared.Cursor.{Cursor}
 use Rattle.text.proofs.Boundaries.{key-part}
 use Rattle.jkf.specs.Model.{Header}
-use Rattle.block.specs.Encode.{table, concat, headerRow, headerStep, headerText}
-use Rattle.block.proofs.Tabling.{after, table-append, concat-append, after-adds}
+use Rattle.block.specs.Encode.{concat, headerText}
+use Rattle.filling.specs.Filling.{header, putHeader, putHeaders}
+use Rattle.filling.specs.declared.Walk.{Walk}
+use Rattle.filling.proofs.Texts.{keyed, one-header}
+use Rattle.filling.proofs.Growing.{header-size, Doing, doing-start, doing-step, doing-as, doing-done}
 use Rattle.kakinoki.specs.Informations.{onKeyValue, textBetween, keyValueAt, headerAt}
 use Rattle.kakinoki.specs.declared.KeyValue.{KeyValue}
 use Rattle.kakinoki.specs.declared.KeyValue.the-variants.{Pair, NoPair}
 use Rattle.kakinoki.proofs.Lines.{pair-known}
-use Rattle.parser.specs.Filling.{headerTexts, headerEnds, isHeaderLine, HeaderLines, headersAt, HeadersFit, Headed}
-use Rattle.parser.specs.declared.Heads.{Heads}
+use Rattle.parser.specs.Headers.{isHeaderLine, HeaderLines, headersAt}
 
 -- ---- a header line
 
@@ -55,13 +54,6 @@ paired s at from to next e =
 part-long : (s : List ℕ) (a b : ℕ) → a ≤ b → b ≤ length s → length (take (b - a) (drop a s)) ≡ b - a
 part-long s a b h k = length-take-le (b - a) (drop a s) (rw (length-drop a s) (omega arith))
 
-pub text-long : (x : Header) → length (headerText (x ∷ [])) ≡ length (x .key) + length (x .value)
-unfolding concat
-text-long x = ap length (append-nil (x .key ++ x .value)) ∙ length-append (x .key) (x .value)
-
-pub text-more : (x : Header) (hs : List Header) → length (headerText (x ∷ hs)) ≡ length (headerText (x ∷ [])) + length (headerText hs)
-text-more x hs = ap length (concat-append (λ h. h .key ++ h .value) (x ∷ []) hs) ∙ length-append (headerText (x ∷ [])) (headerText hs)
-
 module _ (s : List ℕ) (at : ℕ) (from to : Cursor) (h : Paired s at from to) where
   key-long : length (headerAt s at .key) ≡ from .at - 3 - at
   key-long = ap length (h .key) ∙ part-long s at (from .at - 3) (omega (arith, h .colon)) (omega (arith, h .onward, h .within))
@@ -70,7 +62,7 @@ module _ (s : List ℕ) (at : ℕ) (from to : Cursor) (h : Paired s at from to) 
   value-long = ap length (h .value) ∙ part-long s (from .at) (to .at) (h .onward) (omega (arith, h .within))
 
   pub entry-long : length (headerText (headerAt s at ∷ [])) ≡ to .at - 3 - at
-  entry-long = omega (arith, text-long (headerAt s at), key-long, value-long, h .colon, h .onward)
+  entry-long = omega (arith, one-header (headerAt s at), key-long, value-long, h .colon, h .onward)
 
 -- where no pair stands there is no header line
 pub no-line : (s : List ℕ) (at : ℕ) → isHeaderLine s at ≡ true → keyValueAt s at ≡ NoPair → ⊥
@@ -110,7 +102,7 @@ module _ (s ps : List ℕ) {bytes : ℕ} (i : ℕ) (l : HeaderLines s ps) (v : S
   summing-more p n e h q =
       let rest = headersAt s (drop (i + 1) ps) in
       let m : length (headerText (headersAt s (drop i ps))) ≡ n + length (headerText rest) =
-      ap (λ (hs : List Header). length (headerText hs)) (places-more s ps i p e h) ∙ text-more (headerAt s p) rest ∙ ap (λ (k : ℕ). k + length (headerText rest)) (sym q) in
+      ap (λ (hs : List Header). length (headerText hs)) (places-more s ps i p e h) ∙ keyed (headerAt s p ∷ []) rest ∙ ap (λ (k : ℕ). k + length (headerText rest)) (sym q) in
       record {
         sum = omega (arith, m, v .sum);
         small = omega (arith, v .small, q, entry-short s p (place-line s ps i p l e h), l .short);
@@ -122,95 +114,20 @@ module _ (s ps : List ℕ) {bytes : ℕ} (i : ℕ) (l : HeaderLines s ps) (v : S
 
 -- ---- filled
 
-module _ (bytes : ℕ) (xs ys : List Header) where
-  header-after : after headerRow headerStep bytes xs ≡ bytes + length (headerText xs)
-  header-after =
-      after-adds headerRow headerStep (λ h. h .key ++ h .value) (λ s x. omega (arith, length-append (x .key) (x .value))) bytes xs
+-- the header entry of a line, by its key and its value
+pub header-is : (s : List ℕ) (at : ℕ) (from to : Cursor) → Paired s at from to → header (take (from .at - 3 - at) (drop at s)) (textBetween s from to) ≡ headerAt s at
+header-is s at from to h = sym (ap₂ header (h .key) (h .value))
 
-  headers-append : headerTexts bytes (xs ++ ys) ≡ join (headerTexts bytes xs) (headerTexts (bytes + length (headerText xs)) ys)
-  headers-append =
-      ap₂ (λ (k l : List ℕ). k ∷ l ∷ [])
-      (table-append headerRow headerStep bytes xs ys ∙ ap (λ (n : ℕ). table headerRow headerStep bytes xs ++ table headerRow headerStep n ys) header-after)
-      (concat-append (λ h. h .key ++ h .value) xs ys)
+pub record Heading (s ps : List ℕ) (w₀ w : Walk) (i : ℕ) (o₀ o : List ℕ) : Type 0 where
+  pub doing : Doing putHeader (headersAt s ps) (headersAt s (drop i ps)) w₀ w o₀ o
 
-pub record Heading (hs₀ hs : List Header) (h v : Heads) (o₀ o : List ℕ) : Type 0 where
-  pub left : Left (headerTexts (h .bytes) hs₀) (headerTexts (v .bytes) hs) o₀ o (headerEnds h) (headerEnds v)
-  pub bytes : v .bytes + length (headerText hs) ≡ h .bytes + length (headerText hs₀)
+pub heading-start : {s ps : List ℕ} {w : Walk} {o : List ℕ} → Heading s ps w w 0 o o
+heading-start = record { doing = doing-start }
 
-pub heading-start : {hs : List Header} {h : Heads} {o : List ℕ} → HeadersFit hs h o → Heading hs hs h h o o
-heading-start f = record { left = left-start (f .room); bytes = refl }
+module _ {s ps : List ℕ} {w₀ w : Walk} {i : ℕ} {o₀ o : List ℕ} (h : Heading s ps w₀ w i o₀ o) where
+  pub heading-step : {w′ : Walk} {o′ : List ℕ} (p : ℕ) → p ≡ getD ps i 0 → i < length ps → w′ ≡ putHeader (headerAt s p) w o .walk
+      → o′ ≡ putHeader (headerAt s p) w o .buffer → Heading s ps w₀ w′ (i + 1) o₀ o′
+  heading-step p e k a b = record { doing = doing-step (headerAt s p) (header-size (headerAt s p) w o) (doing-as (places-more s ps i p e k) (h .doing)) a b }
 
-module _ {hs₀ : List Header} {h v : Heads} {o₀ o : List ℕ} where
-  pub heading-fits : (x : Header) (hs : List Header) → HeadersFit hs₀ h o₀ → Heading hs₀ (x ∷ hs) h v o₀ o → HeadersFit (x ∷ []) v o
-  heading-fits x hs f i =
-      record {
-        bytes = omega (arith, i .bytes, f .bytes, text-more x hs);
-        room = left-room (headerTexts (v .bytes) (x ∷ [])) (headerTexts (v .bytes + length (headerText (x ∷ []))) hs) (headers-append (v .bytes) (x ∷ []) hs) (i .left);
-      }
-
-  pub heading-step : {r : Heads} {o′ : List ℕ} (x : Header) (hs : List Header) → Heading hs₀ (x ∷ hs) h v o₀ o → Headed (x ∷ []) v r o o′ → Heading hs₀ hs h r o₀ o′
-  heading-step {r} {o′} x hs i d =
-      record {
-        left =
-            subst (λ (n : ℕ). Left (headerTexts (h .bytes) hs₀) (headerTexts n hs) o₀ o′ (headerEnds h) (headerEnds r)) (sym (d .bytes))
-            (left-step (headers-append (v .bytes) (x ∷ []) hs) (i .left) (d .filled));
-        bytes = omega (arith, d .bytes, i .bytes, text-more x hs);
-      }
-
-  pub heading-done : Heading hs₀ [] h v o₀ o → Headed hs₀ h v o₀ o
-  unfolding concat table
-  heading-done i = record { filled = left-done (i .left) (refl, (refl, tt)); bytes = omega (arith, i .bytes) }
-
-  -- the same of places
-  module _ (s ps : List ℕ) (i : ℕ) (w : Heading hs₀ (headersAt s (drop i ps)) h v o₀ o) where
-    module _ (p : ℕ) (e : p ≡ getD ps i 0) (k : i < length ps) where
-      at-place : Heading hs₀ (headerAt s p ∷ headersAt s (drop (i + 1) ps)) h v o₀ o
-      at-place = subst (λ (hs : List Header). Heading hs₀ hs h v o₀ o) (places-more s ps i p e k) w
-
-      pub place-fits : HeadersFit hs₀ h o₀ → HeadersFit (headerAt s p ∷ []) v o
-      place-fits f = heading-fits (headerAt s p) (headersAt s (drop (i + 1) ps)) f at-place
-
-      pub place-step : {r : Heads} {o′ : List ℕ} → Headed (headerAt s p ∷ []) v r o o′ → Heading hs₀ (headersAt s (drop (i + 1) ps)) h r o₀ o′
-      place-step d = heading-step (headerAt s p) (headersAt s (drop (i + 1) ps)) at-place d
-
-    pub place-done : length ps ≤ i → Headed hs₀ h v o₀ o
-    place-done k = heading-done (subst (λ (hs : List Header). Heading hs₀ hs h v o₀ o) (places-none s ps i k) w)
-
--- ---- one header entry
-
--- its row is stored where the rows end; its key where the texts end, and its value after the key
-pub stored-header : (x : Header) (h : Heads) {o o₁ o₂ o₃ : List ℕ} {p q r : ℕ} → Room (length o) (headerEnds h) (headerTexts (h .bytes) (x ∷ []))
-    → Stored (fitting (headerRow (h .bytes) x) (drop (h .rows) o)) o o₁ (h .rows) p
-    → Stored (fitting (x .key) (drop (h .text) o₁)) o₁ o₂ (h .text) q
-    → Stored (fitting (x .value) (drop q o₂)) o₂ o₃ q r
-    → Headed (x ∷ []) h (record { rows = p; text = r; bytes = h .bytes + length (x .key) + length (x .value) }) o o₃
-unfolding table concat
-stored-header x h {o} {o₁} {o₂} {o₃} {p} {q} {r} room a b c =
-    let one : (x .key ++ x .value) ++ [] ≡ x .key ++ x .value = append-nil (x .key ++ x .value) in
-    let n : length ((x .key ++ x .value) ++ []) ≡ length (x .key) + length (x .value) = ap length one ∙ length-append (x .key) (x .value) in
-    let a₁ = stored-all {t = headerRow (h .bytes) x} (omega (arith, room .0, room .1 .0)) a in
-    let l₁ : length o₁ ≡ length o = ap length (a₁ .bytes) ∙ length-put o (h .rows) (headerRow (h .bytes) x) in
-    let b₁ = stored-all {t = x .key} (omega (arith, room .1 .0, n, l₁)) b in
-    let l₂ : length o₂ ≡ length o₁ = ap length (b₁ .bytes) ∙ length-put o₁ (h .text) (x .key) in
-    let c₁ = stored-all {t = x .value} (omega (arith, room .1 .0, n, l₁, l₂, b₁ .end)) c in
-    record {
-      filled =
-          record {
-            bytes =
-                c₁ .bytes ∙ ap₂ (λ (u : List ℕ) (m : ℕ). put u m (x .value)) (b₁ .bytes) (b₁ .end)
-                ∙ put-more o₁ (x .key) (x .value) (h .text)
-                ∙ ap₂ (λ (u t : List ℕ). put u (h .text) t) (a₁ .bytes) (sym one);
-            ends = (a₁ .end, (omega (arith, b₁ .end, c₁ .end, n), tt));
-          };
-      bytes = omega (arith, n);
-    }
-
-pub header-filled : (s : List ℕ) (at : ℕ) (from to : Cursor) (h : Heads) {o o₁ o₂ o₃ : List ℕ} {p q r : ℕ} → Paired s at from to
-    → Room (length o) (headerEnds h) (headerTexts (h .bytes) (headerAt s at ∷ []))
-    → Stored (fitting (bytes16 (h .bytes) ++ bytes16 (from .at - 3 - at) ++ bytes16 (h .bytes + (from .at - 3 - at)) ++ bytes16 (to .at - from .at)) (drop (h .rows) o)) o o₁ (h .rows) p
-    → Stored (fitting (take (from .at - 3 - at) (drop at s)) (drop (h .text) o₁)) o₁ o₂ (h .text) q
-    → Stored (fitting (textBetween s from to) (drop q o₂)) o₂ o₃ q r
-    → Headed (headerAt s at ∷ []) h (record { rows = p; text = r; bytes = h .bytes + (from .at - 3 - at) + (to .at - from .at) }) o o₃
-header-filled s at from to h e room a b c =
-    rw (← key-long s at from to e, ← value-long s at from to e)
-    (stored-header (headerAt s at) h room (rw (← key-long s at from to e, ← value-long s at from to e) at a) (rw (← e .key) at b) (rw (← e .value) at c))
+  pub heading-done : length ps ≤ i → (w ≡ putHeaders (headersAt s ps) w₀ o₀ .walk) × (o ≡ putHeaders (headersAt s ps) w₀ o₀ .buffer)
+  heading-done k = doing-done (doing-as (places-none s ps i k) (h .doing))

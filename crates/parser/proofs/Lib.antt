@@ -1,14 +1,5 @@
-pub mod Texts
-pub mod Walks
-pub mod Rooms
-pub mod Items
-pub mod Weights
-pub mod Counting
-pub mod Entries
 pub mod Variations
-pub mod Hung
 pub mod Sizing
-pub mod Rowed
 pub mod Mains
 pub mod Headed
 pub mod Lining
@@ -16,7 +7,5 @@ pub mod Alls
 pub mod Opening
 pub mod Needing
 pub mod Storing
-pub mod Fronts
-pub mod Wholes
 pub mod Completing
 pub mod Preparing

@@ -1,105 +1,81 @@
 -- The main line is filled in: the slot with its comments, the entries, the row.
 -- Assumes nothing.
-use Prim.Native.Nat.{ℕ, _+_, _-_}
+use Prim.Native.Nat.{ℕ, _+_, _-_, _≤_}
 use native.Mathlib.Omega.{arith}
 use mathlib.Core.Path.{_≡_, refl, sym, ap, _∙_, subst}
 use mathlib.Core.List.{List, [], _∷_, _++_}
 use mathlib.Core.Bool.{Bool, true, false}
-use lib.ListN.{length, drop, length-append}
 use lib.Dec.{eqb}
 use borrow.Author.Tests.{eqb-true, eqb-false}
 use Rattle.lists.specs.Pick.{pick}
-use Rattle.lent.specs.Bytes.{bytes16, fitting}
-use Rattle.lent.specs.Regions.{Room, Stored}
-use Rattle.lent.proofs.Regions.{room-front, then-room}
 use Rattle.text.specs.declared.Cursor.{Cursor}
 use Rattle.jkf.specs.declared.Entry.the-variants.{Slot}
 use Rattle.jkf.specs.Model.{Noted}
-use Rattle.block.specs.Encode.{commentsOf, commentText}
-use Rattle.parser.specs.Plays.{noted, commentsAt, entriesAt, skippedAt, slotAt, pastMain, mainAt}
-use Rattle.parser.specs.Filling.{entryTexts, entryEnds, mainLine, movedTo, EntriesFit, Entered, LineFits, Lined}
-use Rattle.parser.specs.declared.Walk.{Walk}
-use Rattle.parser.proofs.Texts.{entries-append}
-use Rattle.parser.proofs.Sizing.{commented, written}
-use Rattle.parser.proofs.Entries.{fit-moved, entered-moved}
+use Rattle.filling.specs.Filling.{putNoted, putEntries, putLine}
+use Rattle.filling.specs.Parts.{EntriesFit, Entered, LineFits, Lined}
+use Rattle.filling.specs.declared.Walk.{Walk}
+use Rattle.filling.proofs.Growing.{noted-put, entries-front, entries-rest, entries-then, entries-put, line-fit, line-put}
+use Rattle.plays.specs.Plays.{noted, commentsAt, entriesAt, skippedAt, slotAt, pastMain, mainAt}
+use Rattle.plays.specs.declared.Reached.{Reached}
+use Rattle.parser.specs.Lines.{mainLine}
 use Rattle.parser.proofs.Variations.{main-is, main-none}
-use Rattle.parser.proofs.Rowed.{line-fit, line-filled, entered-then}
 
--- ---- room for some entries, and for those after them
+-- entries that are put, told by an equal walk and an equal buffer
+pub entered-by : {es : List Noted} {w v : Walk} {o o₁ : List ℕ} → EntriesFit es w o → v ≡ putEntries es w o .walk → o₁ ≡ putEntries es w o .buffer → Entered es w v o o₁
+entered-by {es} {w} {v} {o} {o₁} f p q =
+    subst (λ (x : Walk). Entered es w x o o₁) (sym p) (subst (λ (l : List ℕ). Entered es w (putEntries es w o .walk) o l) (sym q) (entries-put es f))
 
-pub fit-front : (xs ys : List Noted) {w : Walk} {o : List ℕ} → EntriesFit (xs ++ ys) w o → EntriesFit xs w o
-fit-front xs ys {w} {o} f =
-    record {
-      entries = omega (arith, f .entries, length-append xs ys);
-      noted = omega (arith, f .noted, commented xs ys);
-      bytes = omega (arith, f .bytes, written xs ys);
-      room = room-front (length o) (entryEnds w) (entryTexts (w .noted) (w .bytes) xs)
-          (entryTexts (w .noted + length (commentsOf xs)) (w .bytes + length (commentText (commentsOf xs))) ys) (subst (λ (ts : List (List ℕ)). Room (length o) (entryEnds w) ts) (entries-append (w .noted) (w .bytes) xs ys) (f .room));
-    }
-
-pub fit-rest : {xs ys : List Noted} {w v : Walk} {o o₁ : List ℕ} {at : ℕ} → EntriesFit (xs ++ ys) w o → Entered xs at w v o o₁ → EntriesFit ys v o₁
-fit-rest {xs} {ys} {w} {v} {o} {o₁} {at} f d =
-    let n = w .noted + length (commentsOf xs) in
-    let t = w .bytes + length (commentText (commentsOf xs)) in
-    let r : Room (length o₁) (entryEnds v) (entryTexts n t ys) =
-    then-room (entryTexts n t ys) (subst (λ (ts : List (List ℕ)). Room (length o) (entryEnds w) ts) (entries-append (w .noted) (w .bytes) xs ys) (f .room)) (d .filled) in
-    record {
-      entries = omega (arith, f .entries, d .entries, length-append xs ys);
-      noted = omega (arith, f .noted, d .noted, commented xs ys);
-      bytes = omega (arith, f .bytes, d .bytes, written xs ys);
-      room =
-          subst (λ (k : ℕ). Room (length o₁) (entryEnds v) (entryTexts k (v .bytes) ys)) (sym (d .noted))
-          (subst (λ (k : ℕ). Room (length o₁) (entryEnds v) (entryTexts n k ys)) (sym (d .bytes)) r);
-    }
-
--- ---- the main line
-
-module _ (s : List ℕ) (w : Walk) {l : ℕ} {o : List ℕ} (f : LineFits (mainLine s (w .next .at)) l w o) where
+module _ (s : List ℕ) (at : ℕ) (w : Walk) (o : List ℕ) (f : LineFits (mainLine s at) w o) where
   abbrev slot : Noted
-  slot = noted Slot (slotAt s (w .next .at) .state)
+  slot = noted Slot (slotAt s at .state)
 
   abbrev place : ℕ
-  place = slotAt s (w .next .at) .at
+  place = slotAt s at .at
 
   main-fit : EntriesFit ((slot ∷ []) ++ entriesAt s place .state) w o
   unfolding mainAt
-  main-fit = line-fit 0 0 (mainAt s (w .next .at) .entries) f
+  main-fit = line-fit 0 0 (mainAt s at .entries) f
 
-  pub slot-fit : (c : Cursor) (u : Walk) → c .at ≡ skippedAt s (w .next .at) → u ≡ movedTo w c → EntriesFit (noted Slot (commentsAt s (u .next .at) .state) ∷ []) u o
-  slot-fit c u p q =
-      let n : u .next .at ≡ skippedAt s (w .next .at) = ap (λ (x : Walk). x .next .at) q ∙ p in
-      subst (λ (x : Walk). EntriesFit (noted Slot (commentsAt s (u .next .at) .state) ∷ []) x o) (sym q)
-      (fit-moved c (subst (λ (k : ℕ). EntriesFit (noted Slot (commentsAt s k .state) ∷ []) w o) (sym n) (fit-front (slot ∷ []) (entriesAt s place .state) main-fit)))
-
-  module _ (c : Cursor) (u v : Walk) {o₁ : List ℕ} (p : c .at ≡ skippedAt s (w .next .at)) (q : u ≡ movedTo w c)
-      (d : Entered (noted Slot (commentsAt s (u .next .at) .state) ∷ []) (commentsAt s (u .next .at) .at) u v o o₁) where
-    slotted : Entered (slot ∷ []) place w v o o₁
+  module _ (c : Cursor) (u : Reached) (o₁ : List ℕ) (p : c .at ≡ skippedAt s at) (a : u .walk ≡ putNoted (noted Slot (commentsAt s (c .at) .state)) w o .walk)
+      (b : o₁ ≡ putNoted (noted Slot (commentsAt s (c .at) .state)) w o .buffer) (e : u .next .at ≡ commentsAt s (c .at) .at) where
+    slotted : Entered (slot ∷ []) w (u .walk) o o₁
     slotted =
-        let n : u .next .at ≡ skippedAt s (w .next .at) = ap (λ (x : Walk). x .next .at) q ∙ p in
-        entered-moved c
-        (subst (λ (x : Walk). Entered (slot ∷ []) place x v o o₁) q
-        (subst (λ (k : ℕ). Entered (noted Slot (commentsAt s k .state) ∷ []) (commentsAt s k .at) u v o o₁) n d))
+        let a₁ : u .walk ≡ putNoted slot w o .walk = a ∙ ap (λ (k : ℕ). putNoted (noted Slot (commentsAt s k .state)) w o .walk) p in
+        let b₁ : o₁ ≡ putNoted slot w o .buffer = b ∙ ap (λ (k : ℕ). putNoted (noted Slot (commentsAt s k .state)) w o .buffer) p in
+        subst (λ (x : Walk). Entered (slot ∷ []) w x o o₁) (sym a₁)
+        (subst (λ (l : List ℕ). Entered (slot ∷ []) w (putNoted slot w o .walk) o l) (sym b₁) (noted-put slot (entries-front (slot ∷ []) (entriesAt s place .state) main-fit)))
 
-    pub main-rest : EntriesFit (entriesAt s (v .next .at) .state) v o₁
-    main-rest = subst (λ (k : ℕ). EntriesFit (entriesAt s k .state) v o₁) (sym (slotted .next)) (fit-rest main-fit slotted)
+    past-slot : u .next .at ≡ place
+    past-slot = e ∙ ap (λ (k : ℕ). commentsAt s k .at) p
 
-    module _ (x : Walk) (e : Cursor) {o₂ o₃ : List ℕ} {r : ℕ} (g : Entered (entriesAt s (v .next .at) .state) (entriesAt s (v .next .at) .at) v x o₁ o₂)
-        (h : e .at ≡ pick (eqb (x .entries) (v .entries)) (v .next .at) (skippedAt s (x .next .at)))
-        (y : Stored (fitting (bytes16 0 ++ bytes16 (w .entries) ++ bytes16 (x .entries - w .entries) ++ bytes16 0) (drop l o₂)) o₂ o₃ l r) where
-      entered : Entered (entriesAt s place .state) (entriesAt s place .at) v x o₁ o₂
-      entered = subst (λ (k : ℕ). Entered (entriesAt s k .state) (entriesAt s k .at) v x o₁ o₂) (slotted .next) g
+    module _ (x : Reached) (o₂ : List ℕ) (g : x .walk ≡ putEntries (entriesAt s (u .next .at) .state) (u .walk) o₁ .walk)
+        (h : o₂ ≡ putEntries (entriesAt s (u .next .at) .state) (u .walk) o₁ .buffer) (i : x .next .at ≡ entriesAt s (u .next .at) .at) where
+      entered : Entered (entriesAt s place .state) (u .walk) (x .walk) o₁ o₂
+      entered =
+          entered-by (entries-rest (slot ∷ []) (entriesAt s place .state) main-fit slotted)
+          (g ∙ ap (λ (k : ℕ). putEntries (entriesAt s k .state) (u .walk) o₁ .walk) past-slot)
+          (h ∙ ap (λ (k : ℕ). putEntries (entriesAt s k .state) (u .walk) o₁ .buffer) past-slot)
 
-      past-is : e .at ≡ pastMain s place
-      past-is = h ∙ go (eqb (x .entries) (v .entries)) refl
+      both : Entered ((slot ∷ []) ++ entriesAt s place .state) w (x .walk) o o₂
+      both = entries-then (slot ∷ []) (entriesAt s place .state) main-fit slotted entered
+
+      pub main-grows : w .entries ≤ x .walk .entries
+      main-grows = omega (arith, both .entries)
+
+      pub main-past : (d : Cursor) → d .at ≡ pick (eqb (x .walk .entries) (u .walk .entries)) (u .next .at) (skippedAt s (x .next .at)) → d .at ≡ pastMain s place
+      main-past d q = q ∙ go (eqb (x .walk .entries) (u .walk .entries)) refl
         where
-          go : (t : Bool) → eqb (x .entries) (v .entries) ≡ t → pick t (v .next .at) (skippedAt s (x .next .at)) ≡ pastMain s place
-          go true z = slotted .next ∙ sym (main-none s place (omega (arith, entered .entries, eqb-true (x .entries) (v .entries) z)))
+          go : (t : Bool) → eqb (x .walk .entries) (u .walk .entries) ≡ t → pick t (u .next .at) (skippedAt s (x .next .at)) ≡ pastMain s place
+          go true z = past-slot ∙ sym (main-none s place (omega (arith, entered .entries, eqb-true (x .walk .entries) (u .walk .entries) z)))
           go false z =
-              let no = eqb-false (x .entries) (v .entries) z in
-              ap (skippedAt s) (entered .next) ∙ sym (main-is s place (λ q. no (omega (arith, entered .entries, q))))
+              let no = eqb-false (x .walk .entries) (u .walk .entries) z in
+              ap (skippedAt s) (i ∙ ap (λ (k : ℕ). entriesAt s k .at) past-slot) ∙ sym (main-is s place (λ q. no (omega (arith, entered .entries, q))))
 
-      pub main-lined : Lined (mainLine s (w .next .at) ∷ []) (pastMain s place) l (l + 8) w (movedTo x e) o o₃
+      pub main-lined : {r : Walk} {o₃ : List ℕ} → r ≡ putLine 0 (w .entries) (x .walk .entries - w .entries) 0 (x .walk) o₂ .walk
+          → o₃ ≡ putLine 0 (w .entries) (x .walk .entries - w .entries) 0 (x .walk) o₂ .buffer → Lined (mainLine s at ∷ []) w r o o₃
       unfolding mainAt
-      main-lined =
-          let z = line-filled 0 0 (mainAt s (w .next .at) .entries) f (entered-then (main-fit .room) slotted entered) y in
-          record { filled = z .filled; entries = z .entries; noted = z .noted; bytes = z .bytes; next = past-is }
+      main-lined {r} {o₃} y z =
+          let count = x .walk .entries - w .entries in
+          subst (λ (v : Walk). Lined (mainLine s at ∷ []) w v o o₃) (sym y)
+          (subst (λ (l : List ℕ). Lined (mainLine s at ∷ []) w (putLine 0 (w .entries) count 0 (x .walk) o₂ .walk) o l) (sym z)
+          (line-put 0 0 (mainAt s at .entries) f both refl))

@@ -13,13 +13,15 @@ use Rattle.jkf.specs.Model.{Noted}
 use Rattle.jkf.specs.Attaching.{Play, play}
 use Rattle.block.specs.Encode.{concat, commentsOf, commentText}
 use Rattle.block.proofs.Tabling.{concat-append}
-use Rattle.parser.specs.Plays.{noted, entriesAt, plyAt, skippedAt, skipsAt, variationsAt, slotAt, pastMain, mainAt, playsAt}
-use Rattle.parser.specs.Filling.{remarksAt, extentAt, playEntries, mainSizes, sizesAt}
-use Rattle.parser.specs.declared.Remarks.{Remarks}
-use Rattle.parser.specs.declared.Extent.{Extent}
-use Rattle.parser.specs.declared.Sizes.{Sizes}
-use Rattle.parser.proofs.Items.{comments-within, skips-from, skips-within, skipped-from, skipped-within}
-use Rattle.parser.proofs.Weights.{comments-short}
+use Rattle.plays.specs.Plays.{noted, entriesAt, plyAt, skippedAt, skipsAt, variationsAt, slotAt, pastMain, mainAt, playsAt}
+use Rattle.plays.specs.Counted.{remarksAt, extentAt}
+use Rattle.parser.specs.Lines.{mainExtents, extentsAt}
+use Rattle.plays.specs.Counted.{playEntries}
+use Rattle.plays.specs.declared.Remarks.{Remarks}
+use Rattle.plays.specs.declared.Extent.{Extent}
+use Rattle.parser.specs.declared.Extents.{Extents}
+use Rattle.plays.proofs.Items.{comments-within, skips-from, skips-within, skipped-from, skipped-within}
+use Rattle.plays.proofs.Weights.{comments-short}
 use Rattle.parser.proofs.Variations.{variations-more, variations-none, variations-short, variations-few, variations-within, main-short, line-there, line-within}
 
 -- comments of entries, and their bytes, one run after another
@@ -85,8 +87,8 @@ module _ (s : List ℕ) (at : ℕ) where
       (omega (arith, a, t, i, n), omega (arith, b, d, t, i, n), omega (arith, c, f, t, i, n))
 
   pub main-made : (x : Extent) (k : Remarks) (c : Cursor) → k ≡ remarksAt s (skippedAt s at) → x ≡ extentAt s (k .next .at) → c .at ≡ pastMain s (k .next .at)
-      → record { lines = 1; entries = 1 + x .entries; comments = k .count + x .comments; bytes = k .bytes + x .bytes; next = c } ≡ mainSizes s at
-  unfolding mainSizes remarksAt
+      → record { lines = 1; entries = 1 + x .entries; comments = k .count + x .comments; bytes = k .bytes + x .bytes; next = c } ≡ mainExtents s at
+  unfolding mainExtents remarksAt
   main-made x k c p q r =
       let e : x ≡ extentAt s (slot .at) = q ∙ ap (λ (r : Remarks). extentAt s (r .next .at)) p in
       let t = main-tally in
@@ -100,7 +102,7 @@ module _ (s : List ℕ) (at : ℕ) where
 
 -- ---- all lines
 
-pub record Sizing (s : List ℕ) (at₀ : ℕ) (z : Sizes) : Type 0 where
+pub record Sizing (s : List ℕ) (at₀ : ℕ) (z : Extents) : Type 0 where
   pub lines : length (playsAt s at₀ .state) ≡ z .lines + length (variationsAt s (z .next .at) .state)
   pub entries : length (playEntries (playsAt s at₀ .state)) ≡ z .entries + length (playEntries (variationsAt s (z .next .at) .state))
   pub comments : length (commentsOf (playEntries (playsAt s at₀ .state))) ≡ z .comments + length (commentsOf (playEntries (variationsAt s (z .next .at) .state)))
@@ -109,8 +111,8 @@ pub record Sizing (s : List ℕ) (at₀ : ℕ) (z : Sizes) : Type 0 where
   pub end : playsAt s at₀ .at ≡ variationsAt s (z .next .at) .at
   pub within : z .next .at ≤ length s
 
-pub sizing-start : (s : List ℕ) (at : ℕ) → at ≤ length s → Sizing s at (mainSizes s at)
-unfolding mainSizes playsAt concat
+pub sizing-start : (s : List ℕ) (at : ℕ) → at ≤ length s → Sizing s at (mainExtents s at)
+unfolding mainExtents playsAt concat
 sizing-start s at h =
     let es = mainAt s at .entries in
     let vs = variationsAt s (pastMain s (slotAt s at .at)) .state in
@@ -126,7 +128,7 @@ sizing-start s at h =
       within = main-short s (slotAt s at .at) .1 (comments-within s (skippedAt s at) (skipped-within s at h));
     }
 
-module _ (s : List ℕ) {at₀ : ℕ} (z : Sizes) (i : Sizing s at₀ z) where
+module _ (s : List ℕ) {at₀ : ℕ} (z : Extents) (i : Sizing s at₀ z) where
   abbrev place : ℕ
   place = skipsAt s (z .next .at)
 
@@ -172,8 +174,8 @@ module _ (s : List ℕ) {at₀ : ℕ} (z : Sizes) (i : Sizing s at₀ z) where
         let t = line-there s place some-entries in
         (omega (arith, t .past, skips-from s (z .next .at)), line-within s place (skips-within s (z .next .at) (i .within)))
 
-  pub sizing-done : extentAt s place .entries ≡ 0 → z ≡ sizesAt s at₀
-  unfolding sizesAt extentAt concat
+  pub sizing-done : extentAt s place .entries ≡ 0 → z ≡ extentsAt s at₀
+  unfolding extentsAt extentAt concat
   sizing-done e =
       let none = variations-none s (z .next .at) e in
       let l : length (playsAt s at₀ .state) ≡ z .lines = omega (arith, i .lines, ap (λ (r : Ended (List Play)). length (r .state)) none) in
@@ -186,14 +188,14 @@ module _ (s : List ℕ) {at₀ : ℕ} (z : Sizes) (i : Sizing s at₀ z) where
       rw (l, n, m, b, a)
 
 -- what is counted is no more than the bytes that were taken, but for line 0 and its slot
-pub record Small (n : ℕ) (z : Sizes) : Type 0 where
+pub record Small (n : ℕ) (z : Extents) : Type 0 where
   pub lines : z .lines ≤ n + 1
   pub entries : z .entries ≤ n + 1
   pub comments : z .comments ≤ n
   pub bytes : z .bytes ≤ n
 
-pub sizes-small : (s : List ℕ) (at : ℕ) → at ≤ length s → Small (length s) (sizesAt s at)
-unfolding sizesAt mainSizes
+pub sizes-small : (s : List ℕ) (at : ℕ) → at ≤ length s → Small (length s) (extentsAt s at)
+unfolding extentsAt mainExtents
 sizes-small s at h =
     let i = sizing-start s at h in
     let t = main-tally s at in
@@ -209,11 +211,11 @@ sizes-small s at h =
     }
 
 -- so no sum overflows
-pub sizing-bound : (s : List ℕ) (at₀ : ℕ) (z : Sizes) → at₀ ≤ length s → length s < 9223372036854775808 → Sizing s at₀ z
+pub sizing-bound : (s : List ℕ) (at₀ : ℕ) (z : Extents) → at₀ ≤ length s → length s < 9223372036854775808 → Sizing s at₀ z
     → (extentAt s (skipsAt s (z .next .at)) .entries ≡ 0 → ⊥)
     → (z .lines + 1 < 18446744073709551616) × (z .entries + extentAt s (skipsAt s (z .next .at)) .entries < 18446744073709551616)
     × (z .comments + extentAt s (skipsAt s (z .next .at)) .comments < 18446744073709551616) × (z .bytes + extentAt s (skipsAt s (z .next .at)) .bytes < 18446744073709551616)
-unfolding sizesAt
+unfolding extentsAt
 sizing-bound s at₀ z h n i some =
     let b = sizes-small s at₀ h in
     let j = sizing-more s z i some (cursor (skippedAt s (extentAt s (skipsAt s (z .next .at)) .next .at))) refl in (
@@ -224,11 +226,11 @@ sizing-bound s at₀ z h n i some =
     )
 
 -- the same of a line that was counted where the skip lines end
-module _ (s : List ℕ) (at₀ : ℕ) (z : Sizes) (x : Extent) (k : ℕ) (h : at₀ ≤ length s) (i : Sizing s at₀ z) (p : k ≡ skipsAt s (z .next .at)) (q : x ≡ extentAt s k) where
+module _ (s : List ℕ) (at₀ : ℕ) (z : Extents) (x : Extent) (k : ℕ) (h : at₀ ≤ length s) (i : Sizing s at₀ z) (p : k ≡ skipsAt s (z .next .at)) (q : x ≡ extentAt s k) where
   counted : x ≡ extentAt s (skipsAt s (z .next .at))
   counted = q ∙ ap (extentAt s) p
 
-  pub counted-done : x .entries ≡ 0 → z ≡ sizesAt s at₀
+  pub counted-done : x .entries ≡ 0 → z ≡ extentsAt s at₀
   counted-done e = sizing-done s z i (ap (λ (y : Extent). y .entries) (sym counted) ∙ e)
 
   module _ (some : x .entries ≡ 0 → ⊥) where

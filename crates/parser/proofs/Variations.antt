@@ -14,10 +14,10 @@ use Rattle.jkf.specs.Model.{Noted}
 use Rattle.jkf.specs.Attaching.{Play, play}
 use Rattle.block.specs.Encode.{concat, commentsOf, commentText}
 use Rattle.block.proofs.Tabling.{concat-append}
-use Rattle.parser.specs.Plays.{entriesAt, plyAt, skippedAt, skipsAt, playItem, variationItem, variationsAt, pastMain}
-use Rattle.parser.specs.Filling.{playEntries}
-use Rattle.parser.proofs.Items.{on-both, no-more, entries-max, entries-within, skips-from, skipped-from, skipped-within}
-use Rattle.parser.proofs.Weights.{weight, many-weighs, entries-short}
+use Rattle.plays.specs.Plays.{entriesAt, plyAt, skippedAt, skipsAt, playItem, variationItem, variationsAt, pastMain}
+use Rattle.plays.specs.Counted.{playEntries}
+use Rattle.plays.proofs.Items.{on-both, no-more, entries-max, entries-within, skips-from, skipped-from, skipped-within}
+use Rattle.plays.proofs.Weights.{weight, many-weighs, entries-short}
 
 -- the entries of a line of play, their comments and the bytes of these
 abbrev pub tally : List Noted → ℕ

@@ -1,4 +1,4 @@
-pub mod Plays
-pub mod Filling
+pub mod Lines
+pub mod Headers
 pub mod Parse
 pub mod Read

@@ -10,7 +10,7 @@ use Rattle.block.specs.Encode.{headerText, entriesOf, commentsOf, commentText, 
 use Rattle.sorted.specs.Sorted.{byBytes, enterAll}
 use Rattle.sorted.specs.declared.Order.{Order}
 use Rattle.kakinoki.specs.Starts.{startOf, headersSaid}
-use Rattle.parser.specs.Plays.{playsAt}
+use Rattle.plays.specs.Plays.{playsAt}
 
 pub record Parsed : Type 0 where
   pub headers : List Header

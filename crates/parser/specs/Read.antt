@@ -2,24 +2,24 @@
 -- Assumes nothing: these are definitions.
 use Prim.Native.Nat.{ℕ, _≤_}
 use mathlib.Core.Path.{_≡_}
-use mathlib.Core.List.{List, _++_}
-use lib.ListN.{length, drop, replicate}
+use mathlib.Core.List.{List}
+use lib.ListN.{length, replicate}
 use lib.Dec.{ltb}
 use Rattle.lists.specs.Pick.{pick}
 use Rattle.text.specs.Utf8.{wellFormed}
-use Rattle.jkf.specs.Attaching.{Hung, all, first, allHung}
+use Rattle.jkf.specs.Attaching.{Hung, all, first, attach, allHung}
 use Rattle.jkf.specs.Answers.{Outcome, refuse}
-use Rattle.jkf.specs.declared.Answer.the-variants.{Done, TextTooLong, NotUtf8, HandLine, BlockTooLong, BufferShort, NoEntry}
-use Rattle.block.specs.PositionBytes.{positionBytes}
+use Rattle.jkf.specs.declared.Answer.the-variants.{Done, TextTooLong, NotUtf8, HandLine, NoEntry}
 use Rattle.jkf.specs.declared.Position.{Position}
-use Rattle.block.specs.Encode.{encode, headBytes}
+use Rattle.block.specs.Encode.{encode}
+use Rattle.filling.specs.Filling.{unlessRefused, atFront, sizesOf, lengthOf, begun, frontPut}
+use Rattle.filling.specs.declared.Sizes.{Sizes}
+use Rattle.filling.specs.declared.Walk.{Walk}
 use Rattle.sorted.specs.Sorted.{kept}
 use Rattle.kakinoki.specs.Starts.{startOf, headerPlaces}
 use Rattle.kakinoki.specs.declared.Fault.{Fault}
 use Rattle.kakinoki.specs.declared.Fault.the-variants.{NoFault, At}
-use Rattle.parser.specs.Filling.{sizesAt}
 use Rattle.parser.specs.Parse.{Parsed, parse, needed, recordOf}
-use Rattle.parser.specs.declared.Sizes.{Sizes}
 
 abbrev pub onFault : {A : Type 0} → Fault → (ℕ → A) → A → A
 onFault (At at) f d = f at
@@ -34,14 +34,11 @@ unfoldable pub filledWith : Parsed → List ℕ → Outcome
 filledWith p o =
     onHung (allHung (p .plays))
     (λ k ply. record { answer = NoEntry k ply; buffer = replicate (length o) 0 })
-    (record { answer = Done (p .taken) (needed p); buffer = encode (recordOf p) ++ drop (needed p) o })
+    (record { answer = Done (p .taken) (needed p); buffer = atFront (encode (recordOf p)) o })
 
 -- Refusals 4 and 5 come before 6, so the length is asked for first.
 unfoldable pub storedOf : Parsed → List ℕ → Outcome
-storedOf p o =
-    pick (ltb 65535 (needed p))
-    (refuse (BlockTooLong (needed p)) o)
-    (pick (ltb (length o) (needed p)) (refuse (BufferShort (needed p)) o) (filledWith p o))
+storedOf p o = unlessRefused (needed p) o (filledWith p o)
 
 -- Refusal 3, then the others.
 unfoldable pub startedOf : List ℕ → List ℕ → Outcome
@@ -68,13 +65,15 @@ pub record Prepared (s : List ℕ) (p : Position) (at : ℕ) (hs : List ℕ) : T
   pub place : at ≡ startOf s .next .at
   pub headers : hs ≡ kept s (headerPlaces s)
 
--- The lines are counted, and the block fits the buffer.
-pub record Measured (s : List ℕ) (z : Sizes) (n : ℕ) (o : List ℕ) : Type 0 where
-  pub sizes : z ≡ sizesAt s (startOf s .next .at)
-  pub needs : n ≡ needed (parse s)
-  pub most : n ≤ 65535
-  pub room : n ≤ length o
+-- The sizes of the block of what a text says.
+abbrev pub parsedSizes : Parsed → Sizes
+parsedSizes p = sizesOf (p .headers) (attach (p .plays))
 
--- A block's first 128 bytes.
-abbrev pub headOf : ℕ → ℕ → Sizes → Position → List ℕ
-headOf total headers z position = headBytes 1 total headers (z .lines) (z .entries) (z .comments) ++ positionBytes position
+-- A block that fits is begun, and its front is filled into what was in the buffer before.
+pub record Opened (p : Parsed) (w : Walk) (n : ℕ) (o : List ℕ) : Type 0 where
+  pub before : List ℕ
+  pub walk : w ≡ begun (parsedSizes p)
+  pub total : n ≡ lengthOf (parsedSizes p)
+  pub most : n ≤ 65535
+  pub room : n ≤ length before
+  pub front : o ≡ frontPut 1 (parsedSizes p) (p .position) before

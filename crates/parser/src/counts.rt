@@ -1,89 +1,58 @@
-// Lines of play, counted.
-use crate::Extent;
-use crate::Remarks;
-use moves::Remark;
+// All lines of play of a text, counted: the main line and the variations.
+use crate::Extents;
+use plays::Extent;
 use text::Cursor;
-use text::Number;
-use text::Place;
 ghost use mathlib.Core.Path.{_≡_};
-ghost use Rattle.parser.specs.Plays.{plyAt, skippedAt, skipsAt};
-ghost use Rattle.parser.specs.Filling.{remarksAt, extentAt};
+ghost use Prim.Native.Nat.{_≤_};
+ghost use lib.ListN.{length};
+ghost use Rattle.plays.specs.Plays.{pastMain};
+ghost use Rattle.plays.specs.Counted.{extentAt};
+ghost use Rattle.parser.specs.Lines.{mainExtents, extentsAt};
 
-// Comments from a place on.
-pub(crate) fn count_comments(c: Cursor, s: &[u8]) -> Remarks
-    ensures { λ r. ⌜ r ≡ remarksAt (now (s .entry)) (c .at) ⌝ }
+// Past the skip line that may end a line of play; the same place where there is no such line.
+fn past_line(c: Cursor, line: Extent, s: &[u8]) -> Cursor
+    requires { ⌜ line ≡ extentAt (now s) (c .at) ⌝ }
+    ensures { λ r. ⌜ r .at ≡ pastMain (now (s .entry)) (c .at) ⌝ }
 {
-    let mut count = 0;
-    let mut bytes = 0;
-    let mut next = c;
-    loop {
-        if !moves::begins_comment(s, next.at) {
-            return Remarks { count, bytes, next };
-        }
-        let Remark::Stands(from, to, past) = moves::comment_line(next, s) else {
-            return Remarks { count, bytes, next };
-        };
-        count += 1;
-        bytes += to.at - from.at;
-        next = past;
-    }
-}
-
-// The number that is printed at a place.
-pub(crate) fn ply(c: Cursor, s: &[u8]) -> u64
-    ensures { λ r. ⌜ r ≡ plyAt (now (s .entry)) (c .at) ⌝ }
-{
-    let Number::Value(n, _) = c.blanks(s).digits(s, u64::MAX) else {
-        return 0;
-    };
-    n
-}
-
-// A line of play from a place on: move lines, each with its comments.   (the Rust's moves_with_index)
-pub fn count_moves(c: Cursor, s: &[u8]) -> Extent
-    ensures { λ r. ⌜ r ≡ extentAt (now (s .entry)) (c .at) ⌝ }
-{
-    let mut entries = 0;
-    let mut comments = 0;
-    let mut bytes = 0;
-    let mut next = c;
-    loop {
-        let Place::Past(past) = moves::move_line_end(next, s) else {
-            return Extent {
-                start: ply(c, s),
-                entries,
-                comments,
-                bytes,
-                next,
-            };
-        };
-        let remarks = count_comments(past, s);
-        entries += 1;
-        comments += remarks.count;
-        bytes += remarks.bytes;
-        next = remarks.next;
-    }
-}
-
-// Past one skip line, if it is there.
-pub(crate) fn skipped(c: Cursor, s: &[u8]) -> Cursor
-    ensures { λ r. ⌜ r .at ≡ skippedAt (now (s .entry)) (c .at) ⌝ }
-{
-    let Place::Past(past) = moves::skip_line(c, s) else {
+    if line.entries == 0 {
         return c;
-    };
-    past
+    }
+    plays::skipped(line.next, s)
 }
 
-// Past as many skip lines as there are.
-pub(crate) fn skips(c: Cursor, s: &[u8]) -> Cursor
-    ensures { λ r. ⌜ r .at ≡ skipsAt (now (s .entry)) (c .at) ⌝ }
+// The main line, counted with its slot.
+fn count_main(c: Cursor, s: &[u8]) -> Extents
+    requires { ⌜ c .at ≤ length (now s) ⌝ }
+    ensures { λ r. ⌜ r ≡ mainExtents (now (s .entry)) (c .at) ⌝ }
 {
-    let mut next = c;
+    let slot = plays::count_comments(plays::skipped(c, s), s);
+    let line = plays::count_moves(slot.next, s);
+    Extents {
+        lines: 1,
+        entries: 1 + line.entries,
+        comments: slot.count + line.comments,
+        bytes: slot.bytes + line.bytes,
+        next: past_line(slot.next, line, s),
+    }
+}
+
+// All lines, counted.   (the Rust's entire_moves)
+pub(crate) fn count_lines(c: Cursor, s: &[u8]) -> Extents
+    requires { ⌜ c .at ≤ length (now s) ⌝ }
+    ensures { λ r. ⌜ r ≡ extentsAt (now (s .entry)) (c .at) ⌝ }
+{
+    let mut all = count_main(c, s);
     loop {
-        let Place::Past(past) = moves::skip_line(next, s) else {
-            return next;
+        let line = plays::count_moves(plays::skips(all.next, s), s);
+        if line.entries == 0 {
+            return all;
+        }
+        all = Extents {
+            lines: all.lines + 1,
+            entries: all.entries + line.entries,
+            comments: all.comments + line.comments,
+            bytes: all.bytes + line.bytes,
+            next: plays::skipped(line.next, s),
         };
-        next = past;
     }
 }

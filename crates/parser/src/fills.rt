@@ -1,180 +1,73 @@
-// Lines of play, filled into the parts of a block.
-use crate::Extent;
-use crate::Walk;
-use crate::counts::count_moves;
+// All lines of play of a text, filled in, each variation hung where the attaching rule says.   (the Rust's merge_forks)
+use crate::Hanging;
+use filling::Walk;
 use jkf::Entry;
-use moves::MoveLine;
-use moves::Remark;
+use jkf::Hang;
+use plays::Reached;
 use text::Cursor;
 ghost use mathlib.Core.Path.{_≡_};
-ghost use Prim.Native.Nat.{_-_, _≤_};
 ghost use mathlib.Core.List.{[], _∷_};
-ghost use lib.ListN.{length, take, drop};
 ghost use lib.Dec.{eqb};
 ghost use Rattle.lists.specs.Pick.{pick};
-ghost use Rattle.lent.specs.Bytes.{fitting};
-ghost use Rattle.lent.specs.Regions.{Stored};
-ghost use Rattle.block.specs.EntryBytes.{entryBytes};
-ghost use Rattle.parser.specs.Plays.{noted, commentsAt, entriesAt};
-ghost use Rattle.parser.specs.Filling.{movedTo, Commented, Entered, CommentsFit, EntriesFit, hasNumbers, hasRoom, fittingEntries, fittingEnd};
+ghost use Rattle.lent.specs.Regions.{puts};
+ghost use Rattle.jkf.specs.Attaching.{all, attach, allHung};
+ghost use Rattle.filling.specs.Parts.{lineTexts, lineEnds, LinesFit, LineFits, Lined};
+ghost use Rattle.plays.specs.Plays.{skippedAt, slotAt, pastMain, playsAt};
+ghost use Rattle.parser.specs.Lines.{mainLine, hanging};
 
-// A comment: its row, and its bytes; the walk then stands at the next place.
-fn fill_comment(s: &[u8], from: usize, to: usize, next: Cursor, w: Walk, out: &mut [u8]) -> Walk
-    requires { ⌜ (from ≤ to) × (to ≤ length (now s)) ⌝ }
-    requires { ⌜ CommentsFit (take (to - from) (drop from (now s)) ∷ []) w (now out) ⌝ }
-    ensures { λ r. ⌜ Commented (take (to - from) (drop from (now (s .entry))) ∷ []) (next .at) w r (now (out .entry)) (now (out .exit)) ⌝ }
+// Past the skip line that may end a line of play; the same place where no entry was filled in.
+fn past_entries(before: Reached, after: Reached, s: &[u8]) -> Cursor
+    ensures { λ r. ⌜ r .at ≡ pick (eqb (after .walk .entries) (before .walk .entries)) (before .next .at) (skippedAt (now (s .entry)) (after .next .at)) ⌝ }
 {
-    let n = to - from;
-    let comments = block::put_comment(out, w.comments, w.bytes, n);
-    let text = lent::put_at(out, w.text, &s[from..to]);
-    Walk {
-        moves: w.moves,
-        comments,
-        text,
-        entries: w.entries,
-        noted: w.noted + 1,
-        bytes: w.bytes + n,
-        next,
+    let w = before.walk;
+    let v = after.walk;
+    if v.entries == w.entries {
+        return before.next;
+    }
+    plays::skipped(after.next, s)
+}
+
+// The main line: the slot with its comments, the moves, and the row.   (the Rust's main_moves)
+fn fill_main(s: &[u8], c: Cursor, w: Walk, out: &mut [u8]) -> Reached
+    requires { ⌜ LineFits (mainLine (now s) (c .at)) w (now out) ⌝ }
+    ensures { λ r. ⌜ Lined (mainLine (now (s .entry)) (c .at) ∷ []) w (r .walk) (now (out .entry)) (now (out .exit)) ⌝ }
+    ensures { λ r. ⌜ r .next .at ≡ pastMain (now (s .entry)) (slotAt (now (s .entry)) (c .at) .at) ⌝ }
+{
+    let slot = plays::fill_noted(s, Entry::Slot, plays::skipped(c, s), w, out);
+    let line = plays::fill_moves(s, slot.next, slot.walk, out);
+    let v = line.walk;
+    let walk = filling::put_line(out, v, 0, w.entries, v.entries - w.entries, 0);
+    Reached {
+        walk,
+        next: past_entries(slot, line, s),
     }
 }
 
-// The number of the first comment, which is 0 where there is none.
-fn first_comment(count: usize, noted: usize) -> usize
-    ensures { λ r. ⌜ r ≡ pick (eqb count 0) 0 noted ⌝ }
+// All lines; stops at the first variation that has no entry to hang on.
+pub(crate) fn fill_lines(s: &[u8], c: Cursor, w: Walk, out: &mut [u8]) -> Hanging
+    requires { ⌜ LinesFit (attach (playsAt (now s) (c .at) .state)) w (now out) ⌝ }
+    ensures { λ r. ⌜ r ≡ hanging (allHung (playsAt (now (s .entry)) (c .at) .state)) (playsAt (now (s .entry)) (c .at) .at) ⌝ }
+    ensures { λ r. ⌜ (allHung (playsAt (now (s .entry)) (c .at) .state) ≡ all → now (out .exit) ≡ puts (now (out .entry)) (lineEnds w) (lineTexts 0 0 (w .bytes) (attach (playsAt (now (s .entry)) (c .at) .state)))) ⌝ }
 {
-    if count == 0 { 0 } else { noted }
-}
-
-// The walk at another place.
-pub(crate) fn moved_to(w: Walk, next: Cursor) -> Walk
-    ensures { λ r. ⌜ r ≡ movedTo w next ⌝ }
-{
-    Walk {
-        moves: w.moves,
-        comments: w.comments,
-        text: w.text,
-        entries: w.entries,
-        noted: w.noted,
-        bytes: w.bytes,
-        next,
-    }
-}
-
-// The comments from the walk's place on.
-fn fill_comments(s: &[u8], w: Walk, out: &mut [u8]) -> Walk
-    requires { ⌜ CommentsFit (commentsAt (now s) (w .next .at) .state) w (now out) ⌝ }
-    ensures { λ r. ⌜ Commented (commentsAt (now (s .entry)) (w .next .at) .state) (commentsAt (now (s .entry)) (w .next .at) .at) w r (now (out .entry)) (now (out .exit)) ⌝ }
-{
-    let mut v = w;
+    let table = w.lines;
+    let main = fill_main(s, c, w, out);
+    let mut walk = main.walk;
+    let mut next = main.next;
+    let mut k = 1;
     loop {
-        if !moves::begins_comment(s, v.next.at) {
-            return v;
+        let at = plays::skips(next, s);
+        let line = plays::fill_moves(s, at, walk, out);
+        let v = line.walk;
+        if v.entries == walk.entries {
+            return Hanging::AllHung(next);
         }
-        let Remark::Stands(from, to, next) = moves::comment_line(v.next, s) else {
-            return v;
+        let start = plays::ply(at, s);
+        let Hang::On(parent, _) = jkf::attach(&out[table..], k, start) else {
+            return Hanging::Lost(k as u64, start);
         };
-        v = fill_comment(s, from.at, to.at, next, v, out);
+        let count = v.entries - walk.entries;
+        walk = filling::put_line(out, v, start, walk.entries, count, parent);
+        next = plays::skipped(line.next, s);
+        k += 1;
     }
-}
-
-// An entry with the comments from the walk's place on: these first, since its bytes say how many they are.
-fn fill_noted(s: &[u8], e: Entry, w: Walk, out: &mut [u8]) -> Walk
-    requires { ⌜ EntriesFit (noted e (commentsAt (now s) (w .next .at) .state) ∷ []) w (now out) ⌝ }
-    ensures { λ r. ⌜ Entered (noted e (commentsAt (now (s .entry)) (w .next .at) .state) ∷ []) (commentsAt (now (s .entry)) (w .next .at) .at) w r (now (out .entry)) (now (out .exit)) ⌝ }
-{
-    let v = fill_comments(s, w, out);
-    let count = v.noted - w.noted;
-    let moves = block::put_entry(out, v.moves, e, first_comment(count, w.noted), count);
-    let next = v.next;
-    Walk {
-        moves,
-        comments: v.comments,
-        text: v.text,
-        entries: v.entries + 1,
-        noted: v.noted,
-        bytes: v.bytes,
-        next,
-    }
-}
-
-// The slot with the comments from the walk's place on; apart from fill_noted, which so has one caller and is compiled into its loop.
-pub(crate) fn fill_slot(s: &[u8], w: Walk, out: &mut [u8]) -> Walk
-    requires { ⌜ EntriesFit (noted Entry.Slot (commentsAt (now s) (w .next .at) .state) ∷ []) w (now out) ⌝ }
-    ensures { λ r. ⌜ Entered (noted Entry.Slot (commentsAt (now (s .entry)) (w .next .at) .state) ∷ []) (commentsAt (now (s .entry)) (w .next .at) .at) w r (now (out .entry)) (now (out .exit)) ⌝ }
-{
-    let v = fill_comments(s, w, out);
-    let count = v.noted - w.noted;
-    let moves = block::put_slot(out, v.moves, first_comment(count, w.noted), count);
-    let next = v.next;
-    Walk {
-        moves,
-        comments: v.comments,
-        text: v.text,
-        entries: v.entries + 1,
-        noted: v.noted,
-        bytes: v.bytes,
-        next,
-    }
-}
-
-// The entries of a line of play, from the walk's place on.
-pub(crate) fn fill_entries(s: &[u8], w: Walk, out: &mut [u8]) -> Walk
-    requires { ⌜ EntriesFit (entriesAt (now s) (w .next .at) .state) w (now out) ⌝ }
-    ensures { λ r. ⌜ Entered (entriesAt (now (s .entry)) (w .next .at) .state) (entriesAt (now (s .entry)) (w .next .at) .at) w r (now (out .entry)) (now (out .exit)) ⌝ }
-{
-    let mut v = w;
-    loop {
-        let MoveLine::Numbered(_, e, past) = moves::move_line(v.next, s) else {
-            return v;
-        };
-        v = fill_noted(s, e, moved_to(v, past), out);
-    }
-}
-
-// Whether the running numbers are of 16 bits.
-fn has_numbers(w: Walk) -> bool
-    ensures { λ r. ⌜ r ≡ hasNumbers w ⌝ }
-{
-    if 65535 < w.entries {
-        return false;
-    }
-    if 65535 < w.noted {
-        return false;
-    }
-    w.bytes <= 65535
-}
-
-// Whether a line of play has room.
-fn has_room(x: Extent, w: Walk, n: usize) -> bool
-    ensures { λ r. ⌜ r ≡ hasRoom x w n ⌝ }
-{
-    if w.comments < w.moves {
-        return false;
-    }
-    if (w.comments - w.moves) / 20 < x.entries {
-        return false;
-    }
-    if w.text < w.comments {
-        return false;
-    }
-    if (w.text - w.comments) / 4 < x.comments {
-        return false;
-    }
-    if n < w.text {
-        return false;
-    }
-    if n - w.text < x.bytes {
-        return false;
-    }
-    has_numbers(w)
-}
-
-// A line of play filled in whole, or not at all where it has no room.
-pub fn fill_moves(s: &[u8], w: Walk, out: &mut [u8]) -> Walk
-    ensures { λ r. ⌜ Entered (fittingEntries (now (s .entry)) w (now (out .entry))) (fittingEnd (now (s .entry)) w (now (out .entry))) w r (now (out .entry)) (now (out .exit)) ⌝ }
-{
-    if has_room(count_moves(w.next, s), w, out.len()) {
-        return fill_entries(s, w, out);
-    }
-    w
 }

@@ -1,17 +1,16 @@
 // Header entries, counted and filled in the order of their keys.
-use crate::Heads;
+use filling::Walk;
 use kakinoki::KeyValue;
 use text::Cursor;
 ghost use mathlib.Core.Path.{_≡_};
-ghost use Prim.Native.Nat.{_+_, _<_};
+ghost use Prim.Native.Nat.{_<_};
 ghost use mathlib.Core.Bool.{true};
-ghost use mathlib.Core.List.{[], _∷_, _++_};
-ghost use lib.ListN.{length, drop};
-ghost use Rattle.lent.specs.Bytes.{bytes16, fitting};
-ghost use Rattle.lent.specs.Regions.{Stored};
+ghost use mathlib.Core.List.{[], _∷_};
+ghost use lib.ListN.{length};
 ghost use Rattle.block.specs.Encode.{headerText};
 ghost use Rattle.kakinoki.specs.Informations.{headerAt};
-ghost use Rattle.parser.specs.Filling.{isHeaderLine, HeaderLines, headersAt, HeadersFit, Headed};
+ghost use Rattle.filling.specs.Filling.{putHeader, putHeaders};
+ghost use Rattle.parser.specs.Headers.{isHeaderLine, HeaderLines, headersAt};
 
 // A place as a number to reckon with.
 fn wide(at: u16) -> usize
@@ -45,37 +44,28 @@ pub(crate) fn count_headers(s: &[u8], places: &[u16]) -> usize
     bytes
 }
 
-// A header entry: its row, its key and its value.
-fn fill_header(s: &[u8], at: usize, h: Heads, out: &mut [u8]) -> Heads
+// The header entry of the line that begins at a place.
+fn fill_header(s: &[u8], at: usize, w: Walk, out: &mut [u8]) -> Walk
     requires { ⌜ isHeaderLine (now s) at ≡ true ⌝ }
-    requires { ⌜ HeadersFit (headerAt (now s) at ∷ []) h (now out) ⌝ }
-    ensures { λ r. ⌜ Headed (headerAt (now (s .entry)) at ∷ []) h r (now (out .entry)) (now (out .exit)) ⌝ }
+    ensures { λ r. ⌜ r ≡ putHeader (headerAt (now (s .entry)) at) w (now (out .entry)) .walk ⌝ }
+    ensures { λ r. ⌜ now (out .exit) ≡ putHeader (headerAt (now (s .entry)) at) w (now (out .entry)) .buffer ⌝ }
 {
     let KeyValue::Pair(from, to, _) = kakinoki::key_value(Cursor { at }, s) else {
-        return h;
+        return w;
     };
     let start = from.at;
     let end = to.at;
     let colon = start - 3;
-    let key = colon - at;
-    let value = end - start;
-    let rows = block::put_header(out, h.rows, h.bytes, key, h.bytes + key, value);
-    let middle = lent::put_at(out, h.text, &s[at..colon]);
-    let text = lent::put_at(out, middle, &s[start..end]);
-    Heads {
-        rows,
-        text,
-        bytes: h.bytes + key + value,
-    }
+    filling::put_header(out, w, &s[at..colon], &s[start..end])
 }
 
 // The header entries of the lines that begin at some places.
-pub(crate) fn fill_headers(s: &[u8], places: &[u16], h: Heads, out: &mut [u8]) -> Heads
+pub(crate) fn fill_headers(s: &[u8], places: &[u16], w: Walk, out: &mut [u8]) -> Walk
     requires { ⌜ HeaderLines (now s) (now places) ⌝ }
-    requires { ⌜ HeadersFit (headersAt (now s) (now places)) h (now out) ⌝ }
-    ensures { λ r. ⌜ Headed (headersAt (now (s .entry)) (now (places .entry))) h r (now (out .entry)) (now (out .exit)) ⌝ }
+    ensures { λ r. ⌜ r ≡ putHeaders (headersAt (now (s .entry)) (now (places .entry))) w (now (out .entry)) .walk ⌝ }
+    ensures { λ r. ⌜ now (out .exit) ≡ putHeaders (headersAt (now (s .entry)) (now (places .entry))) w (now (out .entry)) .buffer ⌝ }
 {
-    let mut v = h;
+    let mut v = w;
     let mut i = 0;
     while i < places.len() {
         v = fill_header(s, wide(places[i]), v, out);

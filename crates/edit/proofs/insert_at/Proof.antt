@@ -3,21 +3,18 @@
 -- Assumes nothing.
 use Prim.Native.Nat.{ℕ, _≤_}
 use native.Mathlib.Omega.{arith}
-use mathlib.Core.Path.{_≡_, refl, sym, ap, _∙_}
-use mathlib.Core.List.{List}
+use mathlib.Core.Path.{_≡_, refl, sym}
+use mathlib.Core.List.{List, [], _∷_}
 use lib.ListN.{length}
 use lib.Seq.{length-take-le}
 use denote.Ref.{now}
 use borrow.Author.Needs.{needs}
 use Rattle.jkf.proofs.Answering.{told}
-use Rattle.jkf.specs.Model.{Record}
-use Rattle.block.specs.Encode.{encode}
 use Rattle.block.specs.Decode.{linesIn, decode}
 use Rattle.edit.specs.Edit.{variationOf}
 use Rattle.edit.specs.Splicing.{linesAfter, AllRowed}
-use Rattle.edit.specs.Outcomes.{storedOf}
-use Rattle.edit.proofs.Texts.{one-variation}
-use Rattle.edit.proofs.Afresh.{rows-within, rows-are, after-long, put-record, put-asks, put-rowed, put-changed}
+use Rattle.edit.proofs.Texts.{variation-says}
+use Rattle.edit.proofs.Afresh.{rows-within, rows-are, put-long, put-asks, put-rowed, put-changed}
 use Rattle.edit.proofs.Outcomes.{parent-changes, none-changes}
 use Rattle.edit.proofs.insert_at.Statement.{statement}
 use Rattle.edit.proofs.insert_at.Tie as tie
@@ -26,11 +23,11 @@ use Rattle.edit.proofs.insert_at.Lts as lts
 use Rattle.block.proofs.lines_in.Reads as lines-in-reads
 use Rattle.edit.proofs.rows.changed_parent.Reads as changed-parent-reads
 use Rattle.edit.proofs.rows.put_rows.Reads as put-rows-reads
-use Rattle.edit.proofs.stores.store.Reads as store-reads
+use Rattle.edit.proofs.stores.store_with.Reads as store-with-reads
 
 -- once the rows are made: the block, the new line's number, the text, and what is known of them
 abbrev At : Type 0
-At = lts.After-put-rows (put-rows-reads.Asked, put-rows-reads.Learnt, changed-parent-reads.Asked, changed-parent-reads.Learnt, lines-in-reads.Asked, lines-in-reads.Learnt, store-reads.Asked, store-reads.Learnt) reads.Pre reads.Post
+At = lts.After-put-rows (put-rows-reads.Asked, put-rows-reads.Learnt, changed-parent-reads.Asked, changed-parent-reads.Learnt, lines-in-reads.Asked, lines-in-reads.Learnt, store-with-reads.Asked, store-with-reads.Learnt) reads.Pre reads.Post
 
 abbrev B : At → List ℕ
 B c = now (c .before .before .before .before .before .args .b)
@@ -41,15 +38,15 @@ N c = c .before .before .before .before .before .args .n
 abbrev T : At → List ℕ
 T c = now (c .before .before .before .before .before .args .t)
 
-rowed : (c : At) → AllRowed (linesAfter (B c) (N c) (N c) (T c)) (c .put-rows .last .0)
+rowed : (c : At) → AllRowed (linesAfter (B c) (N c) (N c) (variationOf (T c) ∷ [])) (c .put-rows .last .0)
 rowed c =
     let (s, h, v, e) = c .before .before .before .before .before .pre .0 in
-    put-rowed (B c) (N c) (T c) v s h e (c .before .before .before .before .before .pre .1 .0) (c .before .before .before .before .before .pre .1 .1) (c .put-rows .ensures .1)
+    put-rowed (B c) (N c) (T c) v s h e (c .before .before .before .before .before .pre .1 .0) (c .before .before .before .before .before .pre .1 .1) (c .before .before .before .before .before .pre .1 .2) (c .put-rows .ensures .1)
 
-long : (c : At) → c .put-rows .result ≡ length (linesAfter (B c) (N c) (N c) (T c))
+long : (c : At) → c .put-rows .result ≡ length (linesAfter (B c) (N c) (N c) (variationOf (T c) ∷ []))
 long c =
     let (s, h, v, e) = c .before .before .before .before .before .pre .0 in
-    after-long (B c) s (N c) (N c) (T c) (omega arith) h e (c .put-rows .ensures .0)
+    put-long (B c) (N c) (T c) v s h e (c .put-rows .ensures .0)
 
 slice-aggregate-put-rows : tie.Need-slice-aggregate-put-rows
 slice-aggregate-put-rows c = refl
@@ -83,14 +80,14 @@ mul-rows c = omega (arith, long (c .before .before .before .before .before), row
 array-share-prefix-rows : tie.Need-array-share-prefix-rows
 array-share-prefix-rows c = rows-within (long (c .before .before .before .before .before)) (rowed (c .before .before .before .before .before))
 
-slice-aggregate-store : tie.Need-slice-aggregate-store
-slice-aggregate-store c = sym (length-take-le _ _ (rows-within (long (c .before .before .before .before .before .before)) (rowed (c .before .before .before .before .before .before))))
+slice-aggregate-store-with : tie.Need-slice-aggregate-store-with
+slice-aggregate-store-with c = sym (length-take-le _ _ (rows-within (long (c .before .before .before .before .before .before)) (rowed (c .before .before .before .before .before .before))))
 
-store-requires : tie.Need-store-requires
-store-requires c κs =
+store-with-requires : tie.Need-store-with-requires
+store-with-requires c κs =
     let m = c .before .before .before .before .before .before .before in
     let (s, h, v, e) = m .before .before .before .before .before .pre .0 in
-    ((s, omega arith, h), ((one-variation (T m) v .0, e), rows-are (long m) (rowed m)))
+    ((s, h, variation-says (T m) v .0, e), rows-are (long m) (rowed m))
 
 same-length : tie.Need-same-length
 same-length c = search needs
@@ -104,9 +101,8 @@ returns-2 c =
     let w = put-changed (B m) (N m) (T m) v s h (r .result) (rowed m) (r .ensures) in
     let l : linesIn (B m) ≤ r .result = omega (arith, c .before .before .before .before .before .if1 .left, c .before .before .before .before .before .before .lines-in .ensures .0) in
     told
-    (none-changes (decode (B m)) o (N m) (variationOf (T m)) w l
-    ∙ ap (λ (r : Record). storedOf (encode r) (N m) o) (put-record (B m) (N m) (T m) v))
-    (c .before .before .store .ensures)
+    (none-changes (decode (B m)) o (N m) (variationOf (T m)) w l)
+    (c .before .before .store-with .ensures)
 
 pub insert-at-spec : {M : Type 1} → statement M
 insert-at-spec =
@@ -120,7 +116,7 @@ insert-at-spec =
     returns
     mul-rows
     array-share-prefix-rows
-    slice-aggregate-store
-    store-requires
+    slice-aggregate-store-with
+    store-with-requires
     same-length
     returns-2)

@@ -18,7 +18,7 @@ use Rattle.block.specs.Decode.{decode}
 use Rattle.block.specs.Sound.{Sound, soundb}
 use Rattle.block.specs.Formed.{Formed}
 use Rattle.parser.specs.Parse.{parse, recordOf}
-use Rattle.parser.specs.Plays.{plyAt}
+use Rattle.plays.specs.Plays.{plyAt}
 use Rattle.parser.specs.Read.{readOf}
 use Rattle.converter.specs.Show.{recordText, onObstacle, handsObstacle, linesObstacle, text, refused, showLines, show, leftOut}
 use Rattle.converter.specs.Writing.{filledWith, shownOf, writeOf}

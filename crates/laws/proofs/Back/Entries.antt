@@ -20,8 +20,8 @@ use Rattle.moves.specs.Moves.{remarkFrom, keptAt, commentLineAt, moveLineAt}
 use Rattle.moves.specs.declared.Remark.the-variants.{Stands as Remarked, NoRemark}
 use Rattle.moves.specs.declared.MoveLine.the-variants.{NoLine}
 use Rattle.moves.specs.Fits.{EntryFits}
-use Rattle.parser.specs.Plays.{commentsAt, entriesAt, plyAt}
-use Rattle.parser.proofs.Items.{comments-more, comments-none, entries-more, entries-none}
+use Rattle.plays.specs.Plays.{commentsAt, entriesAt, plyAt}
+use Rattle.plays.proofs.Items.{comments-more, comments-none, entries-more, entries-none}
 use Rattle.converter.specs.Entries.{starText, remarkText, remarksText}
 use Rattle.laws.specs.Whole.{wholeLine, wholeNoted, wholeEntries}
 use Rattle.laws.specs.Sayable.{everyByte, OneLine, Follows}

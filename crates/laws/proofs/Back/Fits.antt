@@ -30,7 +30,7 @@ use Rattle.sorted.specs.declared.Order.{Order}
 use Rattle.sorted.specs.declared.Order.the-variants.{Less, Equal, Greater}
 use Rattle.sorted.proofs.Orders.{Chain, bytes-chain}
 use Rattle.parser.specs.Parse.{byHeader}
-use Rattle.parser.specs.Plays.{noted}
+use Rattle.plays.specs.Plays.{noted}
 use Rattle.lists.proofs.Laws.{by-pick}
 use Rattle.converter.specs.Show.{shown, handObstacle, handsObstacle}
 use Rattle.converter.specs.declared.Obstacle.the-variants.{At, Clear}
@@ -225,7 +225,7 @@ shownLines (l ∷ ls) = l ∷ shown ls
 abbrev pub shownRecord : Record → Record
 shownRecord r = record { version = r .version; headers = r .headers; position = r .position; lines = shownLines (r .lines) }
 
-all-fitted : (ls : List Line) → 1 ≤ length ls → claim (each (length ls) (lineFits ls)) → All Known ls → PlaysSayable (playsIn ls) → All (λ p. Colored (p .start) (p .entries)) (playsIn ls) → LinesFit (shownLines ls)
+all-fitted : (ls : List Line) → 1 ≤ length ls → claim (each (length ls) (lineFits 1 ls)) → All Known ls → PlaysSayable (playsIn ls) → All (λ p. Colored (p .start) (p .entries)) (playsIn ls) → LinesFit (shownLines ls)
 all-fitted [] n f ks s c = absurd (omega arith)
 all-fitted (l ∷ ls) n f (next k ks) (leads s ss) (next c cs) = go (l .entries) refl s c
   where
@@ -242,7 +242,7 @@ all-fitted (l ∷ ls) n f (next k ks) (leads s ss) (next c cs) = go (l .entries)
     first = hang-first start count parent (f 0 (omega arith) .1)
 
     -- where the main line has only its slot, a variation can only start at 0
-    alone : (m : ℕ) → length (l .entries) ≡ suc m → m ≡ 0 → (ls : List Line) → claim (each (length (l ∷ ls)) (lineFits (l ∷ ls))) → shown ls ≡ []
+    alone : (m : ℕ) → length (l .entries) ≡ suc m → m ≡ 0 → (ls : List Line) → claim (each (length (l ∷ ls)) (lineFits 1 (l ∷ ls))) → shown ls ≡ []
     alone m e q [] f = no-lines
     alone m e q (x ∷ xs) f =
         let start : ℕ → ℕ = λ j. lineOf (l ∷ x ∷ xs) j .start in

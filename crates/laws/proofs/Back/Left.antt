@@ -17,9 +17,10 @@ use Rattle.jkf.specs.declared.Entry.{Entry}
 use Rattle.jkf.proofs.Nears.{near-before, near-same, Hangs}
 use Rattle.jkf.specs.Model.{Noted, Line, Record}
 use Rattle.moves.specs.Fits.{ClockFits, hmsFits, msFits, TimeFits, untimedFits, timedFits, EntryFits, playFits, endFits}
-use Rattle.parser.proofs.Hung.{all-hang, parent-first, parent-later}
+use Rattle.block.proofs.Attached.{all-hang, parent-first, parent-later}
 use Rattle.converter.specs.Entries.{hour, minute, second}
 use Rattle.converter.specs.Show.{shown}
+use Rattle.edit.proofs.Parents.{plays-take}
 use Rattle.edit.specs.Edit.{playsIn}
 use Rattle.edit.specs.Splicing.{Lines}
 use Rattle.edit.proofs.Nearing.{hang-moved, hung-all}
@@ -128,11 +129,6 @@ plays-left : (ls : List Line) → playsIn (map leftLine ls) ≡ map leftPlay (pl
 unfolding leftLine
 plays-left [] = refl
 plays-left (l ∷ ls) = ap (λ (k : List Play). leftPlay (play (l .start) (l .entries)) ∷ k) (plays-left ls)
-
-plays-take : (n : ℕ) (ls : List Line) → playsIn (take n ls) ≡ take n (playsIn ls)
-plays-take zero ls = refl
-plays-take (suc n) [] = refl
-plays-take (suc n) (l ∷ ls) = ap (λ (k : List Play). play (l .start) (l .entries) ∷ k) (plays-take n ls)
 
 play-at : (n : ℕ) (ps : List Play) (i : ℕ) → i < n → i < length ps → playOf (map leftPlay (take n ps)) i ≡ leftPlay (playOf ps i)
 play-at zero ps i h k = absurd (omega arith)

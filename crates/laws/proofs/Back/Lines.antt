@@ -24,8 +24,8 @@ use Rattle.jkf.specs.Attaching.{Play, play}
 use Rattle.block.specs.Encode.{concat}
 use Rattle.moves.specs.Moves.{beginsMove, skipLineAt}
 use Rattle.spell.specs.Words.{black, white}
-use Rattle.parser.specs.Plays.{noted, entriesAt, skippedAt, skipsAt, variationsAt, pastMain, mainAt, playsAt}
-use Rattle.parser.proofs.Items.{skips-none}
+use Rattle.plays.specs.Plays.{noted, entriesAt, skippedAt, skipsAt, variationsAt, pastMain, mainAt, playsAt}
+use Rattle.plays.proofs.Items.{skips-none}
 use Rattle.parser.proofs.Variations.{variations-more, variations-none, main-is, main-none}
 use Rattle.converter.specs.Entries.{remarksText}
 use Rattle.converter.specs.Show.{numberLine, variationTag, variationHead}

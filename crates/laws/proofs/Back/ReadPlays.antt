@@ -23,8 +23,8 @@ use Rattle.moves.specs.declared.Remark.{Remark}
 use Rattle.moves.specs.declared.Remark.the-variants.{Stands as Remarked, NoRemark}
 use Rattle.moves.proofs.Answers.{line-is}
 use Rattle.moves.proofs.Fits.{move-line-fits}
-use Rattle.parser.specs.Plays.{commentsAt, entriesAt, skippedAt, slotAt, pastMain, mainAt, playsAt}
-use Rattle.parser.proofs.Items.{textOf}
+use Rattle.plays.specs.Plays.{commentsAt, entriesAt, skippedAt, slotAt, pastMain, mainAt, playsAt}
+use Rattle.plays.proofs.Items.{textOf}
 use Rattle.laws.proofs.Playing.{comments-all, entries-all, variations-all}
 use Rattle.laws.specs.Sayable.{everyByte, OneLine, NotedSayable, PlaysSayable}
 

@@ -18,6 +18,7 @@ use Rattle.block.proofs.Tabling.{concat-append}
 use Rattle.block.proofs.Lengths.{block-length}
 use Rattle.kakinoki.specs.Starts.{startOf}
 use Rattle.kakinoki.specs.declared.Fault.the-variants.{NoFault}
+use Rattle.filling.specs.Filling.{atFront}
 use Rattle.parser.specs.Parse.{parse, recordOf, neededBy, needed}
 use Rattle.parser.specs.Read.{filledWith, storedOf, startedOf, readOf}
 use Rattle.converter.specs.Show.{recordText, handsObstacle}
@@ -143,7 +144,7 @@ module _ (r : Record) (f : RecordFits r) (one : r .version ≡ 1) (a : Attached 
   module _ (short : length (wholeText r) ≤ 65535) (fits : neededBy (r .headers) (r .lines) ≤ 65535) (o : List ℕ) (room : neededBy (r .headers) (r .lines) ≤ length o) where
     -- what `read` answers
     abbrev answered : Outcome
-    answered = record { answer = Done (length (wholeText r)) (neededBy (r .headers) (r .lines)); buffer = encode r ++ drop (neededBy (r .headers) (r .lines)) o }
+    answered = record { answer = Done (length (wholeText r)) (neededBy (r .headers) (r .lines)); buffer = atFront (encode r) o }
 
     filled-back : filledWith (saidBy r (length (wholeText r))) o ≡ answered
     unfolding filledWith
@@ -199,8 +200,8 @@ module _ (r : Record) (g : Formed r) (s : Sayable r) (c : ColorsFollow r) (h : h
   whole-back z short o room =
       let w = formed-fits r g in
       let n : length (encode r) ≡ neededBy (r .headers) (r .lines) = block-length r (w .whole) in
-      rw n (whole-read r (whole-fit z) (g .version) (formed-attached r g) (headers-valid r g) (comments-valid r g) short
-      (omega (arith, g .short)) o (omega arith))
+      whole-read r (whole-fit z) (g .version) (formed-attached r g) (headers-valid r g) (comments-valid r g) short (omega (arith, g .short)) o (omega arith)
+      ∙ ap (λ (k : ℕ). record { answer = Done (length (wholeText r)) k; buffer = atFront (encode r) o }) (sym n)
 
   -- the plain text                                                                                       (01, Writing, and what is lost)
   pub plain-back : length (recordText r) ≤ 65535 → (o : List ℕ) → length (encode (left r)) ≤ length o
@@ -210,9 +211,10 @@ module _ (r : Record) (g : Formed r) (s : Sayable r) (c : ColorsFollow r) (h : h
       let w = formed-fits r g in
       let n : length (encode (left r)) ≡ neededBy (r .headers) (leftLines (r .lines)) = block-length (left r) (w .whole) in
       let m : neededBy (r .headers) (leftLines (r .lines)) ≤ 65535 = omega (arith, weight-less (r .lines) (g .some), fits r w) in
-      rw (plain-is r, n)
+      rw (plain-is r)
       (whole-read (left r) left-fit (g .version) (left-attached (r .lines) (g .some) (formed-attached r g)) (headers-valid r g)
-      (left-valid (comments-valid r g)) (subst (λ (t : List ℕ). length t ≤ 65535) (plain-is r) short) m o (omega arith))
+      (left-valid (comments-valid r g)) (subst (λ (t : List ℕ). length t ≤ 65535) (plain-is r) short) m o (omega arith)
+      ∙ ap (λ (k : ℕ). record { answer = Done (length (wholeText (left r))) k; buffer = atFront (encode (left r)) o }) (sym n))
 
   -- the record that it says
   pub plain-said : recordOf (parse (recordText r)) ≡ left r

@@ -18,7 +18,7 @@ use Rattle.block.specs.Sound.{isCell}
 use Rattle.kakinoki.specs.Starts.{startOf}
 use Rattle.kakinoki.specs.declared.Fault.the-variants.{NoFault}
 use Rattle.sorted.specs.Sorted.{Ascending}
-use Rattle.parser.specs.Plays.{noted}
+use Rattle.plays.specs.Plays.{noted}
 use Rattle.parser.specs.Parse.{byHeader, parse}
 use Rattle.converter.specs.Headers.{headersText}
 use Rattle.converter.specs.Diagrams.{presetLine, boardText, turnText, diagramText, positionText, handLine as handText}

@@ -19,7 +19,7 @@ use Rattle.moves.specs.Moves.{squareAt, moveToAt, promoteAt, originAt, moveFrom
 use Rattle.kakinoki.specs.Informations.{hashLineAt, hashLinesAt, paddedEndAt, presetLineAt, turnLineAt, pieceAt as handPieceAt, pieceStep, piecesAt, handAt, heldAt, handLineAt, valueAt, keyValueAt, headerAt, keyedAt, handsOrKeyedAt, informationAt, informationItem, informationsAt, faultAt, tell, tellAll, pairsOf, headerPlacesFrom, headerPlacesAt}
 use Rattle.kakinoki.specs.Boards.{whiteAt, cellAt, cellsFrom, rowEndAt, rowAt, rowsFrom, boardAt}
 use Rattle.kakinoki.specs.Starts.{addHands, merged, positionOf, headersSaid, headerPlaces, startOf}
-use Rattle.parser.specs.Plays.{commentItem, commentsAt, entryItem, entriesAt, plyAt, skippedAt, skipsAt, playItem, variationItem, variationsAt, mainAt, playsAt}
+use Rattle.plays.specs.Plays.{commentItem, commentsAt, entryItem, entriesAt, plyAt, skippedAt, skipsAt, playItem, variationItem, variationsAt, mainAt, playsAt}
 use Rattle.parser.specs.Parse.{headersOf, parse, needed}
 use Rattle.parser.specs.Read.{filledWith, storedOf, startedOf, readOf}
 use Rattle.edit.specs.Edit.{fresh, isVariation, isPlyOf, carries, above, changedFrom, insertAt, insertOn, insert, notBelow, remove}

@@ -1,6 +1,6 @@
 -- As many zeros as the buffer has bytes.
 -- Assumes nothing.
-use Rattle.parser.proofs.Fronts.{cleared}
+use Rattle.parser.proofs.Storing.{cleared}
 use borrow.Author.Needs.{needs}
 use Rattle.parser.proofs.stores.clear.Statement.{statement}
 use Rattle.parser.proofs.stores.clear.Tie as tie

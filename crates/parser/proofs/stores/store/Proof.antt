@@ -1,10 +1,11 @@
--- What is counted is the length that the block needs: too long, or the buffer too short, or filled.
+-- What is counted are the sizes of the block: it is refused by its length, or filled.
 -- Assumes nothing.
-use Rattle.parser.specs.Parse.{parse}
-use Rattle.parser.proofs.Storing.{moves-within, header-lines, needed-by, bounds, stored-long, stored-short, stored-filled}
-use Rattle.parser.specs.Filling.{HeaderLines, sizesAt}
-use mathlib.Core.Path.{sym, ap, _∙_, subst}
 use native.Mathlib.Omega.{arith}
+use mathlib.Core.Path.{sym, ap, _∙_, subst}
+use Rattle.parser.specs.Headers.{HeaderLines}
+use Rattle.parser.specs.Lines.{extentsAt}
+use Rattle.parser.proofs.Storing.{moves-within, header-lines, sizes-are, bounds}
+use Rattle.parser.proofs.Completing.{prepared-so, refused-so, opened-so, stored-so}
 use borrow.Author.Needs.{needs}
 use Rattle.parser.proofs.stores.store.Statement.{statement}
 use Rattle.parser.proofs.stores.store.Tie as tie
@@ -12,72 +13,54 @@ use Rattle.parser.proofs.stores.store.Tie as tie
 count-lines-requires : tie.Need-count-lines-requires
 count-lines-requires c κs = let a = c .before .before .before in omega (arith, a .pre .place, moves-within (a .args .s .now))
 
-mul-total : tie.Need-mul-total
-mul-total c = let b = bounds (c .count-lines .result) (c .before .before .before .before .pre) (c .count-lines .ensures) in omega (arith, b .headers, b .lines, b .entries, b .comments, b .bytes, b .text)
-
-add-total : tie.Need-add-total
-add-total c = let b = bounds (c .count-lines .result) (c .before .before .before .before .pre) (c .count-lines .ensures) in omega (arith, b .headers, b .lines, b .entries, b .comments, b .bytes, b .text)
-
-mul-total-2 : tie.Need-mul-total-2
-mul-total-2 c = let b = bounds (c .before .count-lines .result) (c .before .before .before .before .before .pre) (c .before .count-lines .ensures) in omega (arith, b .headers, b .lines, b .entries, b .comments, b .bytes, b .text)
-
-add-total-2 : tie.Need-add-total-2
-add-total-2 c = let b = bounds (c .before .count-lines .result) (c .before .before .before .before .before .pre) (c .before .count-lines .ensures) in omega (arith, b .headers, b .lines, b .entries, b .comments, b .bytes, b .text)
-
-mul-total-3 : tie.Need-mul-total-3
-mul-total-3 c = let b = bounds (c .before .before .count-lines .result) (c .before .before .before .before .before .before .pre) (c .before .before .count-lines .ensures) in omega (arith, b .headers, b .lines, b .entries, b .comments, b .bytes, b .text)
-
-add-total-3 : tie.Need-add-total-3
-add-total-3 c = let b = bounds (c .before .before .count-lines .result) (c .before .before .before .before .before .before .pre) (c .before .before .count-lines .ensures) in omega (arith, b .headers, b .lines, b .entries, b .comments, b .bytes, b .text)
-
-mul-total-4 : tie.Need-mul-total-4
-mul-total-4 c = let b = bounds (c .before .before .before .count-lines .result) (c .before .before .before .before .before .before .before .pre) (c .before .before .before .count-lines .ensures) in omega (arith, b .headers, b .lines, b .entries, b .comments, b .bytes, b .text)
-
-add-total-4 : tie.Need-add-total-4
-add-total-4 c = let b = bounds (c .before .before .before .count-lines .result) (c .before .before .before .before .before .before .before .pre) (c .before .before .before .count-lines .ensures) in omega (arith, b .headers, b .lines, b .entries, b .comments, b .bytes, b .text)
-
 count-headers-requires : tie.Need-count-headers-requires
-count-headers-requires c κs = let a = c .before .before .before .before .before .before .before in subst (HeaderLines (a .args .s .now)) (sym (a .pre .headers)) (header-lines (a .args .s .now) (a .pre .short))
+count-headers-requires c κs = let a = c .before .before .before .before in subst (HeaderLines (a .args .s .now)) (sym (a .pre .headers)) (header-lines (a .args .s .now) (a .pre .short))
 
-add-total-5 : tie.Need-add-total-5
-add-total-5 c = let b = bounds (c .before .before .before .before .before .count-lines .result) (c .before .before .before .before .before .before .before .before .before .pre) (c .before .before .before .before .before .count-lines .ensures) in omega (arith, b .headers, b .lines, b .entries, b .comments, b .bytes, b .text, c .before .count-headers .ensures)
+add-t13 : tie.Need-add-t13
+add-t13 c = let b = bounds (c .before .before .count-lines .result) (c .before .before .before .before .before .before .pre) (c .before .before .count-lines .ensures) in omega (arith, b .bytes, b .text, c .before .count-headers .ensures)
 
-add-total-6 : tie.Need-add-total-6
-add-total-6 c = let b = bounds (c .before .before .before .before .before .count-lines .result) (c .before .before .before .before .before .before .before .before .before .pre) (c .before .before .before .before .before .count-lines .ensures) in omega (arith, b .headers, b .lines, b .entries, b .comments, b .bytes, b .text, c .before .count-headers .ensures)
+open-requires : tie.Need-open-requires
+open-requires c κs = search needs
 
-returns : tie.Need-returns
-returns c = stored-long (parse (c .before .before .before .before .before .before .before .before .before .before .args .s .now)) (c .before .before .before .before .before .before .before .before .before .before .args .out .now) _ (needed-by (c .before .before .before .before .before .before .before .before .before .before .args .s .now) (c .before .before .before .before .before .before .count-lines .result) (c .before .before .before .before .before .before .before .before .before .before .args .headers .now) (c .before .before .count-headers .result) (c .before .before .before .before .before .before .count-lines .ensures ∙ ap (sizesAt (c .before .before .before .before .before .before .before .before .before .before .args .s .now)) (c .before .before .before .before .before .before .before .before .before .before .pre .place)) (c .before .before .before .before .before .before .before .before .before .before .pre .headers) (c .before .before .count-headers .ensures)) (c .if1 .taken)
-
-returns-2 : tie.Need-returns-2
-returns-2 c = stored-short (parse (c .before .before .before .before .before .before .before .before .before .before .before .args .s .now)) (c .before .before .before .before .before .before .before .before .before .before .before .args .out .now) _ (needed-by (c .before .before .before .before .before .before .before .before .before .before .before .args .s .now) (c .before .before .before .before .before .before .before .count-lines .result) (c .before .before .before .before .before .before .before .before .before .before .before .args .headers .now) (c .before .before .before .count-headers .result) (c .before .before .before .before .before .before .before .count-lines .ensures ∙ ap (sizesAt (c .before .before .before .before .before .before .before .before .before .before .before .args .s .now)) (c .before .before .before .before .before .before .before .before .before .before .before .pre .place)) (c .before .before .before .before .before .before .before .before .before .before .before .pre .headers) (c .before .before .before .count-headers .ensures)) (c .before .if1 .left) (c .if2 .taken)
+enum-known-w : tie.Need-enum-known-w
+enum-known-w c = search needs
 
 fill-requires : tie.Need-fill-requires
-fill-requires c κs = let a = c .before .before .before .before .before .before .before .before .before .before .before .before in (a .pre, record { sizes = c .before .before .before .before .before .before .before .before .count-lines .ensures ∙ ap (sizesAt (a .args .s .now)) (a .pre .place); needs = needed-by (c .before .before .before .before .before .before .before .before .before .before .before .before .args .s .now) (c .before .before .before .before .before .before .before .before .count-lines .result) (c .before .before .before .before .before .before .before .before .before .before .before .before .args .headers .now) (c .before .before .before .before .count-headers .result) (c .before .before .before .before .before .before .before .before .count-lines .ensures ∙ ap (sizesAt (c .before .before .before .before .before .before .before .before .before .before .before .before .args .s .now)) (c .before .before .before .before .before .before .before .before .before .before .before .before .pre .place)) (c .before .before .before .before .before .before .before .before .before .before .before .before .pre .headers) (c .before .before .before .before .count-headers .ensures); most = c .before .before .if1 .left; room = c .before .if2 .left })
+fill-requires c κs = let a = c .before .before .before .before .before .before .before .before .before .before .before .before .before .before in let z = c .before .before .before .before .before .before .before .before .before .before .count-lines in let n = c .before .before .before .before .before .before .before .before .before .count-headers in let o = c .before .before .before .before .before .before .«open» .ensures in let g = c .before .before .w .given in
+    let e = sizes-are (a .args .s .now) (z .result) (a .args .headers .now) (n .result) (z .ensures ∙ ap (extentsAt (a .args .s .now)) (a .pre .place)) (a .pre .headers) (n .ensures) in
+    (prepared-so (a .args .s .now) (a .args .c) (a .args .headers .now) (a .pre), opened-so (a .args .s .now) (a .args .c) (a .args .headers .now) (a .pre) (a .args .out .now) e (o .1) (sym (g .1) ∙ o .0))
+
+enum-known-a : tie.Need-enum-known-a
+enum-known-a c = search needs
 
 same-length : tie.Need-same-length
 same-length c = search needs
 
-returns-3 : tie.Need-returns-3
-returns-3 c = stored-filled (parse (c .before .before .before .before .before .before .before .before .before .before .before .before .before .before .before .args .s .now)) (c .before .before .before .before .before .before .before .before .before .before .before .before .before .before .before .args .out .now) _ (needed-by (c .before .before .before .before .before .before .before .before .before .before .before .before .before .before .before .args .s .now) (c .before .before .before .before .before .before .before .before .before .before .before .count-lines .result) (c .before .before .before .before .before .before .before .before .before .before .before .before .before .before .before .args .headers .now) (c .before .before .before .before .before .before .before .count-headers .result) (c .before .before .before .before .before .before .before .before .before .before .before .count-lines .ensures ∙ ap (sizesAt (c .before .before .before .before .before .before .before .before .before .before .before .before .before .before .before .args .s .now)) (c .before .before .before .before .before .before .before .before .before .before .before .before .before .before .before .pre .place)) (c .before .before .before .before .before .before .before .before .before .before .before .before .before .before .before .pre .headers) (c .before .before .before .before .before .before .before .count-headers .ensures)) (c .before .before .before .before .before .if1 .left) (c .before .before .before .before .if2 .left) (c .before .before .fill .ensures .0) (c .before .before .fill .ensures .1)
+returns : tie.Need-returns
+returns c = let a = c .before .before .before .before .before .before .before .before .before .before .before .before .before .before .before .before .before in let z = c .before .before .before .before .before .before .before .before .before .before .before .before .before .count-lines in let n = c .before .before .before .before .before .before .before .before .before .before .before .before .count-headers in let o = c .before .before .before .before .before .before .before .before .before .«open» .ensures in let g = c .before .before .before .before .before .w .given in let l = c .before .before .fill .ensures in
+    let e = sizes-are (a .args .s .now) (z .result) (a .args .headers .now) (n .result) (z .ensures ∙ ap (extentsAt (a .args .s .now)) (a .pre .place)) (a .pre .headers) (n .ensures) in
+    stored-so (a .args .s .now) (a .args .c) (a .args .headers .now) (a .pre) (a .args .out .now) e (o .1) (sym (g .1) ∙ o .0) (l .0) (l .1)
+
+same-length-2 : tie.Need-same-length-2
+same-length-2 c = search needs
+
+returns-2 : tie.Need-returns-2
+returns-2 c = let a = c .before .before .before .before .before .before .before .before .before .before .before .before .before in let z = c .before .before .before .before .before .before .before .before .before .count-lines in let n = c .before .before .before .before .before .before .before .before .count-headers in let o = c .before .before .before .before .before .«open» .ensures in let g = c .before .a .given in
+    let e = sizes-are (a .args .s .now) (z .result) (a .args .headers .now) (n .result) (z .ensures ∙ ap (extentsAt (a .args .s .now)) (a .pre .place)) (a .pre .headers) (n .ensures) in
+    refused-so (a .args .s .now) (a .args .c) (a .args .headers .now) (a .pre) (a .args .out .now) e (o .1) (sym (g .1) ∙ o .0)
 
 pub store-spec : {M : Type 1} → statement M
 store-spec =
     tie.close
     (tie.spec
     count-lines-requires
-    mul-total
-    add-total
-    mul-total-2
-    add-total-2
-    mul-total-3
-    add-total-3
-    mul-total-4
-    add-total-4
     count-headers-requires
-    add-total-5
-    add-total-6
-    returns
-    returns-2
+    add-t13
+    open-requires
+    enum-known-w
     fill-requires
+    enum-known-a
     same-length
-    returns-3)
+    returns
+    same-length-2
+    returns-2)

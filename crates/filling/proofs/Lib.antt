@@ -1,0 +1,4 @@
+pub mod Texts
+pub mod Growing
+pub mod Putting
+pub mod Wholes

@@ -1,0 +1,333 @@
+-- What was tested and stored, held against what one part more makes of a walk and a buffer.
+-- Assumes nothing.
+use Prim.Native.Nat.{ℕ, _+_, _-_, _≤_, _<_}
+use native.Mathlib.Omega.{arith}
+use mathlib.Core.Path.{_≡_, refl, sym, ap, ap₂, _∙_}
+use mathlib.Core.List.{List, _++_}
+use mathlib.Core.Bool.{Bool, true, false}
+use lib.ListN.{length, drop}
+use lib.Dec.{eqb, leb, ltb}
+use borrow.Author.Tests.{leb-true, leb-false, le-leb, lt-leb, lt-ltb, le-ltb, ltb-true, ltb-false}
+use Rattle.lists.specs.Pick.{pick}
+use Rattle.lists.proofs.Laws.{pick-both}
+use Rattle.lent.specs.Bytes.{bytes16, fitting}
+use Rattle.lent.specs.Regions.{Stored, put}
+use Rattle.lent.proofs.Regions.{length-put, put-more, stored-all}
+use Rattle.jkf.specs.Answers.{Outcome}
+use Rattle.jkf.specs.declared.Answer.{Answer}
+use Rattle.jkf.specs.declared.Answer.the-variants.{BlockTooLong, BufferShort}
+use Rattle.jkf.specs.declared.Entry.{Entry}
+use Rattle.jkf.specs.declared.Position.{Position}
+use Rattle.block.specs.EntryBytes.{entryBytes}
+use Rattle.block.specs.PositionBytes.{positionBytes}
+use Rattle.block.specs.Encode.{blockLength, headerRow, commentRow}
+use Rattle.block.proofs.EntriesBack.{entry-length}
+use Rattle.block.proofs.Lengths.{head-length}
+use Rattle.filling.specs.declared.Sizes.{Sizes}
+use Rattle.filling.specs.declared.Walk.{Walk}
+use Rattle.filling.specs.declared.Opening.{Opening}
+use Rattle.filling.specs.declared.Opening.the-variants.{Begun, Refused}
+use Rattle.filling.specs.Filling.{unlessRefused, onOpening, areSmall, lengthOf, begun, opening, headFor, frontPut, opened, header, hasHeader, putHeader, putLine, hasComment, putComment, putEntry}
+
+-- ---- whether something has room
+
+module _ (at n end : ℕ) where
+  pub room-none : end < at → false ≡ leb (at + n) end
+  room-none h = sym (lt-leb (at + n) end (omega arith))
+
+  pub room-left : at ≤ end → leb n (end - at) ≡ leb (at + n) end
+  room-left h = go (leb (at + n) end) refl
+    where
+      go : (t : Bool) → leb (at + n) end ≡ t → leb n (end - at) ≡ t
+      go true e = le-leb n (end - at) (omega (arith, leb-true (at + n) end e))
+      go false e = lt-leb n (end - at) (omega (arith, leb-false (at + n) end e))
+
+-- ---- how long a block is
+
+pub record SmallSizes (z : Sizes) : Type 0 where
+  pub headers : z .headers ≤ 288230376151711743
+  pub lines : z .lines ≤ 288230376151711743
+  pub entries : z .entries ≤ 288230376151711743
+  pub comments : z .comments ≤ 288230376151711743
+  pub bytes : z .bytes ≤ 288230376151711743
+
+pub small-sizes : (z : Sizes) → areSmall z ≡ true → SmallSizes z
+unfolding areSmall
+small-sizes z e =
+    let (a, e₁) = pick-both (leb (z .headers) 288230376151711743) _ e in
+    let (b, e₂) = pick-both (leb (z .lines) 288230376151711743) _ e₁ in
+    let (c, e₃) = pick-both (leb (z .entries) 288230376151711743) _ e₂ in
+    let (d, f) = pick-both (leb (z .comments) 288230376151711743) _ e₃ in
+    record { headers = leb-true _ _ a; lines = leb-true _ _ b; entries = leb-true _ _ c; comments = leb-true _ _ d; bytes = leb-true _ _ f }
+
+pub small-enough : (z : Sizes) → SmallSizes z → areSmall z ≡ true
+unfolding areSmall
+small-enough z s =
+    rw (le-leb (z .headers) 288230376151711743 (s .headers), le-leb (z .lines) 288230376151711743 (s .lines), le-leb (z .entries) 288230376151711743 (s .entries), le-leb (z .comments) 288230376151711743 (s .comments))
+    (le-leb (z .bytes) 288230376151711743 (s .bytes))
+
+module _ (z : Sizes) where
+  pub length-past : areSmall z ≡ false → 18446744073709551615 ≡ lengthOf z
+  unfolding lengthOf
+  length-past e = rw e
+
+  pub length-is : areSmall z ≡ true → blockLength (z .headers) (z .lines) (z .entries) (z .comments) (z .bytes) ≡ lengthOf z
+  unfolding lengthOf
+  length-is e = rw e
+
+  -- a block that is not too long is as long as its sizes say
+  pub length-short : lengthOf z ≤ 65535 → lengthOf z ≡ blockLength (z .headers) (z .lines) (z .entries) (z .comments) (z .bytes)
+  length-short h = go (areSmall z) refl
+    where
+      go : (t : Bool) → areSmall z ≡ t → lengthOf z ≡ blockLength (z .headers) (z .lines) (z .entries) (z .comments) (z .bytes)
+      go true e = sym (length-is e)
+      go false e = absurd (omega (arith, length-past e, h))
+
+-- ---- its front
+
+module _ (version : ℕ) (z : Sizes) (p : Position) (o : List ℕ) where
+  pub front-done : {o₁ o₂ : List ℕ} {q r : ℕ} → lengthOf z ≤ 65535 → lengthOf z ≤ length o
+      → Stored (fitting (headFor version z) o) o o₁ 0 q
+      → Stored (fitting (positionBytes p) (drop 28 o₁)) o₁ o₂ 28 r → o₂ ≡ frontPut version z p o
+  unfolding frontPut
+  front-done {o₁} {o₂} {q} {r} h k x y =
+      let long = head-length version (lengthOf z) (z .headers) (z .lines) (z .entries) (z .comments) in
+      let x₁ = stored-all {t = headFor version z} (omega (arith, long, length-short z h, h, k)) x in
+      y .bytes ∙ ap (λ (u : List ℕ). put u 28 (fitting (positionBytes p) (drop 28 u))) (x₁ .bytes)
+
+  pub open-long : 65535 < lengthOf z → (Refused (BlockTooLong (lengthOf z)) ≡ opening z (length o)) × (o ≡ opened version z p o)
+  unfolding opening opened
+  open-long h = rw (lt-ltb 65535 (lengthOf z) h) (refl, refl)
+
+  module _ (h : lengthOf z ≤ 65535) where
+    pub open-short : length o < lengthOf z → (Refused (BufferShort (lengthOf z)) ≡ opening z (length o)) × (o ≡ opened version z p o)
+    unfolding opening opened
+    open-short k = rw (le-ltb 65535 (lengthOf z) h, lt-ltb (length o) (lengthOf z) k) (refl, refl)
+
+    pub open-done : {w : Walk} {o₁ : List ℕ} → lengthOf z ≤ length o → w ≡ begun z → o₁ ≡ frontPut version z p o
+        → (Begun w (lengthOf z) ≡ opening z (length o)) × (o₁ ≡ opened version z p o)
+    unfolding opening opened
+    open-done {w} {o₁} k e f = rw (le-ltb 65535 (lengthOf z) h, le-ltb (length o) (lengthOf z) k) (ap (λ (v : Walk). Begun v (lengthOf z)) e, f)
+
+-- what an opening tells of the length
+pub record Opens (version : ℕ) (z : Sizes) (p : Position) (w : Walk) (n : ℕ) (o o₁ : List ℕ) : Type 0 where
+  pub walk : w ≡ begun z
+  pub total : n ≡ lengthOf z
+  pub short : lengthOf z ≤ 65535
+  pub room : lengthOf z ≤ length o
+  pub front : o₁ ≡ frontPut version z p o
+
+-- a beginning and a refusal told apart, and what each holds
+whichOf : Opening → ℕ
+whichOf r = onOpening r (λ w n. 0) (λ a. 1)
+
+pub not-begun : {A : Type 0} {w : Walk} {n : ℕ} {a : Answer} → Begun w n ≡ Refused a → A
+unfolding whichOf
+not-begun e = let z : _≡_ {A = ℕ} 0 1 = ap whichOf e in absurd (omega arith)
+
+pub begun-walk : {w v : Walk} {n m : ℕ} → Begun w n ≡ Begun v m → w ≡ v
+begun-walk {w} e = ap (λ (r : Opening). onOpening r (λ v m. v) (λ a. w)) e
+
+pub begun-total : {w v : Walk} {n m : ℕ} → Begun w n ≡ Begun v m → n ≡ m
+begun-total e = ap (λ (r : Opening). onOpening r (λ v m. m) (λ a. 0)) e
+
+pub refused-answer : {a b : Answer} → Refused a ≡ Refused b → a ≡ b
+refused-answer {a} e = ap (λ (r : Opening). onOpening r (λ v m. a) (λ b. b)) e
+
+module _ (version : ℕ) (z : Sizes) (p : Position) (o : List ℕ) where
+  pub opens : {w : Walk} {n : ℕ} {o₁ : List ℕ} → Begun w n ≡ opening z (length o) → o₁ ≡ opened version z p o → Opens version z p w n o o₁
+  opens {w} {n} {o₁} e f = go (ltb 65535 (lengthOf z)) refl
+    where
+      fit : lengthOf z ≤ 65535 → (t : Bool) → ltb (length o) (lengthOf z) ≡ t → Opens version z p w n o o₁
+      fit h true k = not-begun (e ∙ sym (open-short version z p o h (ltb-true (length o) (lengthOf z) k) .0))
+      fit h false k =
+          let r = ltb-false (length o) (lengthOf z) k in
+          let q = open-done version z p o h {w = begun z} {o₁ = frontPut version z p o} r refl refl in
+          record { walk = begun-walk (e ∙ sym (q .0)); total = begun-total (e ∙ sym (q .0)); short = h; room = r; front = f ∙ sym (q .1) }
+
+      go : (t : Bool) → ltb 65535 (lengthOf z) ≡ t → Opens version z p w n o o₁
+      go true k = not-begun (e ∙ sym (open-long version z p o (ltb-true 65535 (lengthOf z) k) .0))
+      go false k = fit (ltb-false 65535 (lengthOf z) k) (ltb (length o) (lengthOf z)) refl
+
+  pub refuses : {a : Answer} {o₁ : List ℕ} → Refused a ≡ opening z (length o) → o₁ ≡ opened version z p o → (r : Outcome)
+      → (a ≡ unlessRefused (lengthOf z) o r .answer) × (o₁ ≡ unlessRefused (lengthOf z) o r .buffer)
+  refuses {a} {o₁} e f r = go (ltb 65535 (lengthOf z)) refl
+    where
+      fit : lengthOf z ≤ 65535 → (t : Bool) → ltb (length o) (lengthOf z) ≡ t → (a ≡ unlessRefused (lengthOf z) o r .answer) × (o₁ ≡ unlessRefused (lengthOf z) o r .buffer)
+      fit h true k =
+          let q = open-short version z p o h (ltb-true (length o) (lengthOf z) k) in
+          rw (le-ltb 65535 (lengthOf z) h, k) (refused-answer (e ∙ sym (q .0)), f ∙ sym (q .1))
+      fit h false k =
+          not-begun (open-done version z p o h {w = begun z} {o₁ = frontPut version z p o} (ltb-false (length o) (lengthOf z) k) refl refl .0 ∙ sym e)
+
+      go : (t : Bool) → ltb 65535 (lengthOf z) ≡ t → (a ≡ unlessRefused (lengthOf z) o r .answer) × (o₁ ≡ unlessRefused (lengthOf z) o r .buffer)
+      go true k =
+          let q = open-long version z p o (ltb-true 65535 (lengthOf z) k) in
+          rw k (refused-answer (e ∙ sym (q .0)), f ∙ sym (q .1))
+      go false k = fit (ltb-false 65535 (lengthOf z) k) (ltb (length o) (lengthOf z)) refl
+
+-- a block that fits is not refused
+pub unrefused : (n : ℕ) (o : List ℕ) (r : Outcome) → n ≤ 65535 → n ≤ length o → unlessRefused n o r ≡ r
+unrefused n o r h k = rw (le-ltb 65535 n h, le-ltb (length o) n k)
+
+-- ---- a comment
+
+pub record CommentRoom (n : ℕ) (w : Walk) (room : ℕ) : Type 0 where
+  pub row : w .comments + 4 ≤ room
+  pub text : w .text + n ≤ room
+  pub noted : w .noted + 1 ≤ 18446744073709551615
+  pub bytes : w .bytes + n ≤ 18446744073709551615
+
+pub comment-room : (n : ℕ) (w : Walk) (room : ℕ) → hasComment n w room ≡ true → CommentRoom n w room
+unfolding hasComment
+comment-room n w room e =
+    let (a, e₁) = pick-both (leb (w .comments + 4) room) _ e in
+    let (b, e₂) = pick-both (leb (w .text + n) room) _ e₁ in
+    let (c, d) = pick-both (leb (w .noted + 1) 18446744073709551615) _ e₂ in
+    record { row = leb-true _ _ a; text = leb-true _ _ b; noted = leb-true _ _ c; bytes = leb-true _ _ d }
+
+module _ (c : List ℕ) (w : Walk) (o : List ℕ) where
+  pub comment-none : hasComment (length c) w (length o) ≡ false → (w ≡ putComment c w o .walk) × (o ≡ putComment c w o .buffer)
+  unfolding putComment
+  comment-none e = rw e (refl, refl)
+
+  pub comment-done : {o₁ o₂ : List ℕ} {p q : ℕ} → hasComment (length c) w (length o) ≡ true
+      → Stored (fitting (bytes16 (w .bytes) ++ bytes16 (length c)) (drop (w .comments) o)) o o₁ (w .comments) p
+      → Stored (fitting c (drop (w .text) o₁)) o₁ o₂ (w .text) q
+      → (_≡_ {A = Walk}
+      (record {
+        headers = w .headers;
+        lines = w .lines;
+        moves = w .moves;
+        comments = p;
+        text = q;
+        entries = w .entries;
+        noted = w .noted + 1;
+        bytes = w .bytes + length c;
+      })
+      (putComment c w o .walk)) × (o₂ ≡ putComment c w o .buffer)
+  unfolding putComment
+  comment-done {o₁} {o₂} {p} {q} e x y =
+      let k = comment-room (length c) w (length o) e in
+      let x₁ = stored-all {t = commentRow (w .bytes) c} (k .row) x in
+      let l : length o₁ ≡ length o = ap length (x₁ .bytes) ∙ length-put o (w .comments) (commentRow (w .bytes) c) in
+      let y₁ = stored-all {t = c} (omega (arith, k .text, l)) y in
+      rw (e, x₁ .end, y₁ .end) (refl, y₁ .bytes ∙ ap (λ (u : List ℕ). put u (w .text) c) (x₁ .bytes))
+
+-- ---- an entry
+
+module _ (e : Entry) (first count : ℕ) (w : Walk) (o : List ℕ) where
+  pub entry-none : leb (w .moves + 20) (length o) ≡ false → (w ≡ putEntry e first count w o .walk) × (o ≡ putEntry e first count w o .buffer)
+  unfolding putEntry
+  entry-none n = rw n (refl, refl)
+
+  pub entry-past : leb (w .moves + 20) (length o) ≡ true → leb (w .entries + 1) 18446744073709551615 ≡ false
+      → (w ≡ putEntry e first count w o .walk) × (o ≡ putEntry e first count w o .buffer)
+  unfolding putEntry
+  entry-past m n = rw (m, n) (refl, refl)
+
+  pub entry-done : {o₁ : List ℕ} {p m : ℕ} → leb (w .moves + 20) (length o) ≡ true → leb (w .entries + 1) 18446744073709551615 ≡ true
+      → m ≡ pick (eqb count 0) 0 first
+      → Stored (fitting (entryBytes e m count) (drop (w .moves) o)) o o₁ (w .moves) p
+      → (_≡_ {A = Walk}
+      (record {
+        headers = w .headers;
+        lines = w .lines;
+        moves = p;
+        comments = w .comments;
+        text = w .text;
+        entries = w .entries + 1;
+        noted = w .noted;
+        bytes = w .bytes;
+      })
+      (putEntry e first count w o .walk)) × (o₁ ≡ putEntry e first count w o .buffer)
+  unfolding putEntry
+  entry-done {o₁} {p} {m} a b q x =
+      let n = wide m in
+      let x₁ = stored-all {t = entryBytes e m count} (omega (arith, n, leb-true (w .moves + 20) (length o) a)) x in
+      let z : p ≡ w .moves + 20 = omega (arith, x₁ .end, n) in
+      rw (a, b, z, ← q) (refl, x₁ .bytes)
+    where
+      wide : (k : ℕ) → length (entryBytes e k count) ≡ 20
+      wide k = entry-length e k count
+
+-- ---- a line's row
+
+module _ (start first count parent : ℕ) (w : Walk) (o : List ℕ) where
+  pub line-none : leb (w .lines + 8) (length o) ≡ false
+      → (w ≡ putLine start first count parent w o .walk) × (o ≡ putLine start first count parent w o .buffer)
+  unfolding putLine
+  line-none n = rw n (refl, refl)
+
+  pub line-done : {o₁ : List ℕ} {p : ℕ} → leb (w .lines + 8) (length o) ≡ true
+      → Stored (fitting (bytes16 start ++ bytes16 first ++ bytes16 count ++ bytes16 parent) (drop (w .lines) o)) o o₁ (w .lines) p
+      → (_≡_ {A = Walk}
+      (record {
+        headers = w .headers;
+        lines = p;
+        moves = w .moves;
+        comments = w .comments;
+        text = w .text;
+        entries = w .entries;
+        noted = w .noted;
+        bytes = w .bytes;
+      })
+      (putLine start first count parent w o .walk)) × (o₁ ≡ putLine start first count parent w o .buffer)
+  unfolding putLine
+  line-done {o₁} {p} a x =
+      let x₁ = stored-all {t = bytes16 start ++ bytes16 first ++ bytes16 count ++ bytes16 parent} (leb-true (w .lines + 8) (length o) a) x in
+      rw (a, x₁ .end) (refl, x₁ .bytes)
+
+-- ---- a header entry
+
+pub record HeaderRoom (key value : ℕ) (w : Walk) (room : ℕ) : Type 0 where
+  pub row : w .headers + 8 ≤ room
+  pub text : w .text + key + value ≤ room
+  pub bytes : w .bytes + key + value ≤ 18446744073709551615
+
+pub header-room : (key value : ℕ) (w : Walk) (room : ℕ) → hasHeader key value w room ≡ true → HeaderRoom key value w room
+unfolding hasHeader
+header-room key value w room e =
+    let (a, e₁) = pick-both (leb (w .headers + 8) room) _ e in
+    let (b, e₂) = pick-both (leb (w .text + key) room) _ e₁ in
+    let (c, e₃) = pick-both (leb (w .text + key + value) room) _ e₂ in
+    let (d, f) = pick-both (leb (w .bytes + key) 18446744073709551615) _ e₃ in
+    record { row = leb-true _ _ a; text = leb-true _ _ c; bytes = leb-true _ _ f }
+
+module _ (key value : List ℕ) (w : Walk) (o : List ℕ) where
+  pub header-none : hasHeader (length key) (length value) w (length o) ≡ false
+      → (w ≡ putHeader (header key value) w o .walk) × (o ≡ putHeader (header key value) w o .buffer)
+  unfolding putHeader
+  header-none e = rw e (refl, refl)
+
+  pub header-done : {o₁ o₂ o₃ : List ℕ} {p q r : ℕ} → hasHeader (length key) (length value) w (length o) ≡ true
+      → Stored (fitting (headerRow (w .bytes) (header key value)) (drop (w .headers) o)) o o₁ (w .headers) p
+      → Stored (fitting key (drop (w .text) o₁)) o₁ o₂ (w .text) q
+      → Stored (fitting value (drop q o₂)) o₂ o₃ q r
+      → (_≡_ {A = Walk}
+      (record {
+        headers = p;
+        lines = w .lines;
+        moves = w .moves;
+        comments = w .comments;
+        text = r;
+        entries = w .entries;
+        noted = w .noted;
+        bytes = w .bytes + length key + length value;
+      })
+      (putHeader (header key value) w o .walk)) × (o₃ ≡ putHeader (header key value) w o .buffer)
+  unfolding putHeader
+  header-done {o₁} {o₂} {o₃} {p} {q} {r} e x y z =
+      let k = header-room (length key) (length value) w (length o) e in
+      let row = headerRow (w .bytes) (header key value) in
+      let x₁ = stored-all {t = row} (k .row) x in
+      let l₁ : length o₁ ≡ length o = ap length (x₁ .bytes) ∙ length-put o (w .headers) row in
+      let y₁ = stored-all {t = key} (omega (arith, k .text, l₁)) y in
+      let l₂ : length o₂ ≡ length o₁ = ap length (y₁ .bytes) ∙ length-put o₁ (w .text) key in
+      let z₁ = stored-all {t = value} (omega (arith, k .text, l₁, l₂, y₁ .end)) z in
+      let t : r ≡ w .text + length key + length value = z₁ .end ∙ ap (λ (n : ℕ). n + length value) (y₁ .end) in
+      rw (e, x₁ .end, t) (
+        refl,
+        z₁ .bytes ∙ ap₂ (λ (u : List ℕ) (m : ℕ). put u m value) (y₁ .bytes) (y₁ .end) ∙ put-more o₁ key value (w .text)
+            ∙ ap (λ (u : List ℕ). put u (w .text) (key ++ value)) (x₁ .bytes),
+      )

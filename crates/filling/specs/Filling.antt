@@ -1,0 +1,227 @@
+-- A block being filled: its length, its front, and what one part more makes of it.              (01, The block; Numbers of refusal: 4, 5)
+-- Assumes nothing: these are definitions.
+use Prim.Native.Nat.{ℕ, _+_, _*_, _-_}
+use mathlib.Core.List.{List, [], _∷_, _++_}
+use mathlib.Core.Bool.{Bool, false}
+use lib.ListN.{length, drop}
+use lib.Dec.{eqb, leb, ltb}
+use Rattle.lists.specs.Pick.{pick}
+use Rattle.lent.specs.Bytes.{bytes16, fitting}
+use Rattle.lent.specs.Regions.{put}
+use Rattle.jkf.specs.Answers.{Outcome, refuse}
+use Rattle.jkf.specs.Model.{Header, Noted, Line}
+use Rattle.jkf.specs.declared.Answer.{Answer}
+use Rattle.jkf.specs.declared.Answer.the-variants.{BlockTooLong, BufferShort}
+use Rattle.jkf.specs.declared.Entry.{Entry}
+use Rattle.jkf.specs.declared.Position.{Position}
+use Rattle.block.specs.EntryBytes.{entryBytes}
+use Rattle.block.specs.PositionBytes.{positionBytes}
+use Rattle.block.specs.Encode.{headBytes, blockLength, headerRow, headerText, commentRow, entriesOf, commentsOf, commentText}
+use Rattle.filling.specs.declared.Sizes.{Sizes}
+use Rattle.filling.specs.declared.Walk.{Walk}
+use Rattle.filling.specs.declared.Opening.{Opening}
+use Rattle.filling.specs.declared.Opening.the-variants.{Begun, Refused}
+
+-- ---- the answer
+
+-- A block of n bytes that is too long or does not fit the buffer is refused; else the answer is another.  (01, Numbers of refusal: 4, 5)
+abbrev pub unlessRefused : ℕ → List ℕ → Outcome → Outcome
+unlessRefused n o r =
+    pick (ltb 65535 n) (refuse (BlockTooLong n) o) (pick (ltb (length o) n) (refuse (BufferShort n) o) r)
+
+-- A block at the front of the buffer, of which nothing else changes.                              (01, Numbers of refusal: success)
+abbrev pub atFront : List ℕ → List ℕ → List ℕ
+atFront b o = b ++ drop (length b) o
+
+-- ---- the length
+
+-- The sizes of a block with these header entries and lines.
+abbrev pub sizesOf : List Header → List Line → Sizes
+sizesOf hs ls =
+    record {
+      headers = length hs;
+      lines = length ls;
+      entries = length (entriesOf ls);
+      comments = length (commentsOf (entriesOf ls));
+      bytes = length (headerText hs) + length (commentText (commentsOf (entriesOf ls)));
+    }
+
+-- Sizes that can be added up in 64 bits: each below 2 to the power of 58.
+abbrev pub isSmall : ℕ → Bool
+isSmall n = leb n 288230376151711743
+
+unfoldable pub areSmall : Sizes → Bool
+areSmall z =
+    pick (isSmall (z .headers))
+    (pick (isSmall (z .lines)) (pick (isSmall (z .entries)) (pick (isSmall (z .comments)) (isSmall (z .bytes)) false) false) false)
+    false
+
+-- The length of a block of these sizes; the largest number of 64 bits stands for all that are past measure.
+unfoldable pub lengthOf : Sizes → ℕ
+lengthOf z =
+    pick (areSmall z) (blockLength (z .headers) (z .lines) (z .entries) (z .comments) (z .bytes)) 18446744073709551615
+
+-- ---- the front
+
+abbrev pub onOpening : {A : Type 0} → Opening → (Walk → ℕ → A) → (Answer → A) → A
+onOpening (Begun w n) f g = f w n
+onOpening (Refused a) f g = g a
+
+-- Where the parts of a block begin of which nothing is filled in.                                  (01, The block: offsets)
+unfoldable pub begun : Sizes → Walk
+begun z =
+    record {
+      headers = 128;
+      lines = 128 + 8 * z .headers;
+      moves = 128 + 8 * z .headers + 8 * z .lines;
+      comments = 128 + 8 * z .headers + 8 * z .lines + 20 * z .entries;
+      text = 128 + 8 * z .headers + 8 * z .lines + 20 * z .entries + 4 * z .comments;
+      entries = 0;
+      noted = 0;
+      bytes = 0;
+    }
+
+-- Refusal 4, refusal 5, or a beginning.
+unfoldable pub opening : Sizes → ℕ → Opening
+opening z room =
+    pick (ltb 65535 (lengthOf z))
+    (Refused (BlockTooLong (lengthOf z)))
+    (pick (ltb room (lengthOf z)) (Refused (BufferShort (lengthOf z))) (Begun (begun z) (lengthOf z)))
+
+-- The head, and the position behind it.
+abbrev pub headFor : ℕ → Sizes → List ℕ
+headFor version z = headBytes version (lengthOf z) (z .headers) (z .lines) (z .entries) (z .comments)
+
+unfoldable pub frontPut : ℕ → Sizes → Position → List ℕ → List ℕ
+frontPut version z p o =
+    let q = put o 0 (headFor version z) in put q 28 (fitting (positionBytes p) (drop 28 q))
+
+-- A refusal changes nothing.
+unfoldable pub opened : ℕ → Sizes → Position → List ℕ → List ℕ
+opened version z p o =
+    pick (ltb 65535 (lengthOf z)) o (pick (ltb (length o) (lengthOf z)) o (frontPut version z p o))
+
+-- ---- one part more
+
+-- The walk and the buffer after it.
+pub record Grown : Type 0 where
+  pub walk : Walk
+  pub buffer : List ℕ
+
+abbrev pub grown : Walk → List ℕ → Grown
+grown w o = record { walk = w; buffer = o }
+
+-- A number that does not overflow.
+abbrev pub isNumber : ℕ → Bool
+isNumber n = leb n 18446744073709551615
+
+abbrev pub header : List ℕ → List ℕ → Header
+header key value = record { key = key; value = value }
+
+-- A header entry of so many bytes has room.
+unfoldable pub hasHeader : ℕ → ℕ → Walk → ℕ → Bool
+hasHeader key value w room =
+    pick (leb (w .headers + 8) room)
+    (pick (leb (w .text + key) room)
+    (pick (leb (w .text + key + value) room) (pick (isNumber (w .bytes + key)) (isNumber (w .bytes + key + value)) false) false)
+    false)
+    false
+
+-- Its row at the end of the header rows; its key, and its value behind it, at the end of the texts. (01, The block: header entry, text)
+unfoldable pub putHeader : Header → Walk → List ℕ → Grown
+putHeader h w o =
+    pick (hasHeader (length (h .key)) (length (h .value)) w (length o))
+    (grown
+    (record {
+      headers = w .headers + 8;
+      lines = w .lines;
+      moves = w .moves;
+      comments = w .comments;
+      text = w .text + length (h .key) + length (h .value);
+      entries = w .entries;
+      noted = w .noted;
+      bytes = w .bytes + length (h .key) + length (h .value);
+    })
+    (put (put o (w .headers) (headerRow (w .bytes) h)) (w .text) (h .key ++ h .value)))
+    (grown w o)
+
+-- A line's row at the end of the line rows.                                                         (01, The block: line)
+unfoldable pub putLine : ℕ → ℕ → ℕ → ℕ → Walk → List ℕ → Grown
+putLine start first count parent w o =
+    pick (leb (w .lines + 8) (length o))
+    (grown
+    (record {
+      headers = w .headers;
+      lines = w .lines + 8;
+      moves = w .moves;
+      comments = w .comments;
+      text = w .text;
+      entries = w .entries;
+      noted = w .noted;
+      bytes = w .bytes;
+    })
+    (put o (w .lines) (bytes16 start ++ bytes16 first ++ bytes16 count ++ bytes16 parent)))
+    (grown w o)
+
+-- A comment of n bytes has room.
+unfoldable pub hasComment : ℕ → Walk → ℕ → Bool
+hasComment n w room =
+    pick (leb (w .comments + 4) room)
+    (pick (leb (w .text + n) room) (pick (isNumber (w .noted + 1)) (isNumber (w .bytes + n)) false) false)
+    false
+
+-- Its row at the end of the comment rows, its bytes at the end of the texts.                        (01, The block: comment, text)
+unfoldable pub putComment : List ℕ → Walk → List ℕ → Grown
+putComment c w o =
+    pick (hasComment (length c) w (length o))
+    (grown
+    (record {
+      headers = w .headers;
+      lines = w .lines;
+      moves = w .moves;
+      comments = w .comments + 4;
+      text = w .text + length c;
+      entries = w .entries;
+      noted = w .noted + 1;
+      bytes = w .bytes + length c;
+    })
+    (put (put o (w .comments) (commentRow (w .bytes) c)) (w .text) c))
+    (grown w o)
+
+-- An entry at the end of the entries, with its first comment and how many it has.                   (01, The block: move entry)
+unfoldable pub putEntry : Entry → ℕ → ℕ → Walk → List ℕ → Grown
+putEntry e first count w o =
+    pick (pick (leb (w .moves + 20) (length o)) (isNumber (w .entries + 1)) false)
+    (grown
+    (record {
+      headers = w .headers;
+      lines = w .lines;
+      moves = w .moves + 20;
+      comments = w .comments;
+      text = w .text;
+      entries = w .entries + 1;
+      noted = w .noted;
+      bytes = w .bytes;
+    })
+    (put o (w .moves) (entryBytes e (pick (eqb count 0) 0 first) count)))
+    (grown w o)
+
+-- ---- several parts, one after another
+
+unfoldable pub putAll : {X : Type 0} → (X → Walk → List ℕ → Grown) → List X → Walk → List ℕ → Grown
+putAll one [] w o = grown w o
+putAll one (x ∷ xs) w o = let g = one x w o in putAll one xs (g .walk) (g .buffer)
+
+abbrev pub putHeaders : List Header → Walk → List ℕ → Grown
+putHeaders = putAll putHeader
+
+abbrev pub putComments : List (List ℕ) → Walk → List ℕ → Grown
+putComments = putAll putComment
+
+-- An entry with its comments: these first, since its bytes say how many they are.
+unfoldable pub putNoted : Noted → Walk → List ℕ → Grown
+putNoted e w o =
+    let g = putComments (e .comments) w o in putEntry (e .what) (w .noted) (g .walk .noted - w .noted) (g .walk) (g .buffer)
+
+abbrev pub putEntries : List Noted → Walk → List ℕ → Grown
+putEntries = putAll putNoted

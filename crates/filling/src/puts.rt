@@ -1,0 +1,159 @@
+// One part more of a block: a header entry, a line, a comment, an entry.
+use crate::Walk;
+use jkf::Entry;
+ghost use mathlib.Core.Path.{_≡_};
+ghost use Prim.Native.Nat.{_+_};
+ghost use lib.Dec.{eqb, leb};
+ghost use Rattle.lists.specs.Pick.{pick};
+ghost use Rattle.filling.specs.Filling.{header, hasHeader, hasComment, putHeader, putLine, putComment, putEntry};
+
+// Whether n more from a place on come to an end or less.
+fn has_room(at: usize, n: usize, end: usize) -> bool
+    ensures { λ r. ⌜ r ≡ leb (at + n) end ⌝ }
+{
+    if end < at {
+        return false;
+    }
+    n <= end - at
+}
+
+// Whether a key and a value of so many bytes have room.
+fn has_header(w: Walk, key: usize, value: usize, room: usize) -> bool
+    ensures { λ r. ⌜ r ≡ hasHeader key value w room ⌝ }
+{
+    if !has_room(w.headers, 8, room) {
+        return false;
+    }
+    if !has_room(w.text, key, room) {
+        return false;
+    }
+    if !has_room(w.text + key, value, room) {
+        return false;
+    }
+    if !has_room(w.bytes, key, 18446744073709551615) {
+        return false;
+    }
+    has_room(w.bytes + key, value, 18446744073709551615)
+}
+
+// A header entry: its row where the header rows end, its key and its value where the texts end.
+pub fn put_header(out: &mut [u8], w: Walk, key: &[u8], value: &[u8]) -> Walk
+    ensures { λ r. ⌜ r ≡ putHeader (header (now (key .entry)) (now (value .entry))) w (now (out .entry)) .walk ⌝ }
+    ensures { λ r. ⌜ now (out .exit) ≡ putHeader (header (now (key .entry)) (now (value .entry))) w (now (out .entry)) .buffer ⌝ }
+{
+    if !has_header(w, key.len(), value.len(), out.len()) {
+        return w;
+    }
+    let middle = w.bytes + key.len();
+    let headers = block::put_header(out, w.headers, w.bytes, key.len(), middle, value.len());
+    let past = lent::put_at(out, w.text, key);
+    let text = lent::put_at(out, past, value);
+    Walk {
+        headers,
+        lines: w.lines,
+        moves: w.moves,
+        comments: w.comments,
+        text,
+        entries: w.entries,
+        noted: w.noted,
+        bytes: middle + value.len(),
+    }
+}
+
+// The row of a line where the line rows end.
+pub fn put_line(
+    out: &mut [u8],
+    w: Walk,
+    start: u64,
+    first: usize,
+    count: usize,
+    parent: u64,
+) -> Walk
+    ensures { λ r. ⌜ r ≡ putLine start first count parent w (now (out .entry)) .walk ⌝ }
+    ensures { λ r. ⌜ now (out .exit) ≡ putLine start first count parent w (now (out .entry)) .buffer ⌝ }
+{
+    if !has_room(w.lines, 8, out.len()) {
+        return w;
+    }
+    let lines = block::put_line(out, w.lines, start, first, count, parent);
+    Walk {
+        headers: w.headers,
+        lines,
+        moves: w.moves,
+        comments: w.comments,
+        text: w.text,
+        entries: w.entries,
+        noted: w.noted,
+        bytes: w.bytes,
+    }
+}
+
+// Whether a comment of n bytes has room.
+fn has_comment(w: Walk, n: usize, room: usize) -> bool
+    ensures { λ r. ⌜ r ≡ hasComment n w room ⌝ }
+{
+    if !has_room(w.comments, 4, room) {
+        return false;
+    }
+    if !has_room(w.text, n, room) {
+        return false;
+    }
+    if !has_room(w.noted, 1, 18446744073709551615) {
+        return false;
+    }
+    has_room(w.bytes, n, 18446744073709551615)
+}
+
+// A comment: its row where the comment rows end, its bytes where the texts end.
+pub fn put_comment(out: &mut [u8], w: Walk, c: &[u8]) -> Walk
+    ensures { λ r. ⌜ r ≡ putComment (now (c .entry)) w (now (out .entry)) .walk ⌝ }
+    ensures { λ r. ⌜ now (out .exit) ≡ putComment (now (c .entry)) w (now (out .entry)) .buffer ⌝ }
+{
+    let n = c.len();
+    if !has_comment(w, n, out.len()) {
+        return w;
+    }
+    let comments = block::put_comment(out, w.comments, w.bytes, n);
+    let text = lent::put_at(out, w.text, c);
+    Walk {
+        headers: w.headers,
+        lines: w.lines,
+        moves: w.moves,
+        comments,
+        text,
+        entries: w.entries,
+        noted: w.noted + 1,
+        bytes: w.bytes + n,
+    }
+}
+
+// The number of the first comment, which is 0 where there is none.
+fn first_comment(first: usize, count: usize) -> usize
+    ensures { λ r. ⌜ r ≡ pick (eqb count 0) 0 first ⌝ }
+{
+    if count == 0 { 0 } else { first }
+}
+
+// An entry where the entries end, with the number of its first comment and how many it has.
+pub fn put_entry(out: &mut [u8], w: Walk, e: Entry, first: usize, count: usize) -> Walk
+    ensures { λ r. ⌜ r ≡ putEntry e first count w (now (out .entry)) .walk ⌝ }
+    ensures { λ r. ⌜ now (out .exit) ≡ putEntry e first count w (now (out .entry)) .buffer ⌝ }
+{
+    if !has_room(w.moves, 20, out.len()) {
+        return w;
+    }
+    if !has_room(w.entries, 1, 18446744073709551615) {
+        return w;
+    }
+    let moves = block::put_entry(out, w.moves, e, first_comment(first, count), count);
+    Walk {
+        headers: w.headers,
+        lines: w.lines,
+        moves,
+        comments: w.comments,
+        text: w.text,
+        entries: w.entries + 1,
+        noted: w.noted,
+        bytes: w.bytes,
+    }
+}

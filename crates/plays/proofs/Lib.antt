@@ -1,0 +1,4 @@
+pub mod Items
+pub mod Weights
+pub mod Counting
+pub mod Filled

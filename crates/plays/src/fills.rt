@@ -1,0 +1,76 @@
+// A line of play, filled into a block.
+use crate::Reached;
+use filling::Walk;
+use jkf::Entry;
+use moves::MoveLine;
+use moves::Remark;
+use text::Cursor;
+ghost use mathlib.Core.Path.{_≡_};
+ghost use Rattle.filling.specs.Filling.{putComments, putNoted, putEntries};
+ghost use Rattle.plays.specs.Plays.{noted, commentsAt, entriesAt};
+
+// The comments from a place on.
+fn fill_comments(s: &[u8], c: Cursor, w: Walk, out: &mut [u8]) -> Reached
+    ensures { λ r. ⌜ r .walk ≡ putComments (commentsAt (now (s .entry)) (c .at) .state) w (now (out .entry)) .walk ⌝ }
+    ensures { λ r. ⌜ now (out .exit) ≡ putComments (commentsAt (now (s .entry)) (c .at) .state) w (now (out .entry)) .buffer ⌝ }
+    ensures { λ r. ⌜ r .next .at ≡ commentsAt (now (s .entry)) (c .at) .at ⌝ }
+{
+    let mut walk = w;
+    let mut next = c;
+    loop {
+        if !moves::begins_comment(s, next.at) {
+            return Reached { walk, next };
+        }
+        let Remark::Stands(from, to, past) = moves::comment_line(next, s) else {
+            return Reached { walk, next };
+        };
+        let start = from.at;
+        let end = to.at;
+        walk = filling::put_comment(out, walk, &s[start..end]);
+        next = past;
+    }
+}
+
+// An entry with the comments from a place on: these first, since its bytes say how many they are.
+pub fn fill_noted(s: &[u8], e: Entry, c: Cursor, w: Walk, out: &mut [u8]) -> Reached
+    ensures { λ r. ⌜ r .walk ≡ putNoted (noted e (commentsAt (now (s .entry)) (c .at) .state)) w (now (out .entry)) .walk ⌝ }
+    ensures { λ r. ⌜ now (out .exit) ≡ putNoted (noted e (commentsAt (now (s .entry)) (c .at) .state)) w (now (out .entry)) .buffer ⌝ }
+    ensures { λ r. ⌜ r .next .at ≡ commentsAt (now (s .entry)) (c .at) .at ⌝ }
+{
+    let comments = fill_comments(s, c, w, out);
+    let v = comments.walk;
+    let next = comments.next;
+    let walk = filling::put_entry(out, v, e, w.noted, v.noted - w.noted);
+    Reached { walk, next }
+}
+
+// The same in short for an entry that has none, as most have.
+fn fill_entry(s: &[u8], e: Entry, c: Cursor, w: Walk, out: &mut [u8]) -> Reached
+    ensures { λ r. ⌜ r .walk ≡ putNoted (noted e (commentsAt (now (s .entry)) (c .at) .state)) w (now (out .entry)) .walk ⌝ }
+    ensures { λ r. ⌜ now (out .exit) ≡ putNoted (noted e (commentsAt (now (s .entry)) (c .at) .state)) w (now (out .entry)) .buffer ⌝ }
+    ensures { λ r. ⌜ r .next .at ≡ commentsAt (now (s .entry)) (c .at) .at ⌝ }
+{
+    if moves::begins_comment(s, c.at) {
+        return fill_noted(s, e, c, w, out);
+    }
+    let walk = filling::put_entry(out, w, e, w.noted, 0);
+    Reached { walk, next: c }
+}
+
+// A line of play from a place on.   (the Rust's moves_with_index)
+pub fn fill_moves(s: &[u8], c: Cursor, w: Walk, out: &mut [u8]) -> Reached
+    ensures { λ r. ⌜ r .walk ≡ putEntries (entriesAt (now (s .entry)) (c .at) .state) w (now (out .entry)) .walk ⌝ }
+    ensures { λ r. ⌜ now (out .exit) ≡ putEntries (entriesAt (now (s .entry)) (c .at) .state) w (now (out .entry)) .buffer ⌝ }
+    ensures { λ r. ⌜ r .next .at ≡ entriesAt (now (s .entry)) (c .at) .at ⌝ }
+{
+    let mut walk = w;
+    let mut next = c;
+    loop {
+        let MoveLine::Numbered(_, e, past) = moves::move_line(next, s) else {
+            return Reached { walk, next };
+        };
+        let entry = fill_entry(s, e, past, walk, out);
+        walk = entry.walk;
+        next = entry.next;
+    }
+}
