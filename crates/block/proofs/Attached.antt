@@ -20,9 +20,10 @@ use Rattle.lists.specs.Pick.{pick}
 use Rattle.lists.specs.Test.{equals, both, each, flag, claim}
 use Rattle.lists.proofs.Laws.{by-pick}
 use Rattle.lists.proofs.Tests.{answers}
-use Rattle.jkf.specs.Attaching.{near, hangOn, hangs, onHang, Hung, all, first, hungFrom, Play, play, playOf, starts, counts, parentIn, attachFrom, attach, allHung}
+use Rattle.jkf.specs.Attaching.{near, hangOn, hangs, onHang, all, first, hungFrom, Play, play, playOf, starts, counts, parentIn, attachFrom, attach, allHung}
 use Rattle.jkf.specs.declared.Hang.{Hang}
 use Rattle.jkf.specs.declared.Hang.the-variants.{On, Nowhere}
+use Rattle.jkf.proofs.Hangings.{not-all}
 use Rattle.jkf.proofs.Nears.{near-none, near-before, hangs-same, Hangs, hangs-says, hangs-on}
 use Rattle.jkf.specs.Model.{Noted, Line}
 use Rattle.block.specs.Encode.{concat, entriesOf}
@@ -33,20 +34,13 @@ use Rattle.block.proofs.Tabling.{concat-sum}
 
 -- ---- what it is that lines hang
 
-not-first : {k s : ℕ} → first k s ≡ all → ⊥
-not-first e = let z : _≡_ {A = ℕ} 0 1 = ap number e in omega arith
-  where
-    number : Hung → ℕ
-    number all = 1
-    number (first k s) = 0
-
 module _ (start count : ℕ → ℕ) where
   -- each of n lines from k on
   pub hung-at : (n k : ℕ) → hungFrom start count k n ≡ all → (j : ℕ) → k ≤ j → j < k + n → Hangs start count j
   unfolding hungFrom
   hung-at zero k h j a b = absurd (omega arith)
   hung-at (suc n) k h j a b =
-      let (here, rest) = hangs-says start count k (λ p e. hungFrom start count (k + 1) n) (first k (start k)) all not-first h in
+      let (here, rest) = hangs-says start count k (λ p e. hungFrom start count (k + 1) n) (first k (start k)) all not-all h in
       go (decLt k j) here (hung-at n (k + 1) rest j)
     where
       go : Dec (k < j) → Hangs start count k → (k + 1 ≤ j → j < k + 1 + n → Hangs start count j) → Hangs start count j

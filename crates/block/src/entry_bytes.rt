@@ -171,38 +171,6 @@ pub fn put_entry(out: &mut [u8], at: usize, e: Entry, first: usize, count: usize
     at + put_front(&mut out[at..], e, first, count)
 }
 
-// The slot, which is zeros but for its comments; put_entry puts the same.
-pub fn put_slot(out: &mut [u8], at: usize, first: usize, count: usize) -> usize
-    ensures { λ r. ⌜ Stored (fitting (entryBytes Entry.Slot first count) (drop at (now (out .entry)))) (now (out .entry)) (now (out .exit)) at r ⌝ }
-{
-    lent::put_at(
-        out,
-        at,
-        &[
-            0,
-            0,
-            0,
-            0,
-            0,
-            0,
-            0,
-            0,
-            0,
-            0,
-            0,
-            0,
-            0,
-            0,
-            0,
-            0,
-            (first % 256) as u8,
-            (first / 256 % 256) as u8,
-            (count % 256) as u8,
-            (count / 256 % 256) as u8,
-        ],
-    )
-}
-
 fn clock_of(hour: bool, h: u8, m: u8, s: u8) -> Clock
     ensures { λ r. ⌜ r ≡ clockOf hour h m s ⌝ }
 {

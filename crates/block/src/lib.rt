@@ -12,7 +12,6 @@ mod views;
 
 pub use entry_bytes::entry_in;
 pub use entry_bytes::put_entry;
-pub use entry_bytes::put_slot;
 pub use looks::comment;
 pub use looks::key;
 pub use looks::line;

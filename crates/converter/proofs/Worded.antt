@@ -1,7 +1,6 @@
 -- Laws of the pieces of a line: room for each, one written after another, and how wide a move or an ending is.
 --     front, behind   the room for the first of two pieces, and for the second once the first is written
 --     then-fits       a second piece, for which there is room
---     arm             a text by the name that it has before the match
 -- Assumes nothing.
 use Prim.Native.Nat.{ℕ, _≤_}
 use native.Mathlib.Omega.{arith}
@@ -13,9 +12,7 @@ use lib.Dec.{eqb, leb}
 use borrow.Author.Tests.{eqb-true, eqb-false}
 use Rattle.lists.specs.Pick.{pick}
 use Rattle.lists.proofs.Laws.{by-pick}
-use Rattle.lent.specs.Bytes.{Wrote, fitting}
 use Rattle.lent.specs.Numbers.{padded}
-use Rattle.lent.proofs.Writes.{as-text, wrote-all}
 use Rattle.spell.specs.Tables.{moveKinds}
 use Rattle.spell.specs.Spell.{spelled}
 use Rattle.jkf.specs.Entries.{specialOf, timeOf}
@@ -65,10 +62,6 @@ unfolding entryLine
 line-room ply e h = four (padded 4 32 ply ++ (32 ∷ [])) (playText e) (timeText (widthOf e) (timeOf e)) (10 ∷ []) h
 
 -- ---- one piece after another
-
--- one piece by such a leaf, by another name
-pub arm : {t t′ o o′ : List ℕ} {n : ℕ} → t ≡ t′ → length t′ ≤ length o → Wrote (fitting t o) o o′ n → Wrote t′ o o′ n
-arm {t} {t′} {o} e h w = wrote-all {t = t′} h (as-text (ap (λ (u : List ℕ). fitting u o) e) w)
 
 -- ---- widths
 

@@ -14,6 +14,8 @@ use Rattle.block.proofs.Tabling.{concat-append, concat-none, concat-more, conca
 use Rattle.filling.specs.Filling.{Grown, header, putAll, putComments, putEntry, putNoted}
 use Rattle.filling.specs.declared.Walk.{Walk}
 use Rattle.filling.proofs.Growing.{Doing, doing-start, doing-step, doing-as, doing-done}
+use Rattle.plays.specs.Plays.{noted}
+use Rattle.plays.proofs.Filled.{noted-done}
 use Rattle.edit.proofs.Rests.{rest, rest-all, rest-none, rest-next}
 
 -- ---- a run
@@ -36,12 +38,13 @@ pub noted-copied : (b : List ℕ) (k : ℕ) (w : Walk) (o : List ℕ) {i n : ℕ
     → v ≡ putComments (run (commentOf b) i n) w o .walk → o₁ ≡ putComments (run (commentOf b) i n) w o .buffer → e ≡ entryIn (drop (movePlace b k) b)
     → r ≡ putEntry e (w .noted) (v .noted - w .noted) v o₁ .walk → o₂ ≡ putEntry e (w .noted) (v .noted - w .noted) v o₁ .buffer
     → (r ≡ putNoted (notedIn b k) w o .walk) × (o₂ ≡ putNoted (notedIn b k) w o .buffer)
-unfolding putNoted
 noted-copied b k w o {i} {n} {e} {v} {r} {o₁} {o₂} p q x y z f g =
     let cs : run (commentOf b) i n ≡ run (commentOf b) (firstComment b k) (commentCount b k) = ap₂ (run (commentOf b)) p q in
     let x₁ : v ≡ putComments (notedIn b k .comments) w o .walk = x ∙ ap (λ (l : List (List ℕ)). putComments l w o .walk) cs in
     let y₁ : o₁ ≡ putComments (notedIn b k .comments) w o .buffer = y ∙ ap (λ (l : List (List ℕ)). putComments l w o .buffer) cs in
-    (f ∙ rw (x₁, y₁, z), g ∙ rw (x₁, y₁, z))
+    let d = noted-done e (notedIn b k .comments) w o {at = 0} x₁ y₁ f g refl in
+    let z₁ : noted e (notedIn b k .comments) ≡ notedIn b k = ap (λ (u : Entry). noted u (notedIn b k .comments)) z in
+    (d .0 ∙ ap (λ (u : Noted). putNoted u w o .walk) z₁, d .1 .0 ∙ ap (λ (u : Noted). putNoted u w o .buffer) z₁)
 
 pub header-copied : (b : List ℕ) (k : ℕ) {key value : List ℕ} → key ≡ keyOf b k → value ≡ valueOf b k → header key value ≡ headerIn b (0 + k)
 header-copied b k {key} {value} p q =

@@ -19,7 +19,7 @@ use Rattle.block.specs.EntryBytes.{entryBytes}
 use Rattle.block.specs.Encode.{table, concat, headerRow, headerText, lineRow, entryRow, commentRow, entriesOf, commentsOf, commentText}
 use Rattle.block.proofs.RowPlaces.{entry-wide}
 use Rattle.filling.specs.declared.Walk.{Walk}
-use Rattle.filling.specs.Filling.{Grown, grown, hasHeader, putHeader, putLine, hasComment, putComment, putEntry, putAll, putHeaders, putComments, putNoted, putEntries}
+use Rattle.filling.specs.Filling.{Grown, grown, hasHeader, putHeader, putLineRow, hasComment, putComment, putEntry, putAll, putHeaders, putComments, putNoted, putEntries}
 use Rattle.filling.specs.Parts.{headerTexts, commentTexts, entryTexts, lineTexts, headerEnds, commentEnds, entryEnds, lineEnds, HeadersFit, CommentsFit, EntriesFit, LineFits, Headed, Commented, Entered, Lined}
 use Rattle.filling.proofs.Texts.{headers-append, comments-append, entries-append, keyed, one-header, texted, one-comment, commented, written}
 
@@ -55,8 +55,8 @@ noted-size e w o =
     let g = putComments (e .comments) w o in
     entry-size (e .what) (w .noted) (g .walk .noted - w .noted) (g .walk) (g .buffer) ∙ all-size putComment comment-size (e .comments) w o
 
-pub line-size : (start first count parent : ℕ) (w : Walk) (o : List ℕ) → length (putLine start first count parent w o .buffer) ≡ length o
-unfolding putLine
+pub line-size : (start first count parent : ℕ) (w : Walk) (o : List ℕ) → length (putLineRow start first count parent w o .buffer) ≡ length o
+unfolding putLineRow
 line-size start first count parent w o =
     by-pick (λ (g : Grown). length (g .buffer) ≡ length o) (leb (w .lines + 8) (length o)) _ (grown w o)
     (λ _. length-put o (w .lines) (bytes16 start ++ bytes16 first ++ bytes16 count ++ bytes16 parent)) (λ _. refl)
@@ -389,14 +389,14 @@ headers-put (h ∷ hs) {w} {o} f =
 abbrev pub line : ℕ → ℕ → List Noted → Line
 line start parent es = record { start = start; parent = parent; entries = es }
 
-module _ (start parent : ℕ) (es : List Noted) where
-  own-entries : entriesOf (line start parent es ∷ []) ≡ es
-  unfolding concat
-  own-entries = append-nil es
+pub own-entries : (x : Line) → entriesOf (x ∷ []) ≡ x .entries
+unfolding concat
+own-entries x = append-nil (x .entries)
 
+module _ (start parent : ℕ) (es : List Noted) where
   line-texts : (k n t : ℕ) → lineTexts k n t (line start parent es ∷ []) ≡ lineRow k (line start parent es) ∷ entryTexts n t es
   unfolding table
-  line-texts k n t = ap₂ _∷_ (append-nil (lineRow k (line start parent es))) (ap (entryTexts n t) own-entries)
+  line-texts k n t = ap₂ _∷_ (append-nil (lineRow k (line start parent es))) (ap (entryTexts n t) (own-entries (line start parent es)))
 
   module _ {w : Walk} {o : List ℕ} (f : LineFits (line start parent es) w o) where
     line-room : Room (length o) (lineEnds w) (lineRow (w .entries) (line start parent es) ∷ entryTexts (w .noted) (w .bytes) es)
@@ -406,8 +406,8 @@ module _ (start parent : ℕ) (es : List Noted) where
     line-fit = record { entries = f .entries; noted = f .noted; bytes = f .bytes; room = line-room .1 }
 
     pub line-put : {v : Walk} {o₁ : List ℕ} {count : ℕ} → Entered es w v o o₁ → count ≡ v .entries - w .entries
-        → Lined (line start parent es ∷ []) w (putLine start (w .entries) count parent v o₁ .walk) o (putLine start (w .entries) count parent v o₁ .buffer)
-    unfolding putLine
+        → Lined (line start parent es ∷ []) w (putLineRow start (w .entries) count parent v o₁ .walk) o (putLineRow start (w .entries) count parent v o₁ .buffer)
+    unfolding putLineRow
     line-put {v} {o₁} {count} d q =
         let n : count ≡ length es = omega (arith, q, d .entries) in
         let row = lineRow (w .entries) (line start parent es) in
@@ -418,7 +418,7 @@ module _ (start parent : ℕ) (es : List Noted) where
         rw (le-leb (v .lines + 8) (length o₁) (omega (arith, k)), n)
         (record {
           filled = as-texts (sym (line-texts (w .entries) (w .noted) (w .bytes))) (then-fill line-room g (filled-first (entryEnds v) s));
-          entries = omega (arith, d .entries, ap length own-entries);
-          noted = omega (arith, d .noted, ap (λ (l : List Noted). length (commentsOf l)) own-entries);
-          bytes = omega (arith, d .bytes, ap (λ (l : List Noted). length (commentText (commentsOf l))) own-entries);
+          entries = omega (arith, d .entries, ap length (own-entries (line start parent es)));
+          noted = omega (arith, d .noted, ap (λ (l : List Noted). length (commentsOf l)) (own-entries (line start parent es)));
+          bytes = omega (arith, d .bytes, ap (λ (l : List Noted). length (commentText (commentsOf l))) (own-entries (line start parent es)));
         })

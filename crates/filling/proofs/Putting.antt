@@ -3,16 +3,19 @@
 use Prim.Native.Nat.{ℕ, _+_, _-_, _≤_, _<_}
 use native.Mathlib.Omega.{arith}
 use mathlib.Core.Path.{_≡_, refl, sym, ap, ap₂, _∙_}
-use mathlib.Core.List.{List, _++_}
+use mathlib.Core.List.{List, _++_, append-nil}
 use mathlib.Core.Bool.{Bool, true, false}
-use lib.ListN.{length, drop}
+use lib.ListN.{length, take, drop, length-drop, drop-of-length-le}
+use lib.Seq.{length-take-le, drop-drop}
 use lib.Dec.{eqb, leb, ltb}
 use borrow.Author.Tests.{leb-true, leb-false, le-leb, lt-leb, lt-ltb, le-ltb, ltb-true, ltb-false}
 use Rattle.lists.specs.Pick.{pick}
 use Rattle.lists.proofs.Laws.{pick-both}
-use Rattle.lent.specs.Bytes.{bytes16, fitting}
+use borrow.Rule.Slice.PartMut.{midOf, putMid}
+use Rattle.lent.specs.Bytes.{Wrote, bytes16, fitting}
 use Rattle.lent.specs.Regions.{Stored, put}
-use Rattle.lent.proofs.Regions.{length-put, put-more, stored-all}
+use Rattle.lent.proofs.Writes.{wrote-all}
+use Rattle.lent.proofs.Regions.{length-put, put-eq, put-more, stored-all}
 use Rattle.jkf.specs.Answers.{Outcome}
 use Rattle.jkf.specs.declared.Answer.{Answer}
 use Rattle.jkf.specs.declared.Answer.the-variants.{BlockTooLong, BufferShort}
@@ -27,7 +30,7 @@ use Rattle.filling.specs.declared.Sizes.{Sizes}
 use Rattle.filling.specs.declared.Walk.{Walk}
 use Rattle.filling.specs.declared.Opening.{Opening}
 use Rattle.filling.specs.declared.Opening.the-variants.{Begun, Refused}
-use Rattle.filling.specs.Filling.{unlessRefused, onOpening, areSmall, lengthOf, begun, opening, headFor, frontPut, opened, header, hasHeader, putHeader, putLine, hasComment, putComment, putEntry}
+use Rattle.filling.specs.Filling.{unlessRefused, onOpening, areSmall, lengthOf, begun, opening, headFor, frontPut, opened, header, hasHeader, putHeader, putLineRow, hasComment, putComment, putEntry}
 
 -- ---- whether something has room
 
@@ -170,6 +173,16 @@ module _ (version : ℕ) (z : Sizes) (p : Position) (o : List ℕ) where
 pub unrefused : (n : ℕ) (o : List ℕ) (r : Outcome) → n ≤ 65535 → n ≤ length o → unlessRefused n o r ≡ r
 unrefused n o r h k = rw (le-ltb 65535 n h, le-ltb (length o) n k)
 
+-- ---- a text in a part that is just as long
+
+pub part-put : (t o : List ℕ) (p n : ℕ) {y : List ℕ} {m : ℕ} → n ≡ length t → p + n ≤ length o → Wrote (fitting t (midOf p n o)) (midOf p n o) y m
+    → putMid p n o y ≡ put o p t
+part-put t o p n {y} {m} e h w =
+    let l : length (midOf p n o) ≡ n = length-take-le n (drop p o) (simp length-drop (omega arith)) in
+    let v = wrote-all {t = t} (omega (arith, l, e)) w in
+    let z : y ≡ t = v .bytes ∙ ap (λ (u : List ℕ). t ++ u) (drop-of-length-le (midOf p n o) {i = m} (omega (arith, l, e, v .count))) ∙ append-nil t in
+    rw z (ap (λ (u : List ℕ). take p o ++ (t ++ u)) (drop-drop n p o ∙ ap (λ (k : ℕ). drop (p + k) o) e) ∙ sym (put-eq o p t (omega (arith, e, h))))
+
 -- ---- a comment
 
 pub record CommentRoom (n : ℕ) (w : Walk) (room : ℕ) : Type 0 where
@@ -191,28 +204,27 @@ module _ (c : List ℕ) (w : Walk) (o : List ℕ) where
   unfolding putComment
   comment-none e = rw e (refl, refl)
 
-  pub comment-done : {o₁ o₂ : List ℕ} {p q : ℕ} → hasComment (length c) w (length o) ≡ true
+  pub comment-done : {o₁ y : List ℕ} {p n m : ℕ} → hasComment (length c) w (length o) ≡ true
       → Stored (fitting (bytes16 (w .bytes) ++ bytes16 (length c)) (drop (w .comments) o)) o o₁ (w .comments) p
-      → Stored (fitting c (drop (w .text) o₁)) o₁ o₂ (w .text) q
+      → Wrote (fitting c (midOf (w .text) n o₁)) (midOf (w .text) n o₁) y m → n ≡ length c
       → (_≡_ {A = Walk}
       (record {
         headers = w .headers;
         lines = w .lines;
         moves = w .moves;
         comments = p;
-        text = q;
+        text = w .text + length c;
         entries = w .entries;
         noted = w .noted + 1;
         bytes = w .bytes + length c;
       })
-      (putComment c w o .walk)) × (o₂ ≡ putComment c w o .buffer)
+      (putComment c w o .walk)) × (putMid (w .text) n o₁ y ≡ putComment c w o .buffer)
   unfolding putComment
-  comment-done {o₁} {o₂} {p} {q} e x y =
+  comment-done {o₁} {y} {p} {n} {m} e x z q =
       let k = comment-room (length c) w (length o) e in
       let x₁ = stored-all {t = commentRow (w .bytes) c} (k .row) x in
       let l : length o₁ ≡ length o = ap length (x₁ .bytes) ∙ length-put o (w .comments) (commentRow (w .bytes) c) in
-      let y₁ = stored-all {t = c} (omega (arith, k .text, l)) y in
-      rw (e, x₁ .end, y₁ .end) (refl, y₁ .bytes ∙ ap (λ (u : List ℕ). put u (w .text) c) (x₁ .bytes))
+      rw (e, x₁ .end) (refl, part-put c o₁ (w .text) n q (omega (arith, k .text, l, q)) z ∙ ap (λ (u : List ℕ). put u (w .text) c) (x₁ .bytes))
 
 -- ---- an entry
 
@@ -255,8 +267,8 @@ module _ (e : Entry) (first count : ℕ) (w : Walk) (o : List ℕ) where
 
 module _ (start first count parent : ℕ) (w : Walk) (o : List ℕ) where
   pub line-none : leb (w .lines + 8) (length o) ≡ false
-      → (w ≡ putLine start first count parent w o .walk) × (o ≡ putLine start first count parent w o .buffer)
-  unfolding putLine
+      → (w ≡ putLineRow start first count parent w o .walk) × (o ≡ putLineRow start first count parent w o .buffer)
+  unfolding putLineRow
   line-none n = rw n (refl, refl)
 
   pub line-done : {o₁ : List ℕ} {p : ℕ} → leb (w .lines + 8) (length o) ≡ true
@@ -272,8 +284,8 @@ module _ (start first count parent : ℕ) (w : Walk) (o : List ℕ) where
         noted = w .noted;
         bytes = w .bytes;
       })
-      (putLine start first count parent w o .walk)) × (o₁ ≡ putLine start first count parent w o .buffer)
-  unfolding putLine
+      (putLineRow start first count parent w o .walk)) × (o₁ ≡ putLineRow start first count parent w o .buffer)
+  unfolding putLineRow
   line-done {o₁} {p} a x =
       let x₁ = stored-all {t = bytes16 start ++ bytes16 first ++ bytes16 count ++ bytes16 parent} (leb-true (w .lines + 8) (length o) a) x in
       rw (a, x₁ .end) (refl, x₁ .bytes)

@@ -24,10 +24,13 @@ use Rattle.filling.specs.declared.Opening.the-variants.{Begun, Refused}
 
 -- ---- the answer
 
--- A block of n bytes that is too long or does not fit the buffer is refused; else the answer is another.  (01, Numbers of refusal: 4, 5)
+-- A block of n bytes that is too long, or longer than the buffer, is refused; else what comes of it.    (01, Numbers of refusal: 4, 5)
+abbrev pub ifFits : {A : Type 0} → ℕ → ℕ → (Answer → A) → A → A
+ifFits n room f r = pick (ltb 65535 n) (f (BlockTooLong n)) (pick (ltb room n) (f (BufferShort n)) r)
+
+-- A refusal leaves the buffer as it was.
 abbrev pub unlessRefused : ℕ → List ℕ → Outcome → Outcome
-unlessRefused n o r =
-    pick (ltb 65535 n) (refuse (BlockTooLong n) o) (pick (ltb (length o) n) (refuse (BufferShort n) o) r)
+unlessRefused n o r = ifFits n (length o) (λ a. refuse a o) r
 
 -- A block at the front of the buffer, of which nothing else changes.                              (01, Numbers of refusal: success)
 abbrev pub atFront : List ℕ → List ℕ → List ℕ
@@ -81,12 +84,9 @@ begun z =
       bytes = 0;
     }
 
--- Refusal 4, refusal 5, or a beginning.
+-- A refusal or a beginning.
 unfoldable pub opening : Sizes → ℕ → Opening
-opening z room =
-    pick (ltb 65535 (lengthOf z))
-    (Refused (BlockTooLong (lengthOf z)))
-    (pick (ltb room (lengthOf z)) (Refused (BufferShort (lengthOf z))) (Begun (begun z) (lengthOf z)))
+opening z room = ifFits (lengthOf z) room Refused (Begun (begun z) (lengthOf z))
 
 -- The head, and the position behind it.
 abbrev pub headFor : ℕ → Sizes → List ℕ
@@ -96,10 +96,9 @@ unfoldable pub frontPut : ℕ → Sizes → Position → List ℕ → List ℕ
 frontPut version z p o =
     let q = put o 0 (headFor version z) in put q 28 (fitting (positionBytes p) (drop 28 q))
 
--- A refusal changes nothing.
+-- The buffer that has the front, or is as it was.
 unfoldable pub opened : ℕ → Sizes → Position → List ℕ → List ℕ
-opened version z p o =
-    pick (ltb 65535 (lengthOf z)) o (pick (ltb (length o) (lengthOf z)) o (frontPut version z p o))
+opened version z p o = ifFits (lengthOf z) (length o) (λ a. o) (frontPut version z p o)
 
 -- ---- one part more
 
@@ -146,8 +145,8 @@ putHeader h w o =
     (grown w o)
 
 -- A line's row at the end of the line rows.                                                         (01, The block: line)
-unfoldable pub putLine : ℕ → ℕ → ℕ → ℕ → Walk → List ℕ → Grown
-putLine start first count parent w o =
+unfoldable pub putLineRow : ℕ → ℕ → ℕ → ℕ → Walk → List ℕ → Grown
+putLineRow start first count parent w o =
     pick (leb (w .lines + 8) (length o))
     (grown
     (record {

@@ -1,6 +1,6 @@
 // Reading move lines, comments and skip lines.   (the Rust's src/parser/kif.rs)
 mod clocks;
-mod plays;
+mod played;
 mod remarks;
 
 use clocks::time;
@@ -10,7 +10,7 @@ use jkf::Move;
 use jkf::Origin;
 use jkf::Target;
 use jkf::Time;
-use plays::what;
+use played::what;
 pub use remarks::begins_comment;
 pub use remarks::comment_line;
 pub use remarks::skip_line;
@@ -125,7 +125,7 @@ fn usual_line(ply: u64, at: usize, width: usize, t: usize, s: &[u8]) -> MoveLine
         return MoveLine::NoLine;
     };
     let taken = clocks::usual(s, t).time;
-    MoveLine::Numbered(ply, plays::usual(s, at, width, color(ply), taken), end)
+    MoveLine::Numbered(ply, played::usual(s, at, width, color(ply), taken), end)
 }
 
 // A move line.   (the Rust's move_line)
@@ -137,7 +137,7 @@ pub fn move_line(c: Cursor, s: &[u8]) -> MoveLine
     };
     let from = numbered.blanks(s);
     let at = from.at;
-    let width = plays::usual_width(s, at);
+    let width = played::usual_width(s, at);
     if 0 < width {
         let t = Cursor { at: at + width }.blanks(s).at;
         if clocks::is_usual(s, t) {
@@ -156,7 +156,7 @@ pub fn move_line_end(c: Cursor, s: &[u8]) -> Place
     };
     let from = numbered.blanks(s);
     let at = from.at;
-    let width = plays::usual_width(s, at);
+    let width = played::usual_width(s, at);
     if 0 < width {
         return Cursor { at: at + width }.line_end(s);
     }

@@ -4,10 +4,7 @@ use Prim.Native.Nat.{ℕ, suc, _+_, _-_, _*_, _≤_, _<_}
 use native.Mathlib.Omega.{arith}
 use mathlib.Core.Path.{_≡_, refl, sym, ap, ap₂, _∙_, subst}
 use mathlib.Core.List.{List, [], _∷_, _++_, append-nil}
-use lib.Dec.{leb, ltb}
 use native.Mathlib.Decide.{decLt}
-use Rattle.lists.specs.Pick.{pick}
-use Rattle.lists.proofs.Laws.{by-pick}
 use lib.ListN.{length, take, drop, getD, length-drop, take-append-drop, List·getD-append, length-append}
 use lib.Seq.{getD-take, getD-drop, take-suc, length-take-le, drop-drop, take-all}
 use Rattle.lists.specs.Repeat.{Ended}
@@ -27,12 +24,12 @@ use Rattle.block.specs.Encode.{table, concat, lineRow, lineStep, entriesOf, com
 use Rattle.block.proofs.Tabling.{table-length, concat-append}
 use Rattle.block.proofs.RowPlaces.{line-wide}
 use Rattle.block.proofs.LineTables.{start-back, count-back, parent-back}
-use Rattle.block.proofs.Attached.{all-hang, start-bound, attach-length, attach-entries, attach-line, parent-later}
-use Rattle.filling.specs.Filling.{putEntries, putLine}
+use Rattle.block.proofs.Attached.{all-hang, start-bound, attach-length, attach-entries, attach-line, parent-first, parent-later}
+use Rattle.filling.specs.Filling.{putEntries, putLineRow}
 use Rattle.filling.specs.Parts.{entryTexts, lineTexts, entryEnds, lineEnds, EntriesFit, Entered, LinesFit, LineFits, Lined}
 use Rattle.filling.specs.declared.Walk.{Walk}
 use Rattle.filling.proofs.Texts.{lines-append, entries-both, comments-both, bytes-both}
-use Rattle.filling.proofs.Growing.{line, line-fit, line-put}
+use Rattle.filling.proofs.Growing.{line, own-entries, line-fit, line-put}
 use Rattle.plays.specs.Plays.{noted, entriesAt, plyAt, skippedAt, skipsAt, variationsAt, slotAt, pastMain, mainAt, playsAt}
 use Rattle.plays.specs.declared.Reached.{Reached}
 use Rattle.parser.specs.Lines.{mainLine}
@@ -130,14 +127,6 @@ parent-of : (ps : List Play) (k p e : ℕ) → hangs (starts ps) (counts ps) (st
 unfolding parentIn
 parent-of ps k p e h = ap (λ (g : Hang). onHang g (λ p e. p) 0) h
 
--- line 0 hangs on nothing
-first-parent : (ps : List Play) → parentIn ps 0 ≡ 0
-unfolding parentIn hangs near
-first-parent ps =
-    let st = starts ps 0 in
-    by-pick (λ (r : Hang). onHang r (λ p e. p) 0 ≡ 0) (leb st st) (pick (ltb (st - st) (counts ps 0)) (On 0 (st - st)) Nowhere) Nowhere
-    (λ _. by-pick (λ (r : Hang). onHang r (λ p e. p) 0 ≡ 0) (ltb (st - st) (counts ps 0)) (On 0 (st - st)) Nowhere (λ _. refl) (λ _. refl)) (λ _. refl)
-
 -- where no entry is left there is room for none
 no-entries : (v : Walk) (o : List ℕ) → Room (length o) (lineEnds v) (lineTexts (v .entries) (v .noted) (v .bytes) []) → v .entries < 18446744073709551616
     → v .noted < 18446744073709551616 → v .bytes < 18446744073709551616 → EntriesFit [] v o
@@ -183,10 +172,6 @@ module _ (s : List ℕ) (at : ℕ) (w : Walk) (o₀ : List ℕ) (f : LinesFit (a
         omega (arith, f .bytes, ap (λ (l : List Line). length (commentText (commentsOf (entriesOf l)))) e, bytes-both (take k ls) (drop k ls)),
       )
 
-  own-entries : (x : Line) → entriesOf (x ∷ []) ≡ x .entries
-  unfolding concat
-  own-entries x = append-nil (x .entries)
-
   -- line k has its room
   room-for : (k : ℕ) {v : Walk} {o : List ℕ} → k < length ps → Lined (take k ls) w v o₀ o → LineFits (lineAt ps k) v o
   room-for k {v} {o} h d =
@@ -208,7 +193,7 @@ module _ (s : List ℕ) (at : ℕ) (w : Walk) (o₀ : List ℕ) (f : LinesFit (a
 
   main-is : lineAt ps 0 ≡ mainLine s at
   unfolding playsAt
-  main-is = ap (λ (p : ℕ). line (starts ps 0) p (playOf ps 0 .entries)) (first-parent ps) ∙ ap (λ (n : ℕ). line n 0 (mainAt s at .entries)) started
+  main-is = ap (λ (p : ℕ). line (starts ps 0) p (playOf ps 0 .entries)) (parent-first ps) ∙ ap (λ (n : ℕ). line n 0 (mainAt s at .entries)) started
     where
       started : mainAt s at .start ≡ 0
       started = unfold mainAt in refl
@@ -435,20 +420,20 @@ module _ (s : List ℕ) (at : ℕ) (w : Walk) (o₀ : List ℕ) (f : LinesFit (a
               ∙ ap (λ (j : ℕ). first j (starts ps j)) b ∙ ap (first k) start-is
 
           -- it hangs, and its row is filled in
-          module _ (parent e : ℕ) (on : h ≡ On parent e) {u : Walk} {o₂ : List ℕ} (row : u ≡ putLine start (v .entries) (x .walk .entries - v .entries) parent (x .walk) o₁ .walk)
-              (rest-of : o₂ ≡ putLine start (v .entries) (x .walk .entries - v .entries) parent (x .walk) o₁ .buffer) where
+          module _ (parent e : ℕ) (on : h ≡ On parent e) {u : Walk} {o₂ : List ℕ} (row : u ≡ putLineRow start (v .entries) (x .walk .entries - v .entries) parent (x .walk) o₁ .walk)
+              (rest-of : o₂ ≡ putLineRow start (v .entries) (x .walk .entries - v .entries) parent (x .walk) o₁ .buffer) where
             hang : hangs (starts ps) (counts ps) (starts ps k) k ≡ On parent e
             hang = hang-is h start z y ∙ on
 
             one-more : Lined (lineAt ps k ∷ []) v u o o₂
             one-more =
                 let l = line (plyAt s place) (parentIn ps k) es in
-                let g : (m n : ℕ) → Type 0 = λ m n. Lined (l ∷ []) v (putLine m (v .entries) (x .walk .entries - v .entries) n (x .walk) o₁ .walk) o (putLine m (v .entries) (x .walk .entries - v .entries) n (x .walk) o₁ .buffer) in
+                let g : (m n : ℕ) → Type 0 = λ m n. Lined (l ∷ []) v (putLineRow m (v .entries) (x .walk .entries - v .entries) n (x .walk) o₁ .walk) o (putLineRow m (v .entries) (x .walk .entries - v .entries) n (x .walk) o₁ .buffer) in
                 let put₁ : g (plyAt s place) (parentIn ps k) = line-put (plyAt s place) (parentIn ps k) es (line-fits some-here) entered refl in
                 let put₂ : g start parent =
                 subst (λ (n : ℕ). g start n) (parent-of ps k parent e hang) (subst (λ (m : ℕ). g m (parentIn ps k)) (sym (z ∙ ap (plyAt s) p)) put₁) in
                 subst (λ (m : Line). Lined (m ∷ []) v u o o₂) (sym (line-here some-here))
-                (subst (λ (r : Walk). Lined (l ∷ []) v r o o₂) (sym row) (subst (λ (r : List ℕ). Lined (l ∷ []) v (putLine start (v .entries) (x .walk .entries - v .entries) parent (x .walk) o₁ .walk) o r) (sym rest-of) put₂))
+                (subst (λ (r : Walk). Lined (l ∷ []) v r o o₂) (sym row) (subst (λ (r : List ℕ). Lined (l ∷ []) v (putLineRow start (v .entries) (x .walk .entries - v .entries) parent (x .walk) o₁ .walk) o r) (sym rest-of) put₂))
 
             pub next-more : (q₂ : Cursor) → q₂ .at ≡ skippedAt s (x .next .at) → Lining s at (k + 1) w u (q₂ .at) o₀ o₂
             next-more q₂ n =

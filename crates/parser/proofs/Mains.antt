@@ -11,7 +11,7 @@ use Rattle.lists.specs.Pick.{pick}
 use Rattle.text.specs.declared.Cursor.{Cursor}
 use Rattle.jkf.specs.declared.Entry.the-variants.{Slot}
 use Rattle.jkf.specs.Model.{Noted}
-use Rattle.filling.specs.Filling.{putNoted, putEntries, putLine}
+use Rattle.filling.specs.Filling.{putNoted, putEntries, putLineRow}
 use Rattle.filling.specs.Parts.{EntriesFit, Entered, LineFits, Lined}
 use Rattle.filling.specs.declared.Walk.{Walk}
 use Rattle.filling.proofs.Growing.{noted-put, entries-front, entries-rest, entries-then, entries-put, line-fit, line-put}
@@ -71,11 +71,11 @@ module _ (s : List ℕ) (at : ℕ) (w : Walk) (o : List ℕ) (f : LineFits (main
               let no = eqb-false (x .walk .entries) (u .walk .entries) z in
               ap (skippedAt s) (i ∙ ap (λ (k : ℕ). entriesAt s k .at) past-slot) ∙ sym (main-is s place (λ q. no (omega (arith, entered .entries, q))))
 
-      pub main-lined : {r : Walk} {o₃ : List ℕ} → r ≡ putLine 0 (w .entries) (x .walk .entries - w .entries) 0 (x .walk) o₂ .walk
-          → o₃ ≡ putLine 0 (w .entries) (x .walk .entries - w .entries) 0 (x .walk) o₂ .buffer → Lined (mainLine s at ∷ []) w r o o₃
+      pub main-lined : {r : Walk} {o₃ : List ℕ} → r ≡ putLineRow 0 (w .entries) (x .walk .entries - w .entries) 0 (x .walk) o₂ .walk
+          → o₃ ≡ putLineRow 0 (w .entries) (x .walk .entries - w .entries) 0 (x .walk) o₂ .buffer → Lined (mainLine s at ∷ []) w r o o₃
       unfolding mainAt
       main-lined {r} {o₃} y z =
           let count = x .walk .entries - w .entries in
           subst (λ (v : Walk). Lined (mainLine s at ∷ []) w v o o₃) (sym y)
-          (subst (λ (l : List ℕ). Lined (mainLine s at ∷ []) w (putLine 0 (w .entries) count 0 (x .walk) o₂ .walk) o l) (sym z)
+          (subst (λ (l : List ℕ). Lined (mainLine s at ∷ []) w (putLineRow 0 (w .entries) count 0 (x .walk) o₂ .walk) o l) (sym z)
           (line-put 0 0 (mainAt s at .entries) f both refl))

@@ -12,7 +12,7 @@ use Rattle.jkf.specs.declared.Entry.the-variants.{Slot}
 use Rattle.jkf.specs.Model.{Noted}
 use Rattle.jkf.specs.Attaching.{Play, play}
 use Rattle.block.specs.Encode.{concat, commentsOf, commentText}
-use Rattle.block.proofs.Tabling.{concat-append}
+use Rattle.filling.proofs.Texts.{commented, written}
 use Rattle.plays.specs.Plays.{noted, entriesAt, plyAt, skippedAt, skipsAt, variationsAt, slotAt, pastMain, mainAt, playsAt}
 use Rattle.plays.specs.Counted.{remarksAt, extentAt}
 use Rattle.parser.specs.Lines.{mainExtents, extentsAt}
@@ -25,15 +25,6 @@ use Rattle.plays.proofs.Weights.{comments-short}
 use Rattle.parser.proofs.Variations.{variations-more, variations-none, variations-short, variations-few, variations-within, main-short, line-there, line-within}
 
 -- comments of entries, and their bytes, one run after another
-pub commented : (xs ys : List Noted) → length (commentsOf (xs ++ ys)) ≡ length (commentsOf xs) + length (commentsOf ys)
-commented xs ys = ap length (concat-append (λ e. e .comments) xs ys) ∙ length-append (commentsOf xs) (commentsOf ys)
-
-pub written : (xs ys : List Noted)
-    → length (commentText (commentsOf (xs ++ ys))) ≡ length (commentText (commentsOf xs)) + length (commentText (commentsOf ys))
-written xs ys =
-    ap (λ (cs : List (List ℕ)). length (commentText cs)) (concat-append (λ e. e .comments) xs ys)
-    ∙ ap length (concat-append (λ c. c) (commentsOf xs) (commentsOf ys)) ∙ length-append (commentText (commentsOf xs)) (commentText (commentsOf ys))
-
 -- ---- the main line
 
 module _ (s : List ℕ) (at : ℕ) where

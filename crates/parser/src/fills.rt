@@ -1,7 +1,6 @@
 // All lines of play of a text, filled in, each variation hung where the attaching rule says.   (the Rust's merge_forks)
 use crate::Hanging;
 use filling::Walk;
-use jkf::Entry;
 use jkf::Hang;
 use plays::Reached;
 use text::Cursor;
@@ -33,7 +32,7 @@ fn fill_main(s: &[u8], c: Cursor, w: Walk, out: &mut [u8]) -> Reached
     ensures { λ r. ⌜ Lined (mainLine (now (s .entry)) (c .at) ∷ []) w (r .walk) (now (out .entry)) (now (out .exit)) ⌝ }
     ensures { λ r. ⌜ r .next .at ≡ pastMain (now (s .entry)) (slotAt (now (s .entry)) (c .at) .at) ⌝ }
 {
-    let slot = plays::fill_noted(s, Entry::Slot, plays::skipped(c, s), w, out);
+    let slot = plays::fill_slot(s, plays::skipped(c, s), w, out);
     let line = plays::fill_moves(s, slot.next, slot.walk, out);
     let v = line.walk;
     let walk = filling::put_line(out, v, 0, w.entries, v.entries - w.entries, 0);

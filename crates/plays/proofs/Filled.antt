@@ -1,7 +1,6 @@
 -- Comments and entries of a text are filled in one by one: what is still to do from here comes to what was to do at first.
 -- Assumes nothing.
 use Prim.Native.Nat.{ℕ, _-_}
-use native.Mathlib.Omega.{arith}
 use mathlib.Core.Path.{_≡_, refl, sym, ap, _∙_}
 use mathlib.Core.List.{List, _∷_}
 use Rattle.lists.specs.Repeat.{Ended}
@@ -74,16 +73,6 @@ module _ {s : List ℕ} {at₀ at : ℕ} {w₀ w : Walk} {o₀ o : List ℕ} (i 
       (d .0, (d .1, sym (ap (λ (x : Ended (List Noted)). x .at) n) ∙ i .end))
 
 -- ---- one entry with its comments
-
--- with none
-pub plain-done : (s : List ℕ) (e : Entry) (at : ℕ) (w : Walk) (o : List ℕ) {r : Walk} {o₁ : List ℕ} → commentLineAt s at ≡ NoRemark
-    → r ≡ putEntry e (w .noted) 0 w o .walk → o₁ ≡ putEntry e (w .noted) 0 w o .buffer
-    → (r ≡ putNoted (noted e (commentsAt s at .state)) w o .walk) × ((o₁ ≡ putNoted (noted e (commentsAt s at .state)) w o .buffer) × (at ≡ commentsAt s at .at))
-unfolding putNoted putAll
-plain-done s e at w o q p r =
-    let n = comments-none s at q in
-    let z : w .noted - w .noted ≡ 0 = omega arith in
-    rw (ap (λ (x : Ended (List (List ℕ))). x .state) n, ap (λ (x : Ended (List (List ℕ))). x .at) n, z) (p, (r, refl))
 
 pub noted-done : (e : Entry) (cs : List (List ℕ)) (w : Walk) (o : List ℕ) {v r : Walk} {o₁ o₂ : List ℕ} {at end : ℕ} → v ≡ putComments cs w o .walk → o₁ ≡ putComments cs w o .buffer
     → r ≡ putEntry e (w .noted) (v .noted - w .noted) v o₁ .walk → o₂ ≡ putEntry e (w .noted) (v .noted - w .noted) v o₁ .buffer

@@ -32,7 +32,7 @@ fn fill_comments(s: &[u8], c: Cursor, w: Walk, out: &mut [u8]) -> Reached
 }
 
 // An entry with the comments from a place on: these first, since its bytes say how many they are.
-pub fn fill_noted(s: &[u8], e: Entry, c: Cursor, w: Walk, out: &mut [u8]) -> Reached
+fn fill_noted(s: &[u8], e: Entry, c: Cursor, w: Walk, out: &mut [u8]) -> Reached
     ensures { λ r. ⌜ r .walk ≡ putNoted (noted e (commentsAt (now (s .entry)) (c .at) .state)) w (now (out .entry)) .walk ⌝ }
     ensures { λ r. ⌜ now (out .exit) ≡ putNoted (noted e (commentsAt (now (s .entry)) (c .at) .state)) w (now (out .entry)) .buffer ⌝ }
     ensures { λ r. ⌜ r .next .at ≡ commentsAt (now (s .entry)) (c .at) .at ⌝ }
@@ -44,17 +44,17 @@ pub fn fill_noted(s: &[u8], e: Entry, c: Cursor, w: Walk, out: &mut [u8]) -> Rea
     Reached { walk, next }
 }
 
-// The same in short for an entry that has none, as most have.
-fn fill_entry(s: &[u8], e: Entry, c: Cursor, w: Walk, out: &mut [u8]) -> Reached
-    ensures { λ r. ⌜ r .walk ≡ putNoted (noted e (commentsAt (now (s .entry)) (c .at) .state)) w (now (out .entry)) .walk ⌝ }
-    ensures { λ r. ⌜ now (out .exit) ≡ putNoted (noted e (commentsAt (now (s .entry)) (c .at) .state)) w (now (out .entry)) .buffer ⌝ }
+// The slot with its comments; apart from fill_noted, which so has one caller and is compiled into its loop.
+pub fn fill_slot(s: &[u8], c: Cursor, w: Walk, out: &mut [u8]) -> Reached
+    ensures { λ r. ⌜ r .walk ≡ putNoted (noted Entry.Slot (commentsAt (now (s .entry)) (c .at) .state)) w (now (out .entry)) .walk ⌝ }
+    ensures { λ r. ⌜ now (out .exit) ≡ putNoted (noted Entry.Slot (commentsAt (now (s .entry)) (c .at) .state)) w (now (out .entry)) .buffer ⌝ }
     ensures { λ r. ⌜ r .next .at ≡ commentsAt (now (s .entry)) (c .at) .at ⌝ }
 {
-    if moves::begins_comment(s, c.at) {
-        return fill_noted(s, e, c, w, out);
-    }
-    let walk = filling::put_entry(out, w, e, w.noted, 0);
-    Reached { walk, next: c }
+    let comments = fill_comments(s, c, w, out);
+    let v = comments.walk;
+    let next = comments.next;
+    let walk = filling::put_entry(out, v, Entry::Slot, w.noted, v.noted - w.noted);
+    Reached { walk, next }
 }
 
 // A line of play from a place on.   (the Rust's moves_with_index)
@@ -69,7 +69,7 @@ pub fn fill_moves(s: &[u8], c: Cursor, w: Walk, out: &mut [u8]) -> Reached
         let MoveLine::Numbered(_, e, past) = moves::move_line(next, s) else {
             return Reached { walk, next };
         };
-        let entry = fill_entry(s, e, past, walk, out);
+        let entry = fill_noted(s, e, past, walk, out);
         walk = entry.walk;
         next = entry.next;
     }

@@ -9,7 +9,7 @@ pub use counts::skipped;
 pub use counts::skips;
 use filling::Walk;
 pub use fills::fill_moves;
-pub use fills::fill_noted;
+pub use fills::fill_slot;
 use text::Cursor;
 
 // Comments: how many, how many bytes they have, and the place past them.

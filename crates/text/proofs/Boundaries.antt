@@ -245,7 +245,7 @@ boundary-of {s} {at} w h = go (decLt at (length s))
 
 -- ---- a part
 
-no-character : (s : List ℕ) (at : ℕ) → length s ≤ at → charWidth s at ≡ 0
+pub no-character : (s : List ℕ) (at : ℕ) → length s ≤ at → charWidth s at ≡ 0
 unfolding charWidth
 no-character s at h = rw (le-ltb at (length s) h)
 

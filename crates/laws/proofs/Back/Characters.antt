@@ -8,12 +8,13 @@ use mathlib.Core.Bool.{Bool, true, false, false≢true}
 use lib.ListN.{length, getD}
 use lib.Seq.{getD-drop}
 use lib.Dec.{eqb, ltb}
-use borrow.Author.Tests.{lt-ltb, le-ltb, ltb-true, ltb-false, eqb-true, eqb-false}
+use borrow.Author.Tests.{lt-ltb, ltb-true, ltb-false, eqb-true, eqb-false}
 use Rattle.lists.specs.All.{All, none, next}
 use Rattle.lists.specs.Pick.{pick}
 use Rattle.lists.proofs.Laws.{by-pick, pick-both, pick-none}
 use Rattle.lists.proofs.Stand.{Stands, stands-past, byte-0, byte-1}
 use Rattle.text.specs.Text.{pastAll}
+use Rattle.text.proofs.Boundaries.{no-character}
 use Rattle.text.specs.Utf8.{sizeOf, lowestOf, highestOf, secondOf, isNext, charWidth, wellFormed}
 use Rattle.text.proofs.Widths.{past-stop, past-more, char-within}
 use Rattle.spell.specs.Tables.{Spelling}
@@ -52,16 +53,12 @@ width-is : {s : List ℕ} {at a : ℕ} (l : List ℕ) → Stands s at (a ∷ l) 
 unfolding charWidth
 width-is l st = rw (lt-ltb _ _ (in-text st), byte-0 st, byte-1 st, byte-2 st, byte-3 st)
 
-no-width : (s : List ℕ) (at : ℕ) → length s ≤ at → charWidth s at ≡ 0
-unfolding charWidth
-no-width s at h = rw (le-ltb at (length s) h)
-
 -- past one character
 on : {s : List ℕ} {at : ℕ} (t l : List ℕ) → 0 < length t → Stands s at (t ++ l) → charWidth s at ≡ length t → pastAll charWidth s (at + length t) ≡ length s → pastAll charWidth s at ≡ length s
 on {s} {at} t l n st w h = past-more charWidth s at char-within (λ z. omega arith) ∙ ap (λ (k : ℕ). pastAll charWidth s (at + k)) w ∙ h
 
 chars-past : {t : List ℕ} → Chars t → {s : List ℕ} {at : ℕ} → Stands s at t → pastAll charWidth s at ≡ length s
-chars-past empty {s} {at} st = past-stop charWidth s at (no-width s at (omega (arith, at-end st))) ∙ at-end st
+chars-past empty {s} {at} st = past-stop charWidth s at (no-character s at (omega (arith, at-end st))) ∙ at-end st
 chars-past (one {a} {t} p h) {s} {at} st = on (a ∷ []) t (omega arith) st (width-is t st ∙ rw p) (chars-past h (stands-past (a ∷ []) t s at st))
 chars-past (two {a} {b} {t} p q h) {s} {at} st = on (a ∷ b ∷ []) t (omega arith) st (width-is (b ∷ t) st ∙ rw (p, q)) (chars-past h (stands-past (a ∷ b ∷ []) t s at st))
 chars-past (three {a} {b} {c} {t} p q r h) {s} {at} st =

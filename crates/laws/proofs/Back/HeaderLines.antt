@@ -207,9 +207,9 @@ module _ (u : List ℕ) {x : List ℕ} (b : Break x) {s : List ℕ} {at : ℕ} (
 
 -- ---- the line
 
-first-key : (k r : List ℕ) → 0 < length k → getD (k ++ r) 0 0 ≡ getD k 0 0
-first-key [] r h = absurd (omega arith)
-first-key (b ∷ k) r h = refl
+pub first-byte : (t r : List ℕ) → 0 < length t → getD (t ++ r) 0 0 ≡ getD t 0 0
+first-byte [] r h = absurd (omega arith)
+first-byte (b ∷ t) r h = refl
 
 line-parts : (k v r : List ℕ) → (((k ++ wideColon) ++ v) ++ (10 ∷ [])) ++ r ≡ k ++ (wideColon ++ (v ++ (10 ∷ r)))
 line-parts k v r = simp append-assoc
@@ -232,7 +232,7 @@ header-item h f = record { run = λ s at r st c. go s at r st }
         let n : ℕ = at + length (h .key) in
         let st₁ : Stands s at (h .key ++ (wideColon ++ (h .value ++ (10 ∷ r)))) = stands-same (line-parts (h .key) (h .value) r) st in
         let st₂ : Stands s at (body ++ (10 ∷ r)) = stands-same (line-body (h .key) (h .value) r) st in
-        let z₁ : hashLinesAt s at ≡ at = hash-none st₁ (ap (λ (b : ℕ). eqb b 35) (first-key (h .key) _ (f .some)) ∙ f .noHash) in
+        let z₁ : hashLinesAt s at ≡ at = hash-none st₁ (ap (λ (b : ℕ). eqb b 35) (first-byte (h .key) _ (f .some)) ∙ f .noHash) in
         let z₂ : presetLineAt s at ≡ Not = preset-alike body o (lf {r = []}) (lf {r = r}) (stands-seam [] (headerLine h)) st₂ (f .noPreset) in
         let z₃ : turnLineAt s at ≡ Not = no-turn (h .key) (h .value ++ (10 ∷ r)) (key-text (h .key) (f .key)) st₁ in
         let z₄ : handLineAt s at ≡ handLine NoHand emptyHand = no-hand body lf st₂ (f .noHand) in

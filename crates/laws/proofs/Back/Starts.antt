@@ -46,7 +46,7 @@ use Rattle.laws.proofs.Back.KeyOrder.{written, order-back}
 use Rattle.laws.proofs.Back.Boards.{board-came, board-parts}
 use Rattle.laws.proofs.Back.Hands.{countsOf}
 use Rattle.laws.proofs.Back.Information.{hash-none, preset-item, turn-item, Side, black, white, hands-item}
-use Rattle.laws.proofs.Back.HeaderLines.{header-item}
+use Rattle.laws.proofs.Back.HeaderLines.{first-byte, header-item}
 
 -- ---- lines one after the other
 
@@ -82,10 +82,6 @@ record Bare (t : List ℕ) : Type 0 where
   pub side : clear t sides ≡ true
   pub some : 0 < length t
   pub key : (r : List ℕ) → keyFrom (t ++ (10 ∷ r)) ≡ t
-
-first-byte : (t r : List ℕ) → 0 < length t → getD (t ++ r) 0 0 ≡ getD t 0 0
-first-byte [] r h = absurd (omega arith)
-first-byte (b ∷ t) r h = refl
 
 module _ (t : List ℕ) (b : Bare t) {s : List ℕ} {at : ℕ} (r : List ℕ) (st : Stands s at (t ++ (10 ∷ r))) where
   bare-hash : hashLinesAt s at ≡ at

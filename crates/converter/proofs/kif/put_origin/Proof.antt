@@ -1,10 +1,11 @@
 -- Each arm is that of `originText`.
 -- Assumes nothing.
+use Rattle.lent.proofs.Room.{bytes-of}
 use mathlib.Core.Path.{sym, ap, refl}
 use borrow.Author.Needs.{needs}
 use Rattle.lent.proofs.Writes.{as-text, wrote-length}
 use Rattle.converter.specs.Entries.{originText}
-use Rattle.converter.proofs.Worded.{room-of, arm}
+use Rattle.converter.proofs.Worded.{room-of}
 use Rattle.converter.proofs.kif.put_origin.Statement.{statement}
 use Rattle.converter.proofs.kif.put_origin.Tie as tie
 
@@ -28,7 +29,7 @@ put-from-requires c κs =
 returns : tie.Need-returns
 unfolding originText
 returns c =
-    arm (ap originText (sym (c .before .before .before .before .before .enum-told .given .1))) (c .before .before .before .before .before .before .before .before .pre) (c .before .before .put-bytes .ensures)
+    bytes-of (ap originText (sym (c .before .before .before .before .before .enum-told .given .1))) (c .before .before .before .before .before .before .before .before .pre) (c .before .before .put-bytes .ensures)
 
 same-length : tie.Need-same-length
 same-length c = wrote-length (returns c)

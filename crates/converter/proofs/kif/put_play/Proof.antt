@@ -1,12 +1,13 @@
 -- Each arm is that of `playText`; an ending is spelled by its number.
 -- Assumes nothing.
+use Rattle.lent.proofs.Room.{bytes-of}
 use mathlib.Core.Path.{sym, ap, _∙_}
 use borrow.Author.Needs.{needs}
 use Rattle.spell.specs.Tables.{writtenSpecials}
 use Rattle.spell.specs.Spell.{spelled}
 use Rattle.lent.proofs.Writes.{as-text, nothing, wrote-length}
 use Rattle.converter.specs.Entries.{specialText, playText}
-use Rattle.converter.proofs.Worded.{room-of, arm}
+use Rattle.converter.proofs.Worded.{room-of}
 use Rattle.converter.proofs.kif.put_play.Statement.{statement}
 use Rattle.converter.proofs.kif.put_play.Tie as tie
 
@@ -44,7 +45,7 @@ same-length c = wrote-length (returns-2 c)
 returns-3 : tie.Need-returns-3
 unfolding playText specialText
 returns-3 c =
-    arm (ap (spelled writtenSpecials) (c .before .before .before .number-of .ensures) ∙ ap playText (sym (c .before .before .before .before .before .before .e2 .given .1))) (c .before .before .before .before .before .before .before .before .before .pre) (c .before .before .put-special .ensures)
+    bytes-of (ap (spelled writtenSpecials) (c .before .before .before .number-of .ensures) ∙ ap playText (sym (c .before .before .before .before .before .before .e2 .given .1))) (c .before .before .before .before .before .before .before .before .before .pre) (c .before .before .put-special .ensures)
 
 same-length-2 : tie.Need-same-length-2
 same-length-2 c = wrote-length (returns-3 c)

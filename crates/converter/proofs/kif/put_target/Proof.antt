@@ -7,10 +7,10 @@ use Rattle.spell.specs.Tables.{numerals, files}
 use Rattle.spell.specs.Spell.{spelled}
 use Rattle.lent.proofs.Writes.{as-text, wrote-length, sum-fits, within}
 use Rattle.converter.specs.Entries.{targetText}
-use Rattle.converter.proofs.Worded.{room-of, arm}
+use Rattle.converter.proofs.Worded.{room-of}
 use Rattle.converter.proofs.kif.put_target.Statement.{statement}
 use Rattle.converter.proofs.kif.put_target.Tie as tie
-use Rattle.lent.proofs.Room.{two-of}
+use Rattle.lent.proofs.Room.{two-of, bytes-of}
 
 enum-told : tie.Need-enum-told
 enum-told c = search needs
@@ -42,7 +42,7 @@ put-numeral-requires c κs = tt
 returns : tie.Need-returns
 unfolding targetText
 returns c =
-    arm (ap targetText (sym (c .before .before .before .before .before .enum-told .given .1))) (c .before .before .before .before .before .before .before .before .pre) (c .before .before .put-bytes .ensures)
+    bytes-of (ap targetText (sym (c .before .before .before .before .before .enum-told .given .1))) (c .before .before .before .before .before .before .before .before .pre) (c .before .before .put-bytes .ensures)
 
 same-length : tie.Need-same-length
 same-length c = wrote-length (returns c)

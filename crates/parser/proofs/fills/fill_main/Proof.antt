@@ -9,14 +9,14 @@ use Rattle.parser.proofs.fills.fill_main.Tie as tie
 skipped-requires : tie.Need-skipped-requires
 skipped-requires c κs = search needs
 
-fill-noted-requires : tie.Need-fill-noted-requires
-fill-noted-requires c κs = search needs
+fill-slot-requires : tie.Need-fill-slot-requires
+fill-slot-requires c κs = search needs
 
 fill-moves-requires : tie.Need-fill-moves-requires
 fill-moves-requires c κs = search needs
 
 sub-put-line : tie.Need-sub-put-line
-sub-put-line c = let a = c .before .before .before .before .before .before .before .before .before .before .before .before .before .before .before in let s = c .before .before .before .before .before .before .before .before .before .before .fill-noted in let m = c .before .before .before .before .before .before .fill-moves in
+sub-put-line c = let a = c .before .before .before .before .before .before .before .before .before .before .before .before .before .before .before in let s = c .before .before .before .before .before .before .before .before .before .before .fill-slot in let m = c .before .before .before .before .before .before .fill-moves in
     omega (arith, main-grows (a .args .s .now) (a .args .c .at) (a .args .w) (a .args .out .now) (a .pre) (c .before .before .before .before .before .before .before .before .before .before .before .before .skipped .result) (s .result) _ (c .before .before .before .before .before .before .before .before .before .before .before .before .skipped .ensures) (s .ensures .0) (s .ensures .1 .0) (s .ensures .1 .1) (m .result) _ (m .ensures .0) (m .ensures .1 .0) (m .ensures .1 .1))
 
 put-line-requires : tie.Need-put-line-requires
@@ -29,7 +29,7 @@ same-length : tie.Need-same-length
 same-length c = search needs
 
 returns : tie.Need-returns
-returns c = let a = c .before .before .before .before .before .before .before .before .before .before .before .before .before .before .before .before .before .before .before in let s = c .before .before .before .before .before .before .before .before .before .before .before .before .before .before .fill-noted in let m = c .before .before .before .before .before .before .before .before .before .before .fill-moves in let p = c .before .before .before .put-line .ensures in (
+returns c = let a = c .before .before .before .before .before .before .before .before .before .before .before .before .before .before .before .before .before .before .before in let s = c .before .before .before .before .before .before .before .before .before .before .before .before .before .before .fill-slot in let m = c .before .before .before .before .before .before .before .before .before .before .fill-moves in let p = c .before .before .before .put-line .ensures in (
   main-lined (a .args .s .now) (a .args .c .at) (a .args .w) (a .args .out .now) (a .pre) (c .before .before .before .before .before .before .before .before .before .before .before .before .before .before .before .before .skipped .result) (s .result) _ (c .before .before .before .before .before .before .before .before .before .before .before .before .before .before .before .before .skipped .ensures) (s .ensures .0) (s .ensures .1 .0) (s .ensures .1 .1) (m .result) _ (m .ensures .0) (m .ensures .1 .0) (m .ensures .1 .1) (p .0) (p .1),
   main-past (a .args .s .now) (a .args .c .at) (a .args .w) (a .args .out .now) (a .pre) (c .before .before .before .before .before .before .before .before .before .before .before .before .before .before .before .before .skipped .result) (s .result) _ (c .before .before .before .before .before .before .before .before .before .before .before .before .before .before .before .before .skipped .ensures) (s .ensures .0) (s .ensures .1 .0) (s .ensures .1 .1) (m .result) _ (m .ensures .0) (m .ensures .1 .0) (m .ensures .1 .1) (c .past-entries .result) (c .past-entries .ensures),
 )
@@ -39,7 +39,7 @@ fill-main-spec =
     tie.close
     (tie.spec
     skipped-requires
-    fill-noted-requires
+    fill-slot-requires
     fill-moves-requires
     sub-put-line
     put-line-requires

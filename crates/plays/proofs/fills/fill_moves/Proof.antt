@@ -34,15 +34,15 @@ same-length c = omega (arith, c .before .before .before .loop .inv .doing .long)
 returns : tie.Need-returns Inv-loop μ-loop
 returns c = entering-done (c .before .before .before .loop .inv) (sym (c .before .before .move-line .ensures) ∙ c .enum-told .given .1)
 
-fill-entry-requires : tie.Need-fill-entry-requires Inv-loop μ-loop
-fill-entry-requires c κs = tt
+fill-noted-requires : tie.Need-fill-noted-requires Inv-loop μ-loop
+fill-noted-requires c κs = tt
 
 loop-less : tie.Need-loop-less Inv-loop μ-loop
 loop-less c = let g = c .before .before .before .before .before .before .before .e .given in let s = c .before .before .before .before .before .before .before .before .before .before .before .before .before .args .s .now in let h = move-goes s (c .before .before .before .before .before .before .before .before .before .before .loop .next .at) (g .0 .0) (g .0 .1 .0) (g .0 .1 .1 .0) (sym (c .before .before .before .before .before .before .before .before .before .move-line .ensures) ∙ g .1) in
-    omega (arith, h .past, c .before .before .before .before .fill-entry .ensures .1 .1, comments-from s (g .0 .1 .1 .0 .at), comments-within s (g .0 .1 .1 .0 .at) (h .within))
+    omega (arith, h .past, c .before .before .before .before .fill-noted .ensures .1 .1, comments-from s (g .0 .1 .1 .0 .at), comments-within s (g .0 .1 .1 .0 .at) (h .within))
 
 loop-again : tie.Need-loop-again Inv-loop μ-loop
-loop-again c = let g = c .before .before .before .before .before .before .before .e .given in let f = c .before .before .before .before .fill-entry .ensures in entering-step (c .before .before .before .before .before .before .before .before .before .before .loop .inv) (g .0 .0) (g .0 .1 .0) (g .0 .1 .1 .0) (sym (c .before .before .before .before .before .before .before .before .before .move-line .ensures) ∙ g .1) (f .0) (f .1 .0) (f .1 .1)
+loop-again c = let g = c .before .before .before .before .before .before .before .e .given in let f = c .before .before .before .before .fill-noted .ensures in entering-step (c .before .before .before .before .before .before .before .before .before .before .loop .inv) (g .0 .0) (g .0 .1 .0) (g .0 .1 .1 .0) (sym (c .before .before .before .before .before .before .before .before .before .move-line .ensures) ∙ g .1) (f .0) (f .1 .0) (f .1 .1)
 
 pub fill-moves-spec : {M : Type 1} → statement M
 fill-moves-spec =
@@ -56,6 +56,6 @@ fill-moves-spec =
     enum-told
     same-length
     returns
-    fill-entry-requires
+    fill-noted-requires
     loop-less
     loop-again)
