@@ -10,7 +10,7 @@ use mathlib.Core.Path.{_≡_, sym, ap, _∙_}
 use mathlib.Core.List.{List}
 use lib.ListN.{length, take, drop, length-drop, drop-of-length-le}
 use lib.Seq.{take-all, take-nil, drop-drop}
-use Rattle.block.specs.Decode.{textPlace, textAt, keyOffset, keyLength, keyOf, valueOffset, valueLength, valueOf}
+use Rattle.block.specs.Decode.{textPlace, storedText, keyOffset, keyLength, keyOf, valueOffset, valueLength, valueOf}
 
 module _ (b : List ℕ) (at n : ℕ) where
   -- it begins past the end
@@ -38,7 +38,7 @@ rest-none b at h =
 
 module _ (b t : List ℕ) (e : t ≡ drop (textPlace b) b) where
   -- a text by its place among the texts
-  pub text-in : (o n : ℕ) → take n (drop o t) ≡ textAt b o n
+  pub text-in : (o n : ℕ) → take n (drop o t) ≡ storedText b o n
   text-in o n = ap (λ (l : List ℕ). take n (drop o l)) e ∙ ap (take n) (drop-drop o (textPlace b) b)
 
   -- the key of a header entry, and its value

@@ -17,9 +17,9 @@ use Rattle.jkf.specs.declared.Origin.{Origin}
 use Rattle.jkf.specs.declared.Origin.the-variants.{Unknown, From}
 use Rattle.jkf.specs.declared.Move.{Move}
 use Rattle.jkf.specs.declared.Entry.{Entry}
-use Rattle.jkf.specs.declared.Entry.the-variants.{Slot, Play, End}
+use Rattle.jkf.specs.declared.Entry.the-variants.{Slot, Moved, End}
 use Rattle.block.proofs.Joining.{joined}
-use Rattle.block.specs.EntryBytes.{fromMark, sameMark, timeMark, targetBytes, originBytes, clockBytes, timeBytes, headBytes, entryBytes}
+use Rattle.block.specs.EntryBytes.{fromMark, sameMark, timeMark, targetBytes, originBytes, clockBytes, timeBytes, entryHead, entryBytes}
 use Rattle.jkf.specs.Entries.{timeOf}
 
 -- ---- how long the parts are
@@ -40,21 +40,21 @@ pub time-length : (t : Time) → length (timeBytes t) ≡ 6
 time-length Untimed = refl
 time-length (Timed now total) = simp (length-append, clock-length)
 
-pub head-length : (e : Entry) → length (headBytes e) ≡ 9
-unfolding headBytes
+pub head-length : (e : Entry) → length (entryHead e) ≡ 9
+unfolding entryHead
 head-length Slot = refl
-head-length (Play m) = simp (length-append, target-length, origin-length)
+head-length (Moved m) = simp (length-append, target-length, origin-length)
 head-length (End s t) = refl
 
 -- ---- what the writers wrote
 
 pub head-made : (m : Move) (x y u v k : ℕ) → (x ∷ y ∷ []) ≡ targetBytes (m .to) → (u ∷ v ∷ []) ≡ originBytes (m .from)
     → k ≡ fromMark (m .from) + sameMark (m .to) + timeMark (m .time)
-    → (1 ∷ m .color ∷ m .piece ∷ m .promote ∷ x ∷ y ∷ u ∷ v ∷ k ∷ []) ≡ headBytes (Play m)
-unfolding headBytes
+    → (1 ∷ m .color ∷ m .piece ∷ m .promote ∷ x ∷ y ∷ u ∷ v ∷ k ∷ []) ≡ entryHead (Moved m)
+unfolding entryHead
 head-made m x y u v k e₁ e₂ e₃ = rw (← e₁, ← e₂, e₃)
 
 pub parts-made : (e : Entry) (t : Time) (f n : ℕ) → t ≡ timeOf e
-    → headBytes e ++ timeBytes t ++ ((0 ∷ []) ++ bytes16 f ++ bytes16 n) ≡ entryBytes e f n
+    → entryHead e ++ timeBytes t ++ ((0 ∷ []) ++ bytes16 f ++ bytes16 n) ≡ entryBytes e f n
 unfolding entryBytes
-parts-made e t f n h = rw h (sym (joined (headBytes e ++ timeBytes (timeOf e)) (0 ∷ []) (bytes16 f) (bytes16 n)))
+parts-made e t f n h = rw h (sym (joined (entryHead e ++ timeBytes (timeOf e)) (0 ∷ []) (bytes16 f) (bytes16 n)))

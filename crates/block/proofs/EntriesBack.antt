@@ -21,8 +21,8 @@ use Rattle.jkf.specs.declared.Target.the-variants.{Same, Square}
 use Rattle.jkf.specs.declared.Origin.{Origin}
 use Rattle.jkf.specs.declared.Origin.the-variants.{Unknown, From}
 use Rattle.jkf.specs.declared.Entry.{Entry}
-use Rattle.jkf.specs.declared.Entry.the-variants.{Slot, Play, End}
-use Rattle.block.specs.EntryBytes.{timeBytes, headBytes, entryBytes, timeIn, targetIn, originIn, moveIn, entryIn}
+use Rattle.jkf.specs.declared.Entry.the-variants.{Slot, Moved, End}
+use Rattle.block.specs.EntryBytes.{timeBytes, entryHead, entryBytes, timeIn, targetIn, originIn, moveIn, entryIn}
 use Rattle.jkf.specs.Entries.{specialNumber, specialOf, timeOf}
 use Rattle.block.proofs.Joining.{joined}
 use Rattle.block.proofs.Entering.{head-length, time-length}
@@ -46,7 +46,7 @@ special-back Fuzumi = refl
 special-back Error = refl
 
 end-back : (x : Special) (z : Time) (f n : ℕ) (r : List ℕ) → entryIn (entryBytes (End x z) f n ++ r) ≡ End (specialOf (specialNumber x)) z
-unfolding entryBytes headBytes entryIn timeIn
+unfolding entryBytes entryHead entryIn timeIn
 end-back x Untimed f n r = refl
 end-back x (Timed (Hms h m s) (Hms h′ m′ s′)) f n r = refl
 end-back x (Timed (Hms h m s) (Ms m′ s′)) f n r = refl
@@ -54,11 +54,11 @@ end-back x (Timed (Ms m s) (Hms h′ m′ s′)) f n r = refl
 end-back x (Timed (Ms m s) (Ms m′ s′)) f n r = refl
 
 abbrev played : ℕ → ℕ → ℕ → Target → Origin → Time → Entry
-played c p k t o z = Play (record { color = c; piece = p; promote = k; to = t; from = o; time = z })
+played c p k t o z = Moved (record { color = c; piece = p; promote = k; to = t; from = o; time = z })
 
 play-back : (c p k : ℕ) (t : Target) (o : Origin) (z : Time) (f n : ℕ) (r : List ℕ)
     → entryIn (entryBytes (played c p k t o z) f n ++ r) ≡ played c p k t o z
-unfolding entryBytes headBytes entryIn moveIn targetIn originIn timeIn
+unfolding entryBytes entryHead entryIn moveIn targetIn originIn timeIn
 play-back c p k Same Unknown Untimed f n r = refl
 play-back c p k Same Unknown (Timed (Hms h m s) (Hms h′ m′ s′)) f n r = refl
 play-back c p k Same Unknown (Timed (Hms h m s) (Ms m′ s′)) f n r = refl
@@ -81,9 +81,9 @@ play-back c p k (Square x y) (From u v) (Timed (Ms m s) (Hms h′ m′ s′)) f 
 play-back c p k (Square x y) (From u v) (Timed (Ms m s) (Ms m′ s′)) f n r = refl
 
 pub entry-back : (e : Entry) (f n : ℕ) (r : List ℕ) → entryIn (entryBytes e f n ++ r) ≡ e
-unfolding entryBytes headBytes entryIn
+unfolding entryBytes entryHead entryIn
 entry-back Slot f n r = refl
-entry-back (Play m) f n r = play-back (m .color) (m .piece) (m .promote) (m .to) (m .from) (m .time) f n r
+entry-back (Moved m) f n r = play-back (m .color) (m .piece) (m .promote) (m .to) (m .from) (m .time) f n r
 entry-back (End x z) f n r = end-back x z f n r ∙ ap (λ (s : Special). End s z) (special-back x)
 
 -- ---- the numbers
@@ -101,7 +101,7 @@ after a b k e =
 
 -- the bytes before the numbers
 abbrev front : Entry → List ℕ
-front e = headBytes e ++ timeBytes (timeOf e) ++ (0 ∷ [])
+front e = entryHead e ++ timeBytes (timeOf e) ++ (0 ∷ [])
 
 front-length : (e : Entry) → length (front e) ≡ 16
 front-length e = simp (length-append, head-length, time-length)

@@ -15,7 +15,7 @@ use lib.Seq.{take-add, length-take-le, getD-drop}
 use lib.Dec.{eqb, leb, ltb}
 use borrow.Author.Tests.{eq-eqb, ne-eqb, le-leb, lt-ltb, le-ltb, eqb-true, eqb-false, leb-true}
 use Rattle.lists.specs.Pick.{pick}
-use Rattle.lists.specs.Test.{Test, equals, atMost, holds, both, each, flag}
+use Rattle.lists.specs.Test.{Test, equals, holds, both, each, flag}
 use Rattle.lists.proofs.Laws.{drop-step, pick-both, range-at}
 use Rattle.lists.proofs.Tests.{says, answers}
 use Rattle.lent.specs.Bytes.{le16, bytes16}
@@ -30,7 +30,8 @@ use Rattle.jkf.specs.declared.Origin.{Origin}
 use Rattle.jkf.specs.declared.Origin.the-variants.{Unknown, From}
 use Rattle.block.proofs.EntriesBack.{entry-length}
 use Rattle.block.proofs.Entering.{target-length, origin-length, head-length, time-length}
-use Rattle.block.specs.EntryBytes.{fromMark, sameMark, hourMark, timeMark, targetBytes, originBytes, clockBytes, timeBytes, headBytes, entryBytes, clockOf, timeIn, targetIn, originIn, moveIn, entryIn}
+use Rattle.block.specs.inner.Tests.{timeTest, moveTest, endTest, headTestOf, commentsTest}
+use Rattle.block.specs.EntryBytes.{fromMark, sameMark, hourMark, timeMark, targetBytes, originBytes, clockBytes, timeBytes, entryHead, entryBytes, clockOf, timeIn, targetIn, originIn, moveIn, entryIn}
 use Rattle.jkf.specs.Entries.{specialNumber, specialOf, timeOf}
 use Rattle.block.specs.Decode.{run, movePlace, commentCount}
 use Rattle.block.specs.Sound.{same, kindTest, entryTest, commentsBefore}
@@ -90,30 +91,6 @@ zeros s n e =
     ∙ ap (λ (m : ℕ). same s (replicate m 0)) e
 
 -- ---- a row
-
--- the time's marks are right, and so are its bytes
-abbrev pub timeTest : List ℕ → Test
-timeTest l = both (equals (getD l 8 0) (getD l 8 0 % 4 + timeMark (timeIn l))) (holds (same (take 6 (drop 9 l)) (timeBytes (timeIn l))))
-
--- the fields of a move, and of an ending
-abbrev pub moveTest : List ℕ → Test
-moveTest l =
-    both (atMost (getD l 1 0) 1)
-    (both (atMost 1 (getD l 2 0))
-    (both (atMost (getD l 2 0) 14)
-    (both (atMost (getD l 3 0) 2)
-    (both (holds (same (take 2 (drop 4 l)) (targetBytes (targetIn l)))) (holds (same (take 2 (drop 6 l)) (originBytes (originIn l))))))))
-
-abbrev pub endTest : List ℕ → Test
-endTest l = both (atMost (getD l 1 0) 13) (both (equals (getD l 8 0 % 4) 0) (holds (same (take 6 (drop 2 l)) (0 ∷ 0 ∷ 0 ∷ 0 ∷ 0 ∷ 0 ∷ []))))
-
--- the 15 bytes before the numbers
-abbrev pub kindOf : ℕ → List ℕ → Test
-kindOf k l = both (kindTest k (entryIn l)) (holds (same (take 15 l) (headBytes (entryIn l) ++ timeBytes (timeOf (entryIn l)))))
-
--- a zero, and the first comment, which is 0 where there is none
-abbrev pub commentsTest : ℕ → List ℕ → Test
-commentsTest next l = both (equals (getD l 15 0) 0) (equals (le16 l 16) (pick (eqb (le16 l 18) 0) 0 (next % 65536)))
 
 module _ (l : List ℕ) (h : 20 ≤ length l) where
   -- n bytes from a place on
@@ -233,8 +210,8 @@ module _ (l : List ℕ) (h : 20 ≤ length l) where
   one-same i y k = rw (row-run 1 i (omega arith)) (pick-id (eqb (getD l i 0) y))
 
   -- a slot
-  pub kind-slot : (k : ℕ) → getD l 0 0 ≡ 0 → flag (kindOf k l) ≡ pick (eqb k 0) (same (take 15 l) (replicate 15 0)) false
-  unfolding entryIn headBytes
+  pub kind-slot : (k : ℕ) → getD l 0 0 ≡ 0 → flag (headTestOf k l) ≡ pick (eqb k 0) (same (take 15 l) (replicate 15 0)) false
+  unfolding entryIn entryHead
   kind-slot k e = rw (eq-eqb (getD l 0 0) 0 e)
 
   -- an ending: its number is one of 0 to 13
@@ -317,8 +294,8 @@ module _ (l : List ℕ) (h : 20 ≤ length l) where
       (one-same 8 (timeMark t) (omega arith) ∙ end-marks m t))
       ∙ end-order (leb x 13) z (eqb m (m % 4 + timeMark t)) (eqb (m % 4) 0) b
 
-  kind-end : (k : ℕ) → getD l 0 0 ≡ 2 → flag (kindOf k l) ≡ pick (leb 1 k) (pick (flag (timeTest l)) (flag (endTest l)) false) false
-  unfolding entryIn headBytes
+  kind-end : (k : ℕ) → getD l 0 0 ≡ 2 → flag (headTestOf k l) ≡ pick (leb 1 k) (pick (flag (timeTest l)) (flag (endTest l)) false) false
+  unfolding entryIn entryHead
   kind-end k e =
       rw (ne-eqb (getD l 0 0) 0 (λ z. omega arith), eq-eqb (getD l 0 0) 2 e)
       (ap (λ (t : Bool). pick (leb 1 k) t false) (end-same (getD l 1 0) (timeIn l) refl e))
@@ -381,8 +358,8 @@ module _ (l : List ℕ) (h : 20 ≤ length l) where
       (one-same 8 m (omega arith) ∙ ap (eqb (getD l 8 0)) e))
 
   kind-move : (k : ℕ) → (getD l 0 0 ≡ 0 → ⊥) → (getD l 0 0 ≡ 2 → ⊥)
-      → flag (kindOf k l) ≡ pick (leb 1 k) (pick (eqb (getD l 0 0) 1) (pick (flag (timeTest l)) (flag (moveTest l)) false) false) false
-  unfolding entryIn headBytes moveIn
+      → flag (headTestOf k l) ≡ pick (leb 1 k) (pick (eqb (getD l 0 0) 1) (pick (flag (timeTest l)) (flag (moveTest l)) false) false) false
+  unfolding entryIn entryHead moveIn
   kind-move k n m =
       let c = getD l 1 0 in
       let p = getD l 2 0 in
@@ -396,7 +373,7 @@ module _ (l : List ℕ) (h : 20 ≤ length l) where
 
   -- an entry that is no slot
   pub kind-later : (k : ℕ) → (getD l 0 0 ≡ 0 → ⊥)
-      → flag (kindOf k l)
+      → flag (headTestOf k l)
       ≡ pick (leb 1 k)
       (pick (flag (timeTest l)) (pick (eqb (getD l 0 0) 1) (flag (moveTest l)) (pick (eqb (getD l 0 0) 2) (flag (endTest l)) false)) false)
       false
@@ -407,7 +384,7 @@ module _ (l : List ℕ) (h : 20 ≤ length l) where
       order false t m = sym (pick-none t)
 
       go : (u : Bool) → eqb (getD l 0 0) 2 ≡ u
-          → flag (kindOf k l)
+          → flag (headTestOf k l)
           ≡ pick (leb 1 k) (pick (flag (timeTest l)) (pick (eqb (getD l 0 0) 1) (flag (moveTest l)) (pick u (flag (endTest l)) false)) false) false
       go true e =
           let q = eqb-true (getD l 0 0) 2 e in
@@ -460,17 +437,17 @@ module _ (l : List ℕ) (h : 20 ≤ length l) where
   -- the bytes before the numbers, and the numbers
   row-is : (k n next : ℕ) → n ≡ le16 l 18 → ((i : ℕ) → getD l i 0 < 256)
       → flag (both (kindTest k (entryIn l)) (holds (same (take 20 l) (entryBytes (entryIn l) (pick (eqb n 0) 0 next) n))))
-      ≡ pick (flag (kindOf k l)) (flag (commentsTest next l)) false
+      ≡ pick (flag (headTestOf k l)) (flag (commentsTest next l)) false
   unfolding entryBytes
   row-is k n next e small =
       let w = entryIn l in
-      let a = headBytes w ++ timeBytes (timeOf w) in
+      let a = entryHead w ++ timeBytes (timeOf w) in
       let f = pick (eqb n 0) 0 next in
       let t = flag (kindTest k w) in
       let first : f % 65536 ≡ pick (eqb (le16 l 18) 0) 0 (next % 65536) =
       mod-pick (eqb n 0) next ∙ ap (λ (i : ℕ). pick (eqb i 0) 0 (next % 65536)) e in
       let last : eqb (le16 l 18) (n % 65536) ≡ true = eq-eqb (le16 l 18) (n % 65536) (omega (arith, e, small 18, small 19)) in
-      let fifteen : length a ≡ 15 = omega (arith, length-append (headBytes w) (timeBytes (timeOf w)), head-length w, time-length (timeOf w)) in
+      let fifteen : length a ≡ 15 = omega (arith, length-append (entryHead w) (timeBytes (timeOf w)), head-length w, time-length (timeOf w)) in
       let sixteen : length (a ++ (0 ∷ [])) ≡ 16 = omega (arith, length-append a (0 ∷ []), fifteen) in
       let eighteen : length (a ++ (0 ∷ []) ++ bytes16 f) ≡ 18 = omega (arith, length-append (a ++ (0 ∷ [])) (bytes16 f), sixteen) in
       ap (λ (u : Bool). pick t u false)
@@ -500,7 +477,7 @@ module _ (b : List ℕ) (k : ℕ) where
 
   -- there are 20
   pub entry-is : (next : ℕ) → next ≡ commentsBefore b k → 20 ≤ length L → ((i : ℕ) → getD b i 0 < 256)
-      → flag (entryTest b k) ≡ pick (flag (kindOf k L)) (flag (commentsTest next L)) false
+      → flag (entryTest b k) ≡ pick (flag (headTestOf k L)) (flag (commentsTest next L)) false
   entry-is next e h small =
       ap (λ (i : ℕ). flag (both (kindTest k (entryIn L)) (holds (same (take 20 L) (entryBytes (entryIn L) (pick (eqb (commentCount b k) 0) 0 i) (commentCount b k)))))) (sym e)
       ∙ row-is L h k (commentCount b k) next (sym (le16-drop b (movePlace b k) 18))

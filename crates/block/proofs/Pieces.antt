@@ -17,7 +17,7 @@ use borrow.Author.Tests.{ltb-true, ltb-false, lt-ltb, le-ltb}
 use Rattle.lists.specs.Pick.{pick}
 use Rattle.lists.proofs.Laws.{by-pick}
 use Rattle.text.specs.Text.{pastAll}
-use Rattle.text.specs.Utf8.{sizeOf, secondOf, isNext, charWidth, widthOf, wellFormed}
+use Rattle.text.specs.Utf8.{sizeOf, secondOf, isNext, charWidth, sizeIfFormed, wellFormedBytes}
 use Rattle.text.proofs.Widths.{past-stop, turn, char-within, next-zero}
 use Rattle.text.proofs.Boundaries.{Boundary, atEnd, atFirst, part-well}
 
@@ -36,11 +36,11 @@ starts-boundary s at h e = go (decLt at (length s))
     go (no k) = atEnd (omega arith)
 
 -- a part that begins at one boundary and ends at another
-pub piece-valid : (s : List ℕ) (at n : ℕ) → wellFormed s ≡ length s → at + n ≤ length s → Boundary s at → Boundary s (at + n)
-    → wellFormed (take n (drop at s)) ≡ length (take n (drop at s))
+pub piece-valid : (s : List ℕ) (at n : ℕ) → wellFormedBytes s ≡ length s → at + n ≤ length s → Boundary s at → Boundary s (at + n)
+    → wellFormedBytes (take n (drop at s)) ≡ length (take n (drop at s))
 piece-valid s at n w h b c =
     let e : at + n - at ≡ n = omega arith in
-    subst (λ (m : ℕ). wellFormed (take m (drop at s)) ≡ length (take m (drop at s))) e (part-well s at (at + n) w b c (omega arith) h)
+    subst (λ (m : ℕ). wellFormedBytes (take m (drop at s)) ≡ length (take m (drop at s))) e (part-well s at (at + n) w b c (omega arith) h)
 
 -- ---- characters
 
@@ -57,7 +57,7 @@ size-first b =
 -- a character has a first byte
 width-size : (s : List ℕ) (at : ℕ) → (charWidth s at ≡ 0 → ⊥) → sizeOf (getD s at 0) ≡ 0 → ⊥
 unfolding charWidth
-width-size s at h z = h (by-pick (λ (n : ℕ). n ≡ 0) (ltb at (length s)) (widthOf (sizeOf (getD s at 0)) s at) 0 (λ _. rw z) (λ _. refl))
+width-size s at h z = h (by-pick (λ (n : ℕ). n ≡ 0) (ltb at (length s)) (sizeIfFormed (sizeOf (getD s at 0)) s at) 0 (λ _. rw z) (λ _. refl))
 
 -- from a place on there are characters up to the end
 abbrev pub Whole : List ℕ → ℕ → Type 0
@@ -151,12 +151,12 @@ module _ (s : List ℕ) (a n : ℕ) (l : a + n ≤ length s) where
           u .same ∙ ap (pastAll charWidth s) e ∙ ih (i + c) (omega (arith, t .on)) (omega (arith, t .within, part-length)) (sym (t .same) ∙ w)
 
   -- all of it
-  part-passes : wellFormed part ≡ length part → pastAll charWidth s a ≡ pastAll charWidth s (a + n)
+  part-passes : wellFormedBytes part ≡ length part → pastAll charWidth s a ≡ pastAll charWidth s (a + n)
   part-passes w =
       let e : a ≡ a + 0 = omega arith in
       ap (pastAll charWidth s) e ∙ passes n 0 (omega arith) (omega arith) w
 
 -- characters up to a place, then characters to the end
-pub piece-before : (s : List ℕ) (at n : ℕ) → at + n ≤ length s → wellFormed (take n (drop at s)) ≡ length (take n (drop at s)) → Whole s (at + n) → Whole s at
+pub piece-before : (s : List ℕ) (at n : ℕ) → at + n ≤ length s → wellFormedBytes (take n (drop at s)) ≡ length (take n (drop at s)) → Whole s (at + n) → Whole s at
 unfolding part
 piece-before s at n h v w = part-passes s at n h v ∙ w

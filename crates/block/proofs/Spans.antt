@@ -18,9 +18,9 @@ use Rattle.lists.specs.Pick.{pick}
 use Rattle.lists.specs.Test.{Test, equals, holds, both, each, allBelow, flag, claim}
 use Rattle.lists.proofs.Laws.{pick-both}
 use Rattle.lists.proofs.Tests.{all-more, says, answers}
-use Rattle.text.specs.Utf8.{isNext, wellFormed}
+use Rattle.text.specs.Utf8.{isNext, wellFormedBytes}
 use Rattle.text.proofs.Boundaries.{Boundary, atEnd}
-use Rattle.block.specs.Decode.{headersIn, commentsIn, textPlace, textAt, keyOffset, keyLength, valueOffset, valueLength, commentOffset, commentLength, keyOf, valueOf, commentOf}
+use Rattle.block.specs.Decode.{headersIn, commentsIn, textPlace, storedText, keyOffset, keyLength, valueOffset, valueLength, commentOffset, commentLength, keyOf, valueOf, commentOf}
 use Rattle.block.specs.Sound.{valid, before, headerBytes, commentBytes, ascends, headerTest, commentTest}
 use Rattle.block.proofs.Sums.{sum-none, sum-suc, sum-rises}
 use Rattle.block.proofs.Cuts.{text-in}
@@ -122,21 +122,21 @@ module _ (b : List ℕ) (fills : textPlace b + headerBytes b (headersIn b) + com
   key-is : (k o : ℕ) → keyOffset b k ≡ o → keyOf b k ≡ take (keyLength b k) (drop o S)
   unfolding keyOf
   key-is k o e =
-      ap (λ (i : ℕ). textAt b i (keyLength b k)) e ∙ sym (text-in b S refl o (keyLength b k))
+      ap (λ (i : ℕ). storedText b i (keyLength b k)) e ∙ sym (text-in b S refl o (keyLength b k))
 
   value-is : (k o : ℕ) → valueOffset b k ≡ o → valueOf b k ≡ take (valueLength b k) (drop o S)
   unfolding valueOf
   value-is k o e =
-      ap (λ (i : ℕ). textAt b i (valueLength b k)) e ∙ sym (text-in b S refl o (valueLength b k))
+      ap (λ (i : ℕ). storedText b i (valueLength b k)) e ∙ sym (text-in b S refl o (valueLength b k))
 
   comment-is : (k o : ℕ) → commentOffset b k ≡ o → commentOf b k ≡ take (commentLength b k) (drop o S)
   unfolding commentOf
   comment-is k o e =
-      ap (λ (i : ℕ). textAt b i (commentLength b k)) e ∙ sym (text-in b S refl o (commentLength b k))
+      ap (λ (i : ℕ). storedText b i (commentLength b k)) e ∙ sym (text-in b S refl o (commentLength b k))
 
   -- a text is valid
   abbrev Valid : List ℕ → Type 0
-  Valid l = wellFormed l ≡ length l
+  Valid l = wellFormedBytes l ≡ length l
 
   -- ---- where all texts are valid
 
@@ -167,7 +167,7 @@ module _ (b : List ℕ) (fills : textPlace b + headerBytes b (headersIn b) + com
         piece-before S (hs k) (keyLength b k) (omega arith) (subst Valid (key-is k (hs k) (p .0)) (p .1 .1 .0)) (value-whole k l (header-whole j (suc k) (omega arith)))
 
     -- so the part is valid
-    all-valid : wellFormed S ≡ length S
+    all-valid : wellFormedBytes S ≡ length S
     all-valid = subst (Whole S) (sum-none (λ j. keyLength b j + valueLength b j)) (header-whole (headersIn b) 0 (omega arith))
 
     -- and a character begins at each
@@ -196,7 +196,7 @@ module _ (b : List ℕ) (fills : textPlace b + headerBytes b (headersIn b) + com
 
   -- ---- where each begins so
 
-  module _ (v : wellFormed S ≡ length S) (hv : claim (each (headersIn b) (headerStands b (textPlace b)))) (cv : claim (each (commentsIn b) (commentStands b (textPlace b)))) where
+  module _ (v : wellFormedBytes S ≡ length S) (hv : claim (each (headersIn b) (headerStands b (textPlace b)))) (cv : claim (each (commentsIn b) (commentStands b (textPlace b)))) where
     boundary : (at : ℕ) → at ≤ length S → not (isNext (getD b (textPlace b + at) 0)) ≡ true → Boundary S at
     boundary at h e = starts-boundary S at h (subst (λ (x : ℕ). not (isNext x) ≡ true) (sym (getD-drop (textPlace b) b at 0)) e)
 

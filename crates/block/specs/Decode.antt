@@ -76,8 +76,8 @@ abbrev pub commentLength : List ℕ → ℕ → ℕ
 commentLength b k = le16 b (commentPlace b k + 2)
 
 -- A text, by its place in the text part.                                             (01, The block: offsets of texts)
-abbrev pub textAt : List ℕ → ℕ → ℕ → List ℕ
-textAt b offset len = take len (drop (textPlace b + offset) b)
+abbrev pub storedText : List ℕ → ℕ → ℕ → List ℕ
+storedText b offset len = take len (drop (textPlace b + offset) b)
 
 -- ---- the record
 
@@ -87,13 +87,13 @@ run f k zero = []
 run f k (suc n) = let r = run f (k + 1) n in f k ∷ r
 
 unfoldable pub keyOf : List ℕ → ℕ → List ℕ
-keyOf b k = textAt b (keyOffset b k) (keyLength b k)
+keyOf b k = storedText b (keyOffset b k) (keyLength b k)
 
 unfoldable pub valueOf : List ℕ → ℕ → List ℕ
-valueOf b k = textAt b (valueOffset b k) (valueLength b k)
+valueOf b k = storedText b (valueOffset b k) (valueLength b k)
 
 unfoldable pub commentOf : List ℕ → ℕ → List ℕ
-commentOf b k = textAt b (commentOffset b k) (commentLength b k)
+commentOf b k = storedText b (commentOffset b k) (commentLength b k)
 
 abbrev pub headerIn : List ℕ → ℕ → Header
 headerIn b k = record { key = keyOf b k; value = valueOf b k }

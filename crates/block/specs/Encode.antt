@@ -30,8 +30,11 @@ abbrev pub headerStep : ℕ → Header → ℕ
 headerStep at h = at + length (h .key) + length (h .value)
 
 -- Start, first entry, entry count, parent.                                                           (01, The block: line)
+abbrev pub lineBytes : ℕ → ℕ → ℕ → ℕ → List ℕ
+lineBytes start first count parent = bytes16 start ++ bytes16 first ++ bytes16 count ++ bytes16 parent
+
 abbrev pub lineRow : ℕ → Line → List ℕ
-lineRow first l = bytes16 (l .start) ++ bytes16 first ++ bytes16 (length (l .entries)) ++ bytes16 (l .parent)
+lineRow first l = lineBytes (l .start) first (length (l .entries)) (l .parent)
 
 abbrev pub lineStep : ℕ → Line → ℕ
 lineStep first l = first + length (l .entries)

@@ -18,7 +18,7 @@ use Rattle.jkf.specs.declared.Origin.{Origin}
 use Rattle.jkf.specs.declared.Origin.the-variants.{Unknown, From}
 use Rattle.jkf.specs.declared.Move.{Move}
 use Rattle.jkf.specs.declared.Entry.{Entry}
-use Rattle.jkf.specs.declared.Entry.the-variants.{Slot, Play, End}
+use Rattle.jkf.specs.declared.Entry.the-variants.{Slot, Moved, End}
 
 -- ---- marks                                                                                          (01, The block: marks)
 
@@ -61,18 +61,18 @@ timeBytes Untimed = 0 ∷ 0 ∷ 0 ∷ 0 ∷ 0 ∷ 0 ∷ []
 timeBytes (Timed now total) = clockBytes now ++ clockBytes total
 
 -- The bytes before the time: sort, colour or special's number, piece, promote, to, from, marks.
-unfoldable pub headBytes : Entry → List ℕ
-headBytes Slot = 0 ∷ 0 ∷ 0 ∷ 0 ∷ 0 ∷ 0 ∷ 0 ∷ 0 ∷ 0 ∷ []
-headBytes (Play m) =
+unfoldable pub entryHead : Entry → List ℕ
+entryHead Slot = 0 ∷ 0 ∷ 0 ∷ 0 ∷ 0 ∷ 0 ∷ 0 ∷ 0 ∷ 0 ∷ []
+entryHead (Moved m) =
     1 ∷ m .color ∷ m .piece ∷ m .promote ∷ []
     ++ targetBytes (m .to)
     ++ originBytes (m .from)
     ++ ((fromMark (m .from) + sameMark (m .to) + timeMark (m .time)) ∷ [])
-headBytes (End s t) = 2 ∷ specialNumber s ∷ 0 ∷ 0 ∷ 0 ∷ 0 ∷ 0 ∷ 0 ∷ timeMark t ∷ []
+entryHead (End s t) = 2 ∷ specialNumber s ∷ 0 ∷ 0 ∷ 0 ∷ 0 ∷ 0 ∷ 0 ∷ timeMark t ∷ []
 
 -- The 20 bytes: with the number of the first comment and how many there are.                          (01, The block: move entry)
 unfoldable pub entryBytes : Entry → ℕ → ℕ → List ℕ
-entryBytes e first count = headBytes e ++ timeBytes (timeOf e) ++ (0 ∷ []) ++ bytes16 first ++ bytes16 count
+entryBytes e first count = entryHead e ++ timeBytes (timeOf e) ++ (0 ∷ []) ++ bytes16 first ++ bytes16 count
 
 -- ---- the way back: what entry 20 bytes say. It is total; a block is sound only where the entry's bytes are those that were read.
 
@@ -111,4 +111,4 @@ moveIn l =
 -- What entry the bytes from here on say.
 unfoldable pub entryIn : List ℕ → Entry
 entryIn l =
-    pick (eqb (getD l 0 0) 0) Slot (pick (eqb (getD l 0 0) 2) (End (specialOf (getD l 1 0)) (timeIn l)) (Play (moveIn l)))
+    pick (eqb (getD l 0 0) 0) Slot (pick (eqb (getD l 0 0) 2) (End (specialOf (getD l 1 0)) (timeIn l)) (Moved (moveIn l)))

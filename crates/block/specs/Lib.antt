@@ -5,3 +5,4 @@ pub mod Decode
 pub mod Sound
 pub mod Formed
 pub mod Look
+pub mod inner

@@ -26,7 +26,7 @@ abbrev pub lookPart : List ℕ → ℕ → ℕ → List ℕ → List ℕ
 lookPart b n k t = ofPart b n k t (λ j. []) []
 
 -- The three lent numbers hold an answer's number and figures.
-pub record Told (a : Answer) (n x y : ℕ) : Type 0 where
+pub record Answered (a : Answer) (n x y : ℕ) : Type 0 where
   pub number : n ≡ figures a .number
   pub first : x ≡ figures a .first
   pub second : y ≡ figures a .second

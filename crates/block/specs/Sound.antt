@@ -9,12 +9,12 @@ use lib.Dec.{eqb, leb, ltb}
 use Rattle.lists.specs.Pick.{pick}
 use Rattle.lists.specs.Test.{Test, equals, atMost, holds, both, each, flag, claim}
 use Rattle.lent.specs.Bytes.{le16}
-use Rattle.text.specs.Utf8.{wellFormed}
+use Rattle.text.specs.Utf8.{wellFormedBytes}
 use Rattle.block.specs.EntryBytes.{entryIn, entryBytes}
 use Rattle.block.specs.PositionBytes.{positionIn}
 use Rattle.jkf.specs.Attaching.{hangs, onHang}
 use Rattle.jkf.specs.declared.Entry.{Entry}
-use Rattle.jkf.specs.declared.Entry.the-variants.{Slot, Play, End}
+use Rattle.jkf.specs.declared.Entry.the-variants.{Slot, Moved, End}
 use Rattle.jkf.specs.declared.Position.{Position}
 use Rattle.block.specs.Decode.{headersIn, linesIn, movesIn, commentsIn, linePlace, movePlace, commentPlace, textPlace, keyOffset, keyLength, valueOffset, valueLength, startOf, firstEntry, entryCount, parentOf, commentCount, commentOffset, commentLength, keyOf, valueOf, commentOf}
 
@@ -40,7 +40,7 @@ same (x ∷ a) (y ∷ b) = let r = same a b in pick (eqb x y) r false
 
 -- A text is valid UTF-8.                                                                             (01, The block: sound)
 abbrev pub valid : List ℕ → Test
-valid t = equals (wellFormed t) (length t)
+valid t = equals (wellFormedBytes t) (length t)
 
 -- ---- the head                                                                                       (01, The block: bytes 0 to 27)
 
@@ -93,7 +93,7 @@ positionTest b = both (equals (getD b 31 0) 0) (both (equals (getD b 127 0) 0) (
 abbrev pub headerBytes : List ℕ → ℕ → ℕ
 headerBytes b = sum (λ k. keyLength b k + valueLength b k)
 
--- Its key comes before the next one by bytes: so keys are distinct and ascend.
+-- The key of header entry k comes before the next one by bytes: so keys are distinct and ascend.
 abbrev pub ascends : List ℕ → ℕ → Test
 ascends b k = holds (pick (ltb (k + 1) (headersIn b)) (before (keyOf b k) (keyOf b (k + 1))) true)
 
@@ -116,14 +116,14 @@ commentTest b k = both (equals (commentOffset b k) (headerBytes b (headersIn b) 
 -- The slot is the first entry and no other; a move's colour, kind and promotion are in range.
 abbrev pub kindTest : ℕ → Entry → Test
 kindTest k Slot = equals k 0
-kindTest k (Play m) =
+kindTest k (Moved m) =
     both (atMost 1 k) (both (atMost (m .color) 1) (both (atMost 1 (m .piece)) (both (atMost (m .piece) 14) (atMost (m .promote) 2))))
 kindTest k (End s t) = atMost 1 k
 
 abbrev pub commentsBefore : List ℕ → ℕ → ℕ
 commentsBefore b = sum (λ k. commentCount b k)
 
--- Its 20 bytes are those of the entry that they say, with the comments in a row: so what is not used is zero.
+-- The 20 bytes of entry k are those of the entry that they say, with the comments in a row: so what is not used is zero.
 abbrev pub entryTest : List ℕ → ℕ → Test
 entryTest b k =
     let e = entryIn (drop (movePlace b k) b) in

@@ -4,17 +4,15 @@ use crate::places;
 use crate::texts;
 ghost use mathlib.Core.Path.{_≡_};
 ghost use mathlib.Core.Bool.{true};
-ghost use mathlib.Core.List.{[], _∷_, _++_};
-ghost use Prim.Native.Nat.{_+_, _%_, _≤_, _<_};
-ghost use lib.ListN.{length, take, drop, getD};
+ghost use Prim.Native.Nat.{_≤_, _<_};
+ghost use lib.ListN.{length, take, drop};
 ghost use lib.Dec.{eqb};
 ghost use Rattle.lists.specs.Pick.{pick};
-ghost use Rattle.lists.specs.Test.{equals, atMost, holds, both, each, flag};
-ghost use Rattle.lent.specs.Bytes.{le16};
-ghost use Rattle.block.specs.EntryBytes.{timeMark, targetBytes, originBytes, timeBytes, headBytes, timeIn, targetIn, originIn, entryIn};
-ghost use Rattle.jkf.specs.Entries.{timeOf};
+ghost use Rattle.lists.specs.Test.{each, flag};
+ghost use Rattle.block.specs.inner.Tests.{timeTest, moveTest, endTest, headTestOf, commentsTest};
+ghost use Rattle.block.specs.EntryBytes.{targetBytes, originBytes, targetIn, originIn};
 ghost use Rattle.block.specs.Decode.{movesIn};
-ghost use Rattle.block.specs.Sound.{same, kindTest, entryTest, commentsBefore};
+ghost use Rattle.block.specs.Sound.{same, entryTest, commentsBefore};
 
 // An hour without its mark is zero.
 fn hour_fits(marked: bool, hour: u8) -> bool
@@ -29,7 +27,7 @@ fn hour_fits(marked: bool, hour: u8) -> bool
 // The time's marks are those of a time, and what it does not use is zero.
 fn time_fits(row: &[u8]) -> bool
     requires { ⌜ 20 ≤ length (now row) ⌝ }
-    ensures { λ r. ⌜ r ≡ flag (both (equals (getD (now (row .entry)) 8 0) (getD (now (row .entry)) 8 0 % 4 + timeMark (timeIn (now (row .entry))))) (holds (same (take 6 (drop 9 (now (row .entry)))) (timeBytes (timeIn (now (row .entry))))))) ⌝ }
+    ensures { λ r. ⌜ r ≡ flag (timeTest (now (row .entry))) ⌝ }
 {
     let marks = row[8];
     if marks / 4 % 2 != 1 {
@@ -78,7 +76,7 @@ fn origin_fits(row: &[u8]) -> bool
 // A move's colour, kind and promotion are in range, and squares that are not used are zero.
 fn move_fits(row: &[u8]) -> bool
     requires { ⌜ 20 ≤ length (now row) ⌝ }
-    ensures { λ r. ⌜ r ≡ flag (both (atMost (getD (now (row .entry)) 1 0) 1) (both (atMost 1 (getD (now (row .entry)) 2 0)) (both (atMost (getD (now (row .entry)) 2 0) 14) (both (atMost (getD (now (row .entry)) 3 0) 2) (both (holds (same (take 2 (drop 4 (now (row .entry)))) (targetBytes (targetIn (now (row .entry)))))) (holds (same (take 2 (drop 6 (now (row .entry)))) (originBytes (originIn (now (row .entry))))))))))) ⌝ }
+    ensures { λ r. ⌜ r ≡ flag (moveTest (now (row .entry))) ⌝ }
 {
     if 1 < row[1] {
         return false;
@@ -101,7 +99,7 @@ fn move_fits(row: &[u8]) -> bool
 // An ending has one of the numbers 0 to 13, no marks but the time's, and no other field.
 fn end_fits(row: &[u8]) -> bool
     requires { ⌜ 20 ≤ length (now row) ⌝ }
-    ensures { λ r. ⌜ r ≡ flag (both (atMost (getD (now (row .entry)) 1 0) 13) (both (equals (getD (now (row .entry)) 8 0 % 4) 0) (holds (same (take 6 (drop 2 (now (row .entry)))) (0 ∷ 0 ∷ 0 ∷ 0 ∷ 0 ∷ 0 ∷ []))))) ⌝ }
+    ensures { λ r. ⌜ r ≡ flag (endTest (now (row .entry))) ⌝ }
 {
     if 13 < row[1] {
         return false;
@@ -115,7 +113,7 @@ fn end_fits(row: &[u8]) -> bool
 // The 15 bytes before the numbers: the slot is the first entry and no other.
 fn kind_fits(row: &[u8], k: usize) -> bool
     requires { ⌜ 20 ≤ length (now row) ⌝ }
-    ensures { λ r. ⌜ r ≡ flag (both (kindTest k (entryIn (now (row .entry)))) (holds (same (take 15 (now (row .entry))) (headBytes (entryIn (now (row .entry))) ++ timeBytes (timeOf (entryIn (now (row .entry)))))))) ⌝ }
+    ensures { λ r. ⌜ r ≡ flag (headTestOf k (now (row .entry))) ⌝ }
 {
     let sort = row[0];
     if sort == 0 {
@@ -142,7 +140,7 @@ fn kind_fits(row: &[u8], k: usize) -> bool
 // The bytes after the time: a zero, and the first comment, which is 0 where there is none.
 fn comments_fit(row: &[u8], next: usize) -> bool
     requires { ⌜ 20 ≤ length (now row) ⌝ }
-    ensures { λ r. ⌜ r ≡ flag (both (equals (getD (now (row .entry)) 15 0) 0) (equals (le16 (now (row .entry)) 16) (pick (eqb (le16 (now (row .entry)) 18) 0) 0 (next % 65536)))) ⌝ }
+    ensures { λ r. ⌜ r ≡ flag (commentsTest next (now (row .entry))) ⌝ }
 {
     if row[15] != 0 {
         return false;

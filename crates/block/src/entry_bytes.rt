@@ -11,8 +11,8 @@ ghost use mathlib.Core.List.{[], _∷_};
 ghost use Prim.Native.Nat.{_≤_};
 ghost use lib.ListN.{length, drop};
 ghost use Rattle.lent.specs.Bytes.{Wrote, fitting};
-ghost use Rattle.lent.specs.Regions.{Stored};
-ghost use Rattle.block.specs.EntryBytes.{fromMark, sameMark, hourMark, timeMark, targetBytes, originBytes, clockBytes, timeBytes, headBytes, entryBytes, clockOf, timeIn, targetIn, originIn, moveIn, entryIn};
+ghost use Rattle.lent.specs.Stored.{Stored};
+ghost use Rattle.block.specs.EntryBytes.{fromMark, sameMark, hourMark, timeMark, targetBytes, originBytes, clockBytes, timeBytes, entryHead, entryBytes, clockOf, timeIn, targetIn, originIn, moveIn, entryIn};
 
 // A mark and the two bytes of a square.
 struct Field {
@@ -94,7 +94,7 @@ fn put_time(out: &mut [u8], t: Time) -> usize
 
 fn put_move_head(out: &mut [u8], m: Move) -> usize
     requires { ⌜ 9 ≤ length (now out) ⌝ }
-    ensures { λ r. ⌜ Wrote (headBytes (Entry.Play m)) (now (out .entry)) (now (out .exit)) r ⌝ }
+    ensures { λ r. ⌜ Wrote (entryHead (Entry.Moved m)) (now (out .entry)) (now (out .exit)) r ⌝ }
 {
     let target = m.to;
     let origin = m.from;
@@ -120,11 +120,11 @@ fn put_move_head(out: &mut [u8], m: Move) -> usize
 
 fn put_head(out: &mut [u8], e: Entry) -> usize
     requires { ⌜ 9 ≤ length (now out) ⌝ }
-    ensures { λ r. ⌜ Wrote (headBytes e) (now (out .entry)) (now (out .exit)) r ⌝ }
+    ensures { λ r. ⌜ Wrote (entryHead e) (now (out .entry)) (now (out .exit)) r ⌝ }
 {
     match e {
         Entry::Slot => lent::put_bytes(out, &[0, 0, 0, 0, 0, 0, 0, 0, 0]),
-        Entry::Play(m) => put_move_head(out, m),
+        Entry::Moved(m) => put_move_head(out, m),
         Entry::End(s, t) => {
             lent::put_bytes(out, &[2, jkf::number_of(s), 0, 0, 0, 0, 0, 0, time_mark(t)])
         }
@@ -162,7 +162,7 @@ fn put_front(out: &mut [u8], e: Entry, first: usize, count: usize) -> usize
 }
 
 // An entry with the number of its first comment and how many it has, stored from a place on; answers the place past it.
-pub fn put_entry(out: &mut [u8], at: usize, e: Entry, first: usize, count: usize) -> usize
+pub fn put_entry_row(out: &mut [u8], at: usize, e: Entry, first: usize, count: usize) -> usize
     ensures { λ r. ⌜ Stored (fitting (entryBytes e first count) (drop at (now (out .entry)))) (now (out .entry)) (now (out .exit)) at r ⌝ }
 {
     if out.len() < at {
@@ -244,5 +244,5 @@ pub fn entry_in(s: &[u8]) -> Entry
     if sort == 2 {
         return Entry::End(jkf::special_of(lent::peek(s, 1)), time_in(s));
     }
-    Entry::Play(move_in(s))
+    Entry::Moved(move_in(s))
 }

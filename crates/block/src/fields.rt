@@ -83,7 +83,7 @@ fn sum_in(b: &[u8], place: usize, w: usize, n: usize) -> usize
     total
 }
 
-// The same in any slice.
+// The sum of n numbers of two bytes, w apart, in any slice.
 pub(crate) fn sum_of(b: &[u8], place: usize, w: usize, n: usize) -> usize
     requires { ⌜ (place < 5000000) × (2 ≤ w) × (w ≤ 20) × (n < 65536) ⌝ }
     ensures { λ r. ⌜ (r ≡ sum (λ k. le16 (now (b .entry)) (place + w * k)) n) × (r ≤ 65535 * n) ⌝ }

@@ -6,12 +6,12 @@ use jkf::Answer;
 ghost use mathlib.Core.Path.{_≡_};
 ghost use Prim.Native.Nat.{_+_, _*_, _≤_, _<_};
 ghost use Rattle.lent.specs.Bytes.{le16};
-ghost use Rattle.block.specs.Decode.{headersIn, commentsIn, keyOffset, keyLength, valueOffset, valueLength, commentOffset, commentLength, textAt, keyOf, valueOf, commentOf};
-ghost use Rattle.block.specs.Look.{lookAnswer, lookPart, Told, linesAnswer, lineAnswer, parentAnswer};
+ghost use Rattle.block.specs.Decode.{headersIn, commentsIn, keyOffset, keyLength, valueOffset, valueLength, commentOffset, commentLength, storedText, keyOf, valueOf, commentOf};
+ghost use Rattle.block.specs.Look.{lookAnswer, lookPart, Answered, linesAnswer, lineAnswer, parentAnswer};
 
 // Puts an answer's number and figures into three lent numbers.
 fn tell(a: Answer, number: &mut u64, first: &mut u64, second: &mut u64)
-    ensures { λ _. ⌜ Told a (now (number .exit)) (now (first .exit)) (now (second .exit)) ⌝ }
+    ensures { λ _. ⌜ Answered a (now (number .exit)) (now (first .exit)) (now (second .exit)) ⌝ }
 {
     let f = jkf::figures_of(a);
     *number = f.number;
@@ -31,8 +31,8 @@ fn look<'a>(
     second: &mut u64,
 ) -> &'a [u8]
     requires { ⌜ (n < 65536) × (place < 4000000) × (w ≤ 8) ⌝ }
-    ensures { λ r. ⌜ now r ≡ lookPart (now (b .entry)) n k (textAt (now (b .entry)) (le16 (now (b .entry)) (place + w * k)) (le16 (now (b .entry)) (place + w * k + 2))) ⌝ }
-    ensures { λ _. ⌜ Told (lookAnswer (now (b .entry)) n k (le16 (now (b .entry)) (place + w * k)) (le16 (now (b .entry)) (place + w * k + 2))) (now (number .exit)) (now (first .exit)) (now (second .exit)) ⌝ }
+    ensures { λ r. ⌜ now r ≡ lookPart (now (b .entry)) n k (storedText (now (b .entry)) (le16 (now (b .entry)) (place + w * k)) (le16 (now (b .entry)) (place + w * k + 2))) ⌝ }
+    ensures { λ _. ⌜ Answered (lookAnswer (now (b .entry)) n k (le16 (now (b .entry)) (place + w * k)) (le16 (now (b .entry)) (place + w * k + 2))) (now (number .exit)) (now (first .exit)) (now (second .exit)) ⌝ }
 {
     if !sound(b) {
         tell(Answer::NotSound, number, first, second);
@@ -63,7 +63,7 @@ pub fn comment<'a>(
     second: &mut u64,
 ) -> &'a [u8]
     ensures { λ r. ⌜ now r ≡ lookPart (now (b .entry)) (commentsIn (now (b .entry))) k (commentOf (now (b .entry)) k) ⌝ }
-    ensures { λ _. ⌜ Told (lookAnswer (now (b .entry)) (commentsIn (now (b .entry))) k (commentOffset (now (b .entry)) k) (commentLength (now (b .entry)) k)) (now (number .exit)) (now (first .exit)) (now (second .exit)) ⌝ }
+    ensures { λ _. ⌜ Answered (lookAnswer (now (b .entry)) (commentsIn (now (b .entry))) k (commentOffset (now (b .entry)) k) (commentLength (now (b .entry)) k)) (now (number .exit)) (now (first .exit)) (now (second .exit)) ⌝ }
 {
     look(
         b,
@@ -80,12 +80,12 @@ pub fn comment<'a>(
 // The key of header entry k.
 pub fn key<'a>(b: &'a [u8], k: u64, number: &mut u64, first: &mut u64, second: &mut u64) -> &'a [u8]
     ensures { λ r. ⌜ now r ≡ lookPart (now (b .entry)) (headersIn (now (b .entry))) k (keyOf (now (b .entry)) k) ⌝ }
-    ensures { λ _. ⌜ Told (lookAnswer (now (b .entry)) (headersIn (now (b .entry))) k (keyOffset (now (b .entry)) k) (keyLength (now (b .entry)) k)) (now (number .exit)) (now (first .exit)) (now (second .exit)) ⌝ }
+    ensures { λ _. ⌜ Answered (lookAnswer (now (b .entry)) (headersIn (now (b .entry))) k (keyOffset (now (b .entry)) k) (keyLength (now (b .entry)) k)) (now (number .exit)) (now (first .exit)) (now (second .exit)) ⌝ }
 {
     look(b, fields::headers(b), k, 128, 8, number, first, second)
 }
 
-// Its value.
+// The value of header entry k.
 pub fn value<'a>(
     b: &'a [u8],
     k: u64,
@@ -94,7 +94,7 @@ pub fn value<'a>(
     second: &mut u64,
 ) -> &'a [u8]
     ensures { λ r. ⌜ now r ≡ lookPart (now (b .entry)) (headersIn (now (b .entry))) k (valueOf (now (b .entry)) k) ⌝ }
-    ensures { λ _. ⌜ Told (lookAnswer (now (b .entry)) (headersIn (now (b .entry))) k (valueOffset (now (b .entry)) k) (valueLength (now (b .entry)) k)) (now (number .exit)) (now (first .exit)) (now (second .exit)) ⌝ }
+    ensures { λ _. ⌜ Answered (lookAnswer (now (b .entry)) (headersIn (now (b .entry))) k (valueOffset (now (b .entry)) k) (valueLength (now (b .entry)) k)) (now (number .exit)) (now (first .exit)) (now (second .exit)) ⌝ }
 {
     look(b, fields::headers(b), k, 132, 8, number, first, second)
 }

@@ -9,7 +9,7 @@ ghost use Prim.Native.Nat.{_<_};
 ghost use lib.ListN.{length, drop, getD};
 ghost use Rattle.lists.specs.Test.{equals, holds, each, flag};
 ghost use Rattle.lent.specs.Bytes.{le16};
-ghost use Rattle.jkf.specs.Following.{Linked};
+ghost use Rattle.jkf.specs.inner.Linked.{Linked};
 ghost use Rattle.block.specs.Decode.{linesIn, linePlace, startOf, entryCount, parentOf};
 ghost use Rattle.block.specs.Sound.{isCell, diagramTest, fitsTest, positionTest, hangTest, lineTest, entriesBefore};
 
@@ -112,7 +112,7 @@ fn hangs_right(b: &[u8], k: usize) -> bool
         return fields::parent_of(b, 0) == 0;
     }
     let table = texts::rest(b, fields::line_place(b, 0));
-    let Hang::On(p, _) = jkf::attach(table, k, fields::start_of(b, k) as u64) else {
+    let Hang::On(p, _) = jkf::hang_of(table, k, fields::start_of(b, k) as u64) else {
         return false;
     };
     fields::parent_of(b, k) as u64 == p

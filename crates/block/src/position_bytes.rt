@@ -4,7 +4,7 @@ ghost use mathlib.Core.Path.{_≡_};
 ghost use Prim.Native.Nat.{_≤_};
 ghost use lib.ListN.{length, drop};
 ghost use Rattle.lent.specs.Bytes.{Wrote, fitting};
-ghost use Rattle.lent.specs.Regions.{Stored};
+ghost use Rattle.lent.specs.Stored.{Stored};
 ghost use Rattle.block.specs.PositionBytes.{positionBytes, positionIn, bytesAt};
 
 // The bytes of a position, for which there is room.

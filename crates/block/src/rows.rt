@@ -2,8 +2,8 @@
 ghost use mathlib.Core.List.{_++_};
 ghost use lib.ListN.{drop};
 ghost use Rattle.lent.specs.Bytes.{bytes16, fitting};
-ghost use Rattle.lent.specs.Regions.{Stored};
-ghost use Rattle.block.specs.Encode.{headBytes};
+ghost use Rattle.lent.specs.Stored.{Stored};
+ghost use Rattle.block.specs.Encode.{headBytes, lineBytes};
 
 // The head of a block: its mark, its version, its length, the four counts, the five offsets, zeros.
 pub fn put_head(
@@ -78,7 +78,7 @@ fn put_four(out: &mut [u8], at: usize, a: u64, b: u64, c: u64, d: u64) -> usize
 }
 
 // A header entry: where its key begins among the texts and how long it is, and the same of its value.
-pub fn put_header(
+pub fn put_header_row(
     out: &mut [u8],
     at: usize,
     start: usize,
@@ -99,7 +99,7 @@ pub fn put_header(
 }
 
 // A line: its start, its first entry, how many entries it has, its parent.
-pub fn put_line(
+pub fn put_line_row(
     out: &mut [u8],
     at: usize,
     start: u64,
@@ -107,13 +107,13 @@ pub fn put_line(
     count: usize,
     parent: u64,
 ) -> usize
-    ensures { λ r. ⌜ Stored (fitting (bytes16 start ++ bytes16 first ++ bytes16 count ++ bytes16 parent) (drop at (now (out .entry)))) (now (out .entry)) (now (out .exit)) at r ⌝ }
+    ensures { λ r. ⌜ Stored (fitting (lineBytes start first count parent) (drop at (now (out .entry)))) (now (out .entry)) (now (out .exit)) at r ⌝ }
 {
     put_four(out, at, start, first as u64, count as u64, parent)
 }
 
 // A comment: where it begins among the texts, and how long it is.
-pub fn put_comment(out: &mut [u8], at: usize, offset: usize, length: usize) -> usize
+pub fn put_comment_row(out: &mut [u8], at: usize, offset: usize, length: usize) -> usize
     ensures { λ r. ⌜ Stored (fitting (bytes16 offset ++ bytes16 length) (drop at (now (out .entry)))) (now (out .entry)) (now (out .exit)) at r ⌝ }
 {
     lent::put_at(

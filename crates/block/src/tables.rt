@@ -5,9 +5,10 @@ ghost use mathlib.Core.Path.{_≡_};
 ghost use mathlib.Core.Bool.{not};
 ghost use Prim.Native.Nat.{_+_, _*_, _≤_, _<_};
 ghost use lib.ListN.{length, getD};
-ghost use Rattle.lists.specs.Test.{equals, holds, both, each, flag};
+ghost use Rattle.lists.specs.Test.{both, each, flag};
 ghost use Rattle.text.specs.Utf8.{isNext};
-ghost use Rattle.block.specs.Decode.{headersIn, commentsIn, commentPlace, textPlace, keyOffset, keyLength, valueOffset, commentOffset};
+ghost use Rattle.block.specs.inner.Tests.{headerStands, commentStands};
+ghost use Rattle.block.specs.Decode.{headersIn, commentsIn, commentPlace, textPlace};
 ghost use Rattle.block.specs.Sound.{headTest, partsTest, totalsTest, headerBytes, commentBytes, ascends, headerTest, commentTest};
 
 pub(crate) fn head_sound(b: &[u8]) -> bool
@@ -87,7 +88,7 @@ fn starts(b: &[u8], at: usize) -> bool
 // Header entry k, whose texts begin at a place of the text part, which begins at t.
 fn header_stands(b: &[u8], t: usize, k: usize, at: usize) -> bool
     requires { ⌜ (128 + 8 * k + 8 ≤ length (now b)) × (k < 65535) × (at ≡ headerBytes (now b) k) × (at < 1000000000000) × (t < 4000000) ⌝ }
-    ensures { λ r. ⌜ r ≡ flag (both (equals (keyOffset (now (b .entry)) k) (headerBytes (now (b .entry)) k)) (both (equals (valueOffset (now (b .entry)) k) (headerBytes (now (b .entry)) k + keyLength (now (b .entry)) k)) (both (holds (not (isNext (getD (now (b .entry)) (t + headerBytes (now (b .entry)) k) 0)))) (holds (not (isNext (getD (now (b .entry)) (t + (headerBytes (now (b .entry)) k + keyLength (now (b .entry)) k)) 0))))))) ⌝ }
+    ensures { λ r. ⌜ r ≡ flag (headerStands (now (b .entry)) t k) ⌝ }
 {
     if fields::pair(b, 128 + 8 * k) != at {
         return false;
@@ -105,7 +106,7 @@ fn header_stands(b: &[u8], t: usize, k: usize, at: usize) -> bool
 // The header table: its texts stand one after the other, and each begins where a character may.
 fn headers_stand(b: &[u8], t: usize) -> bool
     requires { ⌜ (128 + 8 * headersIn (now b) ≤ length (now b)) × (t < 4000000) ⌝ }
-    ensures { λ r. ⌜ r ≡ flag (each (headersIn (now (b .entry))) (λ k. both (equals (keyOffset (now (b .entry)) k) (headerBytes (now (b .entry)) k)) (both (equals (valueOffset (now (b .entry)) k) (headerBytes (now (b .entry)) k + keyLength (now (b .entry)) k)) (both (holds (not (isNext (getD (now (b .entry)) (t + headerBytes (now (b .entry)) k) 0)))) (holds (not (isNext (getD (now (b .entry)) (t + (headerBytes (now (b .entry)) k + keyLength (now (b .entry)) k)) 0)))))))) ⌝ }
+    ensures { λ r. ⌜ r ≡ flag (each (headersIn (now (b .entry))) (headerStands (now (b .entry)) t)) ⌝ }
 {
     let n = fields::headers(b);
     let mut at = 0;
@@ -148,7 +149,7 @@ fn keys_ascend(b: &[u8], t: usize) -> bool
 // Comment k of those whose rows begin at a place; its text begins at a place of the text part, which begins at t.
 fn comment_stands(b: &[u8], t: usize, rows: usize, k: usize, at: usize) -> bool
     requires { ⌜ (rows ≡ commentPlace (now b) 0) × (rows + 4 * k + 4 ≤ length (now b)) × (at ≡ headerBytes (now b) (headersIn (now b)) + commentBytes (now b) k) × (at < 1000000000000) × (t < 4000000) ⌝ }
-    ensures { λ r. ⌜ r ≡ flag (both (equals (commentOffset (now (b .entry)) k) (headerBytes (now (b .entry)) (headersIn (now (b .entry))) + commentBytes (now (b .entry)) k)) (holds (not (isNext (getD (now (b .entry)) (t + (headerBytes (now (b .entry)) (headersIn (now (b .entry))) + commentBytes (now (b .entry)) k)) 0))))) ⌝ }
+    ensures { λ r. ⌜ r ≡ flag (commentStands (now (b .entry)) t k) ⌝ }
 {
     if fields::pair(b, rows + 4 * k) != at {
         return false;
@@ -159,7 +160,7 @@ fn comment_stands(b: &[u8], t: usize, rows: usize, k: usize, at: usize) -> bool
 // The comments, whose texts begin after those of the header entries.
 fn comments_stand(b: &[u8], t: usize, headers: usize) -> bool
     requires { ⌜ (headers ≡ headerBytes (now b) (headersIn (now b))) × (headers < 8600000000) × (t < 4000000) × (textPlace (now b) ≤ length (now b)) ⌝ }
-    ensures { λ r. ⌜ r ≡ flag (each (commentsIn (now (b .entry))) (λ k. both (equals (commentOffset (now (b .entry)) k) (headerBytes (now (b .entry)) (headersIn (now (b .entry))) + commentBytes (now (b .entry)) k)) (holds (not (isNext (getD (now (b .entry)) (t + (headerBytes (now (b .entry)) (headersIn (now (b .entry))) + commentBytes (now (b .entry)) k)) 0)))))) ⌝ }
+    ensures { λ r. ⌜ r ≡ flag (each (commentsIn (now (b .entry))) (commentStands (now (b .entry)) t)) ⌝ }
 {
     let n = fields::comments(b);
     let rows = fields::comment_place(b, 0);

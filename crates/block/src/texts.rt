@@ -5,13 +5,13 @@ ghost use Prim.Native.Nat.{_+_, _*_, _≤_, _<_};
 ghost use lib.ListN.{length, take, drop, getD};
 ghost use Rattle.lists.specs.Test.{flag};
 ghost use Rattle.lent.specs.Bytes.{le16};
-ghost use Rattle.block.specs.Decode.{textAt, keyOf, valueOf, commentOf};
+ghost use Rattle.block.specs.Decode.{storedText, keyOf, valueOf, commentOf};
 ghost use Rattle.block.specs.Sound.{valid, before, same};
 
 // The part of the block that holds a text; what would lie past the end is left out.
 pub(crate) fn text_of(b: &[u8], offset: usize, len: usize) -> &[u8]
     requires { ⌜ offset < 1000000000000 ⌝ }
-    ensures { λ r. ⌜ now r ≡ textAt (now (b .entry)) offset len ⌝ }
+    ensures { λ r. ⌜ now r ≡ storedText (now (b .entry)) offset len ⌝ }
 {
     let at = fields::text_place(b) + offset;
     if b.len() <= at {
@@ -55,7 +55,7 @@ pub(crate) fn key_of(b: &[u8], k: usize) -> &[u8]
     text_of(b, fields::key_offset(b, k), fields::key_length(b, k))
 }
 
-// Its value.
+// The value of header entry k.
 pub(crate) fn value_of(b: &[u8], k: usize) -> &[u8]
     requires { ⌜ k < 65536 ⌝ }
     ensures { λ r. ⌜ now r ≡ valueOf (now (b .entry)) k ⌝ }

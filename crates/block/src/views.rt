@@ -10,7 +10,7 @@ ghost use Prim.Native.Nat.{_<_};
 ghost use lib.ListN.{take, drop};
 ghost use Rattle.block.specs.EntryBytes.{entryIn};
 ghost use Rattle.block.specs.PositionBytes.{positionIn};
-ghost use Rattle.block.specs.Decode.{headersIn, linesIn, movesIn, commentsIn, movePlace, textPlace, keyOffset, keyLength, valueOffset, valueLength, startOf, firstEntry, entryCount, parentOf, firstComment, commentCount, keyOf, valueOf, commentOf};
+ghost use Rattle.block.specs.Decode.{headersIn, linesIn, movesIn, movePlace, textPlace, keyOffset, keyLength, valueOffset, valueLength, startOf, firstEntry, entryCount, parentOf, firstComment, commentCount, keyOf, valueOf, commentOf};
 ghost use Rattle.block.specs.Sound.{headerBytes};
 
 // How many header entries there are.
@@ -39,13 +39,6 @@ pub fn moves_in(b: &[u8]) -> usize
     ensures { λ r. ⌜ (r ≡ movesIn (now (b .entry))) × (r < 65536) ⌝ }
 {
     fields::moves(b)
-}
-
-// How many comments.
-pub fn comments_in(b: &[u8]) -> usize
-    ensures { λ r. ⌜ (r ≡ commentsIn (now (b .entry))) × (r < 65536) ⌝ }
-{
-    fields::comments(b)
 }
 
 // The ply that line k starts at.
@@ -111,7 +104,7 @@ pub fn key_of(b: &[u8], k: u16) -> &[u8]
     texts::key_of(b, k as usize)
 }
 
-// Its value.
+// The value of header entry k.
 pub fn value_of(b: &[u8], k: u16) -> &[u8]
     ensures { λ r. ⌜ now r ≡ valueOf (now (b .entry)) k ⌝ }
 {
@@ -132,7 +125,7 @@ pub fn key_in<'a>(b: &[u8], texts: &'a [u8], k: u16) -> &'a [u8]
     texts::text_in(b, texts, 128 + 8 * (k as usize))
 }
 
-// Its value.
+// The value of header entry k in a text part.
 pub fn value_in<'a>(b: &[u8], texts: &'a [u8], k: u16) -> &'a [u8]
     ensures { λ r. ⌜ now r ≡ take (valueLength (now (b .entry)) k) (drop (valueOffset (now (b .entry)) k) (now (texts .entry))) ⌝ }
 {

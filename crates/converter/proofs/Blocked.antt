@@ -14,7 +14,8 @@ use Rattle.jkf.specs.Model.{Noted, Line}
 use Rattle.block.specs.Decode.{run, linesIn, firstEntry, entryCount, notedIn, lineIn, decode}
 use Rattle.block.proofs.Tabling.{length-run, run-first, run-more, run-next, run-end}
 use Rattle.converter.specs.Entries.{canWrite}
-use Rattle.converter.specs.Show.{leftOut, onObstacle, handObstacle, entryObstacle, lineObstacle, linesObstacle, shown, ShownLines}
+use Rattle.converter.specs.Show.{leftOut, onObstacle, handObstacle, entryObstacle, lineObstacle, linesObstacle, shown}
+use Rattle.converter.specs.inner.Lines.{ShownLines}
 use Rattle.converter.specs.declared.Obstacle.the-variants.{At, Clear}
 
 -- ---- hands

@@ -16,7 +16,7 @@ use Rattle.spell.specs.Count.{tensText, countText}
 use Rattle.spell.proofs.Counts.{spelled-short, numeral-short, tens-short}
 use Rattle.jkf.specs.declared.Position.{Position}
 use Rattle.spell.specs.Words.{presetTag, turnTag, handsTag, noneTag, filesTag, ruleTag, emptyTag}
-use Rattle.converter.specs.Diagrams.{presetLine, heldText, held, allHeld, orNone, handLine, cellText, cellsText, rowText, rowsText, boardText, turnText, diagramText, positionText}
+use Rattle.converter.specs.Diagrams.{presetLine, heldText, held, allHeld, orNone, handLineText, cellText, cellsText, boardRow, boardRows, boardText, turnText, diagramText, positionText}
 use Rattle.converter.proofs.Ranged.{ranged-short}
 use Rattle.converter.proofs.Cased.{heldPiece, cellPiece, moreText}
 
@@ -75,8 +75,8 @@ unfolding allHeld
 all-held-short hands side = ranged-short (heldPiece hands side) 18 (λ i. held-short (7 - i) (held hands side (7 - i))) 7
 
 -- the line of a hand; なし is shorter than the longest hand
-pub hand-line-short : (hands : List ℕ) (side : ℕ) → length (handLine hands side) ≤ 145
-unfolding handLine
+pub hand-line-short : (hands : List ℕ) (side : ℕ) → length (handLineText hands side) ≤ 145
+unfolding handLineText
 hand-line-short hands side =
     let s = spelled sides side in
     let h = allHeld hands side in
@@ -100,8 +100,8 @@ unfolding cellsText
 cells-short cells rank = ranged-short (cellPiece cells rank) 7 (λ i. cell-short (getD cells (9 * (8 - i) + rank) 0)) 9
 
 -- a row: the cells, two bars, a numeral and LF
-pub row-short : (cells : List ℕ) (rank : ℕ) → length (rowText cells rank) ≤ 69
-unfolding rowText
+pub row-short : (cells : List ℕ) (rank : ℕ) → length (boardRow cells rank) ≤ 69
+unfolding boardRow
 row-short cells rank =
     let c = cellsText cells rank in
     let n = spelled numerals (rank + 1) in
@@ -109,16 +109,16 @@ row-short cells rank =
     (both 4 1 ((124 ∷ []) ++ n) (10 ∷ []) (both 1 3 (124 ∷ []) n (omega arith) (numeral-short (rank + 1))) (omega arith))
 
 -- nine of them
-pub rows-short : (cells : List ℕ) → length (rowsText cells) ≤ 621
-unfolding rowsText
-rows-short cells = ranged-short (rowText cells) 69 (row-short cells) 9
+pub rows-short : (cells : List ℕ) → length (boardRows cells) ≤ 621
+unfolding boardRows
+rows-short cells = ranged-short (boardRow cells) 69 (row-short cells) 9
 
 -- with two head lines and a foot line
 pub board-short : (cells : List ℕ) → length (boardText cells) ≤ 719
 unfolding boardText
 board-short cells =
     let h : List ℕ = ((filesTag ++ (10 ∷ [])) ++ ruleTag) ++ (10 ∷ []) in
-    let r = rowsText cells in
+    let r = boardRows cells in
     both 689 30 (h ++ r) (ruleTag ++ (10 ∷ [])) (both 68 621 h r (omega arith) (rows-short cells)) (omega arith)
 
 -- ---- the whole
@@ -143,9 +143,9 @@ pub diagram-short : (p : Position) → length (diagramText p) ≤ 1047
 unfolding diagramText
 diagram-short p =
     let t = presetLine 16 in
-    let w = handLine (p .hands) 1 in
+    let w = handLineText (p .hands) 1 in
     let c = boardText (p .cells) in
-    let b = handLine (p .hands) 0 in
+    let b = handLineText (p .hands) 0 in
     both 1037 10 (((t ++ w) ++ c) ++ b) (turnText (p .turn))
     (both 892 145 ((t ++ w) ++ c) b
     (both 173 719 (t ++ w) c (both 28 145 t w (preset-line-short 16) (hand-line-short (p .hands) 1)) (board-short (p .cells)))

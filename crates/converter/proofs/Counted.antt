@@ -14,10 +14,12 @@ use Rattle.block.specs.Sound.{Sound, entriesBefore}
 use Rattle.block.proofs.Sums.{sum-more}
 use Rattle.block.proofs.Within.{some-line, some-entry, first-none, comment-most}
 use Rattle.block.proofs.Tabling.{run-first, concat-none, concat-longer}
-use Rattle.converter.specs.Headers.{headersOf, headersText}
+use Rattle.converter.specs.Headers.{headersText}
+use Rattle.converter.specs.inner.Places.{storedHeaders}
 use Rattle.converter.specs.Diagrams.{positionText}
 use Rattle.converter.specs.Entries.{remarkText, remarksText, notedText, entriesText}
-use Rattle.converter.specs.Show.{mainText, variationHead, variationText, shown, linesText, recordText, ShownLines}
+use Rattle.converter.specs.Show.{mainText, variationHead, variationText, shown, linesText, recordText}
+use Rattle.converter.specs.inner.Lines.{ShownLines}
 use Rattle.converter.proofs.Lengthy.{remark-most}
 use Rattle.converter.proofs.Runs.{remarks-none, remarks-more, entries-none, entries-more}
 
@@ -101,7 +103,7 @@ lines-parts l ls = simp length-append (omega arith)
 -- of a block of which n lines are shown
 pub record-parts : (b : List ℕ) (n : ℕ) → ShownLines b n
     → length (recordText (decode b))
-    ≡ length (headersText (headersOf b)) + length (positionText (positionIn (drop 28 b))) + 40 + length (mainText (lineIn b 0)) + length (concat variationText (run (lineIn b) 1 (n - 1)))
+    ≡ length (headersText (storedHeaders b)) + length (positionText (positionIn (drop 28 b))) + 40 + length (mainText (lineIn b 0)) + length (concat variationText (run (lineIn b) 1 (n - 1)))
 unfolding recordText decode
 record-parts b n s =
     let l = run (lineIn b) 1 (linesIn b - 1) in

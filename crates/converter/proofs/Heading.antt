@@ -25,7 +25,8 @@ use Rattle.block.specs.Decode.{run, headersIn, headerIn, keyOf, textPlace, keyO
 use Rattle.block.proofs.Cuts.{key-in, value-in}
 use Rattle.block.proofs.Tabling.{run-add, run-snoc, concat-append, concat-snoc, concat-more}
 use Rattle.block.specs.Sound.{Sound}
-use Rattle.converter.specs.Headers.{leadingNumber, numbered, headerLine, linesOf, range, placedAt, headersOf, Placed}
+use Rattle.converter.specs.Headers.{leadingNumber, numbered, headerLine, linesOf, range}
+use Rattle.converter.specs.inner.Places.{placedAt, storedHeaders, Placed}
 use Rattle.converter.proofs.Keyed.{one-key}
 use Rattle.converter.proofs.Ascending.{key-other}
 
@@ -127,7 +128,7 @@ unfolding linesOf numbered concat run
 lines-none b n = refl
 
 -- there is room for the line of one more
-pub lines-room : (b : List ℕ) (n k : ℕ) {m : ℕ} → leadingNumber (keyOf b k) ≡ n → k < headersIn b → length (linesOf n (headersOf b)) ≤ m
+pub lines-room : (b : List ℕ) (n k : ℕ) {m : ℕ} → leadingNumber (keyOf b k) ≡ n → k < headersIn b → length (linesOf n (storedHeaders b)) ≤ m
     → length (linesOf n (run (headerIn b) 0 k) ++ headerLine (headerIn b k)) ≤ m
 lines-room b n k e h r =
     let w = ap length (lines-more b n k e) in
@@ -206,7 +207,7 @@ module _ {b places : List ℕ} {k : ℕ} (p : PlacedTo b places k) where
 
 -- of the first n
 abbrev pub leads : List ℕ → ℕ → List ℕ
-leads b n = concat (λ n. linesOf n (headersOf b)) (range 1 n)
+leads b n = concat (λ n. linesOf n (storedHeaders b)) (range 1 n)
 
 module _ {b places : List ℕ} (p : Placed b places) (n : ℕ) (h : n < 12) where
   -- one leading key more
@@ -214,8 +215,8 @@ module _ {b places : List ℕ} (p : Placed b places) (n : ℕ) (h : n < 12) wher
   unfolding linesOf
   lead-next =
       let z : 1 + n ≡ n + 1 = omega arith in
-      concat-more (λ n. linesOf n (headersOf b)) (λ i. i) 1 n
-      ∙ ap (λ (j : ℕ). leads b n ++ linesOf j (headersOf b)) z
+      concat-more (λ n. linesOf n (storedHeaders b)) (λ i. i) 1 n
+      ∙ ap (λ (j : ℕ). leads b n ++ linesOf j (storedHeaders b)) z
       ∙ ap (λ (l : List Header). leads b n ++ concat headerLine l) (p .each n h)
 
   -- one that the header does not have
@@ -235,4 +236,4 @@ module _ {b places : List ℕ} (p : Placed b places) (n : ℕ) (h : n < 12) wher
   pub lead-room : {m : ℕ} → 0 < getD places n 0 → length (leads b 12) ≤ m → length (leads b n ++ headerLine (headerIn b (getD places n 0 - 1))) ≤ m
   lead-room e r =
       let w = ap length (lead-some e) in
-      omega (arith, concat-rises (λ n. linesOf n (headersOf b)) (λ i. i) 1 (n + 1) 12 (omega arith))
+      omega (arith, concat-rises (λ n. linesOf n (storedHeaders b)) (λ i. i) 1 (n + 1) 12 (omega arith))

@@ -14,29 +14,29 @@ use borrow.Author.Tests.{leb-true, eqb-true, eq-eqb}
 use Rattle.lists.specs.Pick.{pick}
 use Rattle.lists.proofs.Laws.{pick-both, range, range-at}
 use Rattle.block.specs.Sound.{same}
-use Rattle.converter.specs.Headers.{leadingKeys, numberFrom, leadingNumber}
+use Rattle.converter.specs.Headers.{leadingKeys, numberAmong, leadingNumber}
 use Rattle.block.proofs.Deciding.{same-is, same-refl}
 
 -- ---- a number among some keys
 
 -- a number is that of a key
-number-most : (i : ℕ) (ks : List (List ℕ)) (t : List ℕ) → 0 < i → numberFrom i ks t < i + length ks
-unfolding numberFrom
+number-most : (i : ℕ) (ks : List (List ℕ)) (t : List ℕ) → 0 < i → numberAmong i ks t < i + length ks
+unfolding numberAmong
 number-most i [] t h = omega arith
 number-most i (k ∷ ks) t h = go (same t k) (number-most (i + 1) ks t (omega arith))
   where
-    go : (u : Bool) → numberFrom (i + 1) ks t < i + 1 + length ks → pick u i (numberFrom (i + 1) ks t) < i + suc (length ks)
+    go : (u : Bool) → numberAmong (i + 1) ks t < i + 1 + length ks → pick u i (numberAmong (i + 1) ks t) < i + suc (length ks)
     go true ih = omega arith
     go false ih = omega arith
 
 -- a text with a number above 0 is the key of that number
-number-key : (i : ℕ) (ks : List (List ℕ)) (t : List ℕ) (v : ℕ) → numberFrom i ks t ≡ v → 0 < v → (i ≤ v) × (t ≡ getD ks (v - i) [])
-unfolding numberFrom
+number-key : (i : ℕ) (ks : List (List ℕ)) (t : List ℕ) (v : ℕ) → numberAmong i ks t ≡ v → 0 < v → (i ≤ v) × (t ≡ getD ks (v - i) [])
+unfolding numberAmong
 number-key i [] t v e h = absurd (omega arith)
 number-key i (k ∷ ks) t v e h = go (same t k) refl e (number-key (i + 1) ks t v)
   where
-    go : (u : Bool) → same t k ≡ u → pick u i (numberFrom (i + 1) ks t) ≡ v
-        → (numberFrom (i + 1) ks t ≡ v → 0 < v → (i + 1 ≤ v) × (t ≡ getD ks (v - (i + 1)) []))
+    go : (u : Bool) → same t k ≡ u → pick u i (numberAmong (i + 1) ks t) ≡ v
+        → (numberAmong (i + 1) ks t ≡ v → 0 < v → (i + 1 ≤ v) × (t ≡ getD ks (v - (i + 1)) []))
         → (i ≤ v) × (t ≡ getD (k ∷ ks) (v - i) [])
     go true q e ih = let z : v - i ≡ 0 = omega arith in (omega arith, rw z (same-is t k q))
     go false q e ih =
@@ -55,12 +55,12 @@ leading-most t = omega (arith, number-most 1 leadingKeys t (omega arith))
 pub one-key : (t u : List ℕ) → leadingNumber t ≡ leadingNumber u → 0 < leadingNumber u → t ≡ u
 unfolding leadingNumber
 one-key t u e h =
-    number-key 1 leadingKeys t (numberFrom 1 leadingKeys u) e h .1
-    ∙ sym (number-key 1 leadingKeys u (numberFrom 1 leadingKeys u) refl h .1)
+    number-key 1 leadingKeys t (numberAmong 1 leadingKeys u) e h .1
+    ∙ sym (number-key 1 leadingKeys u (numberAmong 1 leadingKeys u) refl h .1)
 
 -- a key has its own number: antt computes it for the 12
 key-number : (j : ℕ) → j < 12 → leadingNumber (getD leadingKeys j []) ≡ j + 1
-unfolding leadingNumber numberFrom same
+unfolding leadingNumber numberAmong same
 key-number j h = eqb-true _ _ (range-at (λ k. eqb (leadingNumber (getD leadingKeys k [])) (k + 1)) 12 0 j refl (omega arith) (omega arith))
 
 -- key j is number v, or its first character ends in other bytes than b and c

@@ -14,7 +14,7 @@ use Rattle.lent.specs.Numbers.{decimal, padded}
 use Rattle.lent.proofs.Digits.{decimal-length-one, decimal-length-more, digits-two, padded-length}
 use Rattle.spell.specs.Tables.{Spelling, moveKinds, numerals, files}
 use Rattle.spell.specs.Spell.{spelled}
-use Rattle.spell.proofs.Keys.{digit-unspelled}
+use Rattle.spell.proofs.Codes.{digit-unspelled}
 use Rattle.jkf.specs.Entries.{specialNumber, specialOf, timeOf}
 use Rattle.jkf.specs.declared.Clock.{Clock}
 use Rattle.jkf.specs.declared.Special.{Special}
@@ -26,7 +26,7 @@ use Rattle.jkf.specs.declared.Target.{Target}
 use Rattle.jkf.specs.declared.Target.the-variants.{Same, Square}
 use Rattle.jkf.specs.declared.Move.{Move}
 use Rattle.jkf.specs.declared.Entry.{Entry}
-use Rattle.jkf.specs.declared.Entry.the-variants.{Slot, Play, End}
+use Rattle.jkf.specs.declared.Entry.the-variants.{Slot, Moved, End}
 use Rattle.block.proofs.EntriesBack.{special-back}
 use Rattle.converter.specs.Entries.{targetText, promoteText, originText, moveText, specialText, hour, minute, second, nowText, totalText, timeText, playText, widthOf, entryLine, starText, remarkText, within}
 
@@ -201,7 +201,7 @@ unfolding playText
 slot-length p = rw p
 
 -- a move
-pub play-length : {e : Entry} {m : Move} → e ≡ Play m → length (playText e) ≡ length (moveText m)
+pub play-length : {e : Entry} {m : Move} → e ≡ Moved m → length (playText e) ≡ length (moveText m)
 unfolding playText
 play-length p = rw p
 

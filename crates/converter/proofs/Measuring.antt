@@ -16,7 +16,8 @@ use Rattle.block.specs.Sound.{Sound, headerBytes}
 use Rattle.block.proofs.Sums.{sum-none, sum-suc}
 use Rattle.block.proofs.Tabling.{run-snoc, concat-snoc, concat-none}
 use Rattle.block.proofs.Within.{key-length, value-length}
-use Rattle.converter.specs.Headers.{leadingNumber, numbered, headerLine, linesOf, headersText, headersOf, range}
+use Rattle.converter.specs.Headers.{leadingNumber, numbered, headerLine, linesOf, headersText, range}
+use Rattle.converter.specs.inner.Places.{storedHeaders}
 use Rattle.converter.proofs.Keyed.{leading-most}
 
 -- ---- each entry is written once
@@ -124,5 +125,5 @@ module _ (b : List ℕ) (s : Sound b) where
       )
 
   -- the header: each entry has a ： and an LF
-  pub headers-length : length (headersText (headersOf b)) ≡ headerBytes b (headersIn b) + 4 * headersIn b
-  headers-length = headers-once (headersOf b) ∙ lines-length (headersIn b) (omega arith)
+  pub headers-length : length (headersText (storedHeaders b)) ≡ headerBytes b (headersIn b) + 4 * headersIn b
+  headers-length = headers-once (storedHeaders b) ∙ lines-length (headersIn b) (omega arith)

@@ -15,7 +15,8 @@ use Rattle.block.proofs.LineTables.{le16-drop}
 use Rattle.block.proofs.Within.{some-line, some-entry, first-none}
 use Rattle.block.proofs.Tabling.{run-first}
 use Rattle.converter.specs.Entries.{entryLine, remarksText, notedText, entriesText}
-use Rattle.converter.specs.Show.{numberLine, slotComments, mainText, variationHead, variationText, linesText, ShownLines}
+use Rattle.converter.specs.Show.{numberLine, slotComments, mainText, variationHead, variationText, linesText}
+use Rattle.converter.specs.inner.Lines.{ShownLines}
 use Rattle.converter.proofs.Runs.{remarks-none}
 
 -- a number of an entry's row

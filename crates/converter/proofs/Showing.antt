@@ -12,10 +12,11 @@ use Rattle.jkf.specs.declared.Answer.the-variants.{Done, BufferShort, NotSound,
 use Rattle.jkf.specs.Model.{Record}
 use Rattle.block.specs.Decode.{decode}
 use Rattle.block.specs.Sound.{soundb}
-use Rattle.converter.specs.Headers.{headersOf, headersText}
+use Rattle.converter.specs.Headers.{headersText}
+use Rattle.converter.specs.inner.Places.{storedHeaders}
 use Rattle.converter.specs.Diagrams.{positionText}
 use Rattle.converter.specs.Show.{text, refused, onObstacle, handsObstacle, linesObstacle, linesText, recordText, leftOut, showLines, show}
-use Rattle.converter.specs.Writing.{filledWith, shownOf, writeOf}
+use Rattle.converter.specs.Writing.{textStored, shownOf, writeOf}
 use Rattle.converter.specs.declared.Obstacle.{Obstacle}
 use Rattle.converter.specs.declared.Obstacle.the-variants.{At, Clear}
 use Rattle.lent.proofs.Room.{room-as, room-front}
@@ -47,7 +48,7 @@ module _ (r : Record) (o : List ℕ) where
   lines-refused line entry e =
       ap (λ (h : Obstacle). shownOf (onObstacle h (λ l n. refused (CannotWrite l n)) (text (recordText r) (leftOut (r .lines)))) o) e
 
-  pub lines-clear : linesObstacle (r .lines) ≡ Clear → shownOf (showLines r) o ≡ filledWith (recordText r) (leftOut (r .lines)) o
+  pub lines-clear : linesObstacle (r .lines) ≡ Clear → shownOf (showLines r) o ≡ textStored (recordText r) (leftOut (r .lines)) o
   unfolding showLines shownOf
   lines-clear e =
       ap (λ (h : Obstacle). shownOf (onObstacle h (λ l n. refused (CannotWrite l n)) (text (recordText r) (leftOut (r .lines)))) o) e
@@ -55,18 +56,18 @@ module _ (r : Record) (o : List ℕ) where
 -- ---- a text that is written, or does not fit
 
 module _ (t : List ℕ) (left : ℕ) (o : List ℕ) where
-  pub too-short : length o < length t → filledWith t left o ≡ refuse (BufferShort (length t)) o
-  unfolding filledWith
+  pub too-short : length o < length t → textStored t left o ≡ refuse (BufferShort (length t)) o
+  unfolding textStored
   too-short h = rw (lt-ltb _ _ h)
 
-  pub has-room : length t ≤ length o → filledWith t left o ≡ record { answer = Done (length t) left; buffer = t ++ drop (length t) o }
-  unfolding filledWith
+  pub has-room : length t ≤ length o → textStored t left o ≡ record { answer = Done (length t) left; buffer = t ++ drop (length t) o }
+  unfolding textStored
   has-room h = rw (le-ltb _ _ h)
 
 -- ---- the text
 
 pub record-is : (b : List ℕ)
-    → recordText (decode b) ≡ (headersText (headersOf b) ++ positionText (positionIn (drop 28 b))) ++ linesText (decode b .lines)
+    → recordText (decode b) ≡ (headersText (storedHeaders b) ++ positionText (positionIn (drop 28 b))) ++ linesText (decode b .lines)
 unfolding recordText decode
 record-is b = refl
 
@@ -76,9 +77,9 @@ position-is b = refl
 
 -- room for the text is room for its header, for the position after it, and for the lines after both
 pub record-room : (b : List ℕ) {n : ℕ} → length (recordText (decode b)) ≤ n
-    → (length (headersText (headersOf b)) ≤ n) × (length (headersText (headersOf b) ++ positionText (positionIn (drop 28 b))) ≤ n) × (length ((headersText (headersOf b) ++ positionText (positionIn (drop 28 b))) ++ linesText (decode b .lines)) ≤ n)
+    → (length (headersText (storedHeaders b)) ≤ n) × (length (headersText (storedHeaders b) ++ positionText (positionIn (drop 28 b))) ≤ n) × (length ((headersText (storedHeaders b) ++ positionText (positionIn (drop 28 b))) ++ linesText (decode b .lines)) ≤ n)
 record-room b {n} r =
-    let h = headersText (headersOf b) in
+    let h = headersText (storedHeaders b) in
     let p = positionText (positionIn (drop 28 b)) in
     let all = room-as (sym (record-is b)) r in
     let two = room-front (h ++ p) (linesText (decode b .lines)) all in

@@ -15,8 +15,9 @@ use Rattle.lent.specs.Numbers.{decimal, padded}
 use Rattle.lent.proofs.Digits.{decimal-one, decimal-more, decimal-length-one, padded-some, digits-three}
 use Rattle.text.specs.Text.{wideSpace}
 use Rattle.spell.specs.Tables.{moveKinds, numerals, files}
-use Rattle.spell.specs.Spell.{spelled, keyOf, bytesOf, key}
-use Rattle.spell.proofs.Keys.{bytes-key, numeral-bytes, kind-bytes}
+use Rattle.spell.specs.Spell.{spelled, codeOf, code}
+use Rattle.spell.specs.inner.Codes.{bytesOf}
+use Rattle.spell.proofs.Codes.{bytes-key, numeral-bytes, kind-bytes}
 use Rattle.spell.proofs.Written.{file-bytes, promoted-bytes}
 use Rattle.block.specs.EntryBytes.{marked, clockOf, timeIn, targetIn, originIn, moveIn, entryIn}
 use Rattle.jkf.specs.declared.Clock.the-variants.{Hms, Ms}
@@ -24,10 +25,10 @@ use Rattle.jkf.specs.declared.Time.the-variants.{Untimed, Timed}
 use Rattle.jkf.specs.declared.Target.the-variants.{Same, Square}
 use Rattle.jkf.specs.declared.Origin.the-variants.{Unknown, From}
 use Rattle.jkf.specs.declared.Entry.{Entry}
-use Rattle.jkf.specs.declared.Entry.the-variants.{Play}
+use Rattle.jkf.specs.declared.Entry.the-variants.{Moved}
 use Rattle.spell.specs.Words.{sameWord, promotes}
-use Rattle.converter.specs.Entries.{targetText, promoteText, originText, moveText, moveWidth, nowText, totalText, timeText, playText, widthOf, entryLine, padding, within, targetFits, timeFits, canWrite}
-use Rattle.converter.specs.Usuals.{UsualRow, isLong, spaced, startText, nameText, clocksText}
+use Rattle.converter.specs.Entries.{targetText, promoteText, originText, moveText, moveWidth, nowText, totalText, timeText, playText, widthOf, entryLine, timePadding, within, targetFits, timeFits, canWrite}
+use Rattle.converter.specs.inner.Usuals.{UsualRow, isLong, spaced, startText, nameText, clocksText}
 use Rattle.lent.proofs.Room.{room-front, room-as}
 use Rattle.converter.proofs.Lengthy.{padded-wide, figure-two, place-three, kind-plain, kind-long, same-length, square-length, promote-three, promote-none, from-length, move-length, now-parts, total-parts, timed-length, entry-parts}
 
@@ -131,7 +132,7 @@ module _ (row : List ℕ) (u : UsualRow row) where
       go (no n) = subst P (sym (u .target n .marks)) a
 
   -- it is a move
-  play-is : entryIn row ≡ Play (moveIn row)
+  play-is : entryIn row ≡ Moved (moveIn row)
   unfolding entryIn
   play-is = rw (u .sort)
 
@@ -266,7 +267,7 @@ module _ (row : List ℕ) (u : UsualRow row) where
         figure-two z (omega arith) 48,
       )
 
-  -- all but the kind, its promotion and the padding
+  -- all but the kind, its promotion and the timePadding
   usual-parts : (ply : ℕ) → ply < 1000
       → length (entryLine ply (entryIn row))
       ≡ 32 + length (spelled moveKinds (getD row 2 0)) + length (promoteText (getD row 3 0)) + (13 - moveWidth (moveIn row))
@@ -277,7 +278,7 @@ module _ (row : List ℕ) (u : UsualRow row) where
       omega (
         arith,
         ap (λ (e : Entry). length (entryLine ply e)) play-is,
-        entry-parts ply (Play (moveIn row)),
+        entry-parts ply (Moved (moveIn row)),
         padded-wide 4 ply (omega (arith, digits-three ply h)) 32,
         move-length (moveIn row),
         target-six,
@@ -329,7 +330,7 @@ module _ (row : List ℕ) (u : UsualRow row) where
   file-square {k} n e =
       let x = getD row 4 0 in
       let h = u .target n .file in
-      let f : k ≡ keyOf 239 188 (144 + x) = omega arith in
+      let f : k ≡ codeOf 239 188 (144 + x) = omega arith in
       ap bytesOf f ∙ bytes-key 239 188 (144 + x) (omega arith) (omega arith) (omega arith) ∙ sym (file-bytes x (h .0) (h .1)) ∙ rw (ne-eqb (getD row 8 0) 23 n)
 
   -- the space after 同
@@ -337,7 +338,7 @@ module _ (row : List ℕ) (u : UsualRow row) where
   rank-same m e = ap bytesOf e ∙ rw m
 
   -- a rank
-  pub rank-square : {k : ℕ} → (getD row 8 0 ≡ 23 → ⊥) → k ≡ key (spelled numerals (getD row 5 0)) → bytesOf k ≡ rankText row
+  pub rank-square : {k : ℕ} → (getD row 8 0 ≡ 23 → ⊥) → k ≡ code (spelled numerals (getD row 5 0)) → bytesOf k ≡ rankText row
   rank-square n e = let h = u .target n .rank in numeral-bytes e (h .0) (h .1) ∙ rw (ne-eqb (getD row 8 0) 23 n)
 
   -- the two are the target
@@ -363,13 +364,13 @@ module _ (row : List ℕ) (u : UsualRow row) where
   unfolding originText
   origin-text = let (h, k) = u .origin in sym (rw (origin-is, decimal-one (getD row 6 0) (omega arith), decimal-one (getD row 7 0) (omega arith)))
 
-  -- a name, the origin and the padding
+  -- a name, the origin and the timePadding
   name-text : {t : List ℕ} {n : ℕ} → t ≡ spelled moveKinds (getD row 2 0) ++ promoteText (getD row 3 0) → n ≡ moveWidth (moveIn row)
-      → (t ++ (40 ∷ (48 + getD row 6 0) ∷ (48 + getD row 7 0) ∷ 41 ∷ [])) ++ padding n ≡ nameText row
+      → (t ++ (40 ∷ (48 + getD row 6 0) ∷ (48 + getD row 7 0) ∷ 41 ∷ [])) ++ timePadding n ≡ nameText row
   unfolding nameText
   name-text {n = n} e w =
-      ap₂ (λ (t o : List ℕ). (t ++ o) ++ padding n) e origin-text
-      ∙ ap (λ (i : ℕ). ((spelled moveKinds (getD row 2 0) ++ promoteText (getD row 3 0)) ++ originText (originIn row)) ++ padding i) w
+      ap₂ (λ (t o : List ℕ). (t ++ o) ++ timePadding n) e origin-text
+      ∙ ap (λ (i : ℕ). ((spelled moveKinds (getD row 2 0) ++ promoteText (getD row 3 0)) ++ originText (originIn row)) ++ timePadding i) w
 
   -- a kind that does not promote stands alone
   not-promoted : (getD row 3 0 ≡ 2 → ⊥) → spelled moveKinds (getD row 2 0) ++ promoteText (getD row 3 0) ≡ spelled moveKinds (getD row 2 0)
@@ -377,22 +378,22 @@ module _ (row : List ℕ) (u : UsualRow row) where
   not-promoted n = rw (ne-eqb (getD row 3 0) 2 n) (append-nil (spelled moveKinds (getD row 2 0)))
 
   -- a name of one character
-  pub short-text : (k : ℕ) → isLong row ≡ false → k ≡ key (spelled moveKinds (getD row 2 0))
+  pub short-text : (k : ℕ) → isLong row ≡ false → k ≡ code (spelled moveKinds (getD row 2 0))
       → bytesOf k ++ (40 ∷ (48 + getD row 6 0) ∷ (48 + getD row 7 0) ∷ 41 ∷ 32 ∷ 32 ∷ 32 ∷ []) ≡ nameText row
   short-text k e f =
       let (h, n) = short-is e in
       name-text (kind-bytes f (u .name .kind) h ∙ sym (not-promoted n)) (sym (width-short e))
 
   -- the first character of a kind: 成 where it has two
-  pub first-kind : {k : ℕ} → k ≡ key (spelled moveKinds (getD row 2 0)) → bytesOf k ≡ firstText row
+  pub first-kind : {k : ℕ} → k ≡ code (spelled moveKinds (getD row 2 0)) → bytesOf k ≡ firstText row
   first-kind {k} e = go (decLt 9 (getD row 2 0))
     where
       go : Dec (9 < getD row 2 0) → bytesOf k ≡ firstText row
-      go (yes h) = let (m, n) = u .name .long h in ap bytesOf (e ∙ ap key (promoted-bytes (getD row 2 0) h m)) ∙ rw (lt-ltb 9 (getD row 2 0) h)
+      go (yes h) = let (m, n) = u .name .long h in ap bytesOf (e ∙ ap code (promoted-bytes (getD row 2 0) h m)) ∙ rw (lt-ltb 9 (getD row 2 0) h)
       go (no h) = let l : getD row 2 0 ≤ 9 = omega arith in kind-bytes e (u .name .kind) l ∙ rw (le-ltb 9 (getD row 2 0) l)
 
   -- and the kind that this promotes
-  pub second-kind : {k : ℕ} → 9 < getD row 2 0 → k ≡ key (spelled moveKinds (getD row 2 0 - 8)) → bytesOf k ≡ secondText row
+  pub second-kind : {k : ℕ} → 9 < getD row 2 0 → k ≡ code (spelled moveKinds (getD row 2 0 - 8)) → bytesOf k ≡ secondText row
   second-kind h e = let (m, n) = u .name .long h in kind-bytes e (omega arith) (omega arith) ∙ rw (lt-ltb 9 (getD row 2 0) h)
 
   -- 成 after the kind

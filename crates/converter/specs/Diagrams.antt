@@ -37,8 +37,8 @@ abbrev pub orNone : List ℕ → List ℕ
 orNone t = pick (eqb (length t) 0) noneTag t
 
 -- Side, の持駒：, what it holds, LF.
-unfoldable pub handLine : List ℕ → ℕ → List ℕ
-handLine hands side = ((spelled sides side ++ handsTag) ++ orNone (allHeld hands side)) ++ (10 ∷ [])
+unfoldable pub handLineText : List ℕ → ℕ → List ℕ
+handLineText hands side = ((spelled sides side ++ handsTag) ++ orNone (allHeld hands side)) ++ (10 ∷ [])
 
 -- ---- the diagram
 
@@ -51,15 +51,15 @@ unfoldable pub cellsText : List ℕ → ℕ → List ℕ
 cellsText cells rank = concat (λ i. cellText (getD cells (9 * (8 - i) + rank) 0)) (range 0 9)
 
 -- |, cells, |, the rank, LF.
-unfoldable pub rowText : List ℕ → ℕ → List ℕ
-rowText cells rank = ((124 ∷ []) ++ cellsText cells rank) ++ (((124 ∷ []) ++ spelled numerals (rank + 1)) ++ (10 ∷ []))
+unfoldable pub boardRow : List ℕ → ℕ → List ℕ
+boardRow cells rank = ((124 ∷ []) ++ cellsText cells rank) ++ (((124 ∷ []) ++ spelled numerals (rank + 1)) ++ (10 ∷ []))
 
-unfoldable pub rowsText : List ℕ → List ℕ
-rowsText cells = concat (rowText cells) (range 0 9)
+unfoldable pub boardRows : List ℕ → List ℕ
+boardRows cells = concat (boardRow cells) (range 0 9)
 
 -- Both head lines, the rows, the foot line.
 unfoldable pub boardText : List ℕ → List ℕ
-boardText cells = ((((filesTag ++ (10 ∷ [])) ++ ruleTag) ++ (10 ∷ [])) ++ rowsText cells) ++ (ruleTag ++ (10 ∷ []))
+boardText cells = ((((filesTag ++ (10 ∷ [])) ++ ruleTag) ++ (10 ∷ [])) ++ boardRows cells) ++ (ruleTag ++ (10 ∷ []))
 
 -- 後手番 for White; nothing for Black.
 unfoldable pub turnText : ℕ → List ℕ
@@ -68,7 +68,7 @@ turnText turn = pick (eqb turn 1) ((spelled sides 1 ++ turnTag) ++ (10 ∷ [])) 
 -- White's hand stands above the board, Black's below it.                                              (the Rust's write_initial_data)
 unfoldable pub diagramText : Position → List ℕ
 diagramText p =
-    (((presetLine 16 ++ handLine (p .hands) 1) ++ boardText (p .cells)) ++ handLine (p .hands) 0) ++ turnText (p .turn)
+    (((presetLine 16 ++ handLineText (p .hands) 1) ++ boardText (p .cells)) ++ handLineText (p .hands) 0) ++ turnText (p .turn)
 
 -- A preset where there is no diagram.                                                                 (the Rust's write_initial)
 unfoldable pub positionText : Position → List ℕ

@@ -22,7 +22,7 @@ use Rattle.jkf.specs.declared.Origin.{Origin}
 use Rattle.jkf.specs.declared.Origin.the-variants.{Unknown, From}
 use Rattle.jkf.specs.declared.Move.{Move}
 use Rattle.jkf.specs.declared.Entry.{Entry}
-use Rattle.jkf.specs.declared.Entry.the-variants.{Slot, Play, End}
+use Rattle.jkf.specs.declared.Entry.the-variants.{Slot, Moved, End}
 use Rattle.jkf.specs.Model.{Noted}
 use Rattle.block.specs.Encode.{concat}
 use Rattle.block.specs.Sound.{same}
@@ -99,23 +99,23 @@ unfoldable pub totalText : Clock → List ℕ
 totalText c = (figureText 48 58 (hour c) ++ figureText 48 58 (minute c)) ++ figureText 48 41 (second c)
 
 -- Padded by 13 less the width of what stands before it.
-abbrev pub padding : ℕ → List ℕ
-padding width = replicate (13 - width) 32
+abbrev pub timePadding : ℕ → List ℕ
+timePadding width = replicate (13 - width) 32
 
 unfoldable pub timeText : ℕ → Time → List ℕ
 timeText width Untimed = []
-timeText width (Timed now total) = (padding width ++ nowText now) ++ totalText total
+timeText width (Timed now total) = (timePadding width ++ nowText now) ++ totalText total
 
 -- ---- an entry
 
 unfoldable pub playText : Entry → List ℕ
 playText Slot = []
-playText (Play m) = moveText m
+playText (Moved m) = moveText m
 playText (End s t) = specialText s
 
 unfoldable pub widthOf : Entry → ℕ
 widthOf Slot = 0
-widthOf (Play m) = moveWidth m
+widthOf (Moved m) = moveWidth m
 widthOf (End s t) = specialWidth s
 
 -- The ply to four places, a space, the move or ending, its time, LF.
@@ -152,12 +152,12 @@ abbrev pub targetFits : Target → Bool
 targetFits Same = true
 targetFits (Square x y) = pick (within x) (within y) false
 
--- There is room for the padding.
+-- There is room for the timePadding.
 abbrev pub timeFits : ℕ → Time → Bool
 timeFits width Untimed = true
 timeFits width (Timed now total) = leb width 13
 
 unfoldable pub canWrite : Entry → Bool
 canWrite Slot = true
-canWrite (Play m) = pick (targetFits (m .to)) (timeFits (moveWidth m) (m .time)) false
+canWrite (Moved m) = pick (targetFits (m .to)) (timeFits (moveWidth m) (m .time)) false
 canWrite (End s t) = true

@@ -1,7 +1,6 @@
 -- The text of a record, or why there is none.                                                         (01, Writing, and what is lost)
 -- Assumes nothing: these are definitions.
-use Prim.Native.Nat.{ℕ, zero, suc, _+_, _-_, _/_, _%_, _≤_}
-use mathlib.Core.Path.{_≡_}
+use Prim.Native.Nat.{ℕ, zero, suc, _+_, _-_, _/_, _%_}
 use mathlib.Core.List.{List, [], _∷_, _++_}
 use lib.ListN.{length, drop, getD}
 use lib.Dec.{eqb, ltb}
@@ -12,8 +11,6 @@ use Rattle.jkf.specs.declared.Answer.the-variants.{HandCount, CannotWrite}
 use Rattle.jkf.specs.declared.Position.{Position}
 use Rattle.jkf.specs.Model.{Noted, Line, Record}
 use Rattle.block.specs.Encode.{concat}
-use Rattle.block.specs.Decode.{run, linesIn, lineIn}
-use Rattle.block.specs.Sound.{Sound}
 use Rattle.converter.specs.Headers.{headersText}
 use Rattle.converter.specs.Diagrams.{positionText}
 use Rattle.converter.specs.Entries.{remarksText, entriesText, canWrite}
@@ -113,12 +110,3 @@ showLines r = onObstacle (linesObstacle (r .lines)) (λ line entry. refused (Can
 -- The hands before the entries.                                                                        (01, Numbers of refusal: order)
 unfoldable pub show : Record → Shown
 show r = let s = showLines r in onObstacle (handsObstacle (r .position)) (λ side kind. refused (HandCount side kind)) s
-
--- ---- on the way
-
--- The first n lines of a sound block are those that are shown.
-pub record ShownLines (b : List ℕ) (n : ℕ) : Type 0 where
-  pub sound : Sound b
-  pub some : 1 ≤ n
-  pub most : n ≤ linesIn b
-  pub later : shown (run (lineIn b) 1 (linesIn b - 1)) ≡ run (lineIn b) 1 (n - 1)

@@ -12,14 +12,14 @@ use Rattle.block.specs.Sound.{soundb}
 use Rattle.converter.specs.Show.{Shown, text, refused, show}
 
 -- A text that fits stands at the front of the buffer, and nothing past it changes.
-unfoldable pub filledWith : List ℕ → ℕ → List ℕ → Outcome
-filledWith t left o =
+unfoldable pub textStored : List ℕ → ℕ → List ℕ → Outcome
+textStored t left o =
     pick (ltb (length o) (length t))
     (refuse (BufferShort (length t)) o)
     (record { answer = Done (length t) left; buffer = t ++ drop (length t) o })
 
 unfoldable pub shownOf : Shown → List ℕ → Outcome
-shownOf (text t left) o = filledWith t left o
+shownOf (text t left) o = textStored t left o
 shownOf (refused a) o = refuse a o
 
 -- Refusal 7, then 8 and 9, then 5.                                                                     (01, Numbers of refusal: order)

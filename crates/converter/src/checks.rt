@@ -13,7 +13,8 @@ ghost use Rattle.block.specs.EntryBytes.{entryIn};
 ghost use Rattle.block.specs.Decode.{run, notedIn, decode};
 ghost use Rattle.block.specs.Sound.{Sound};
 ghost use Rattle.converter.specs.Entries.{within, targetFits, timeFits, canWrite};
-ghost use Rattle.converter.specs.Show.{handObstacle, handsObstacle, entryObstacle, linesObstacle, ShownLines};
+ghost use Rattle.converter.specs.Show.{handObstacle, handsObstacle, entryObstacle, linesObstacle};
+ghost use Rattle.converter.specs.inner.Lines.{ShownLines};
 
 // The first hand count over 99.
 fn hand_obstacle(hands: &[u8]) -> Obstacle
@@ -29,7 +30,7 @@ fn hand_obstacle(hands: &[u8]) -> Obstacle
     Obstacle::Clear
 }
 
-// The same, where there is a diagram.
+// What stands in the way of writing both hands, where there is a diagram.
 pub(crate) fn hands_obstacle(p: Position) -> Obstacle
     ensures { λ r. ⌜ r ≡ handsObstacle p ⌝ }
 {
@@ -73,7 +74,7 @@ fn time_fits(width: usize, time: Time) -> bool
 }
 
 fn move_fits(m: Move) -> bool
-    ensures { λ r. ⌜ r ≡ canWrite (Entry.Play m) ⌝ }
+    ensures { λ r. ⌜ r ≡ canWrite (Entry.Moved m) ⌝ }
 {
     let to = m.to;
     let time = m.time;
@@ -88,7 +89,7 @@ fn can_write(e: Entry) -> bool
 {
     match e {
         Entry::Slot => true,
-        Entry::Play(m) => move_fits(m),
+        Entry::Moved(m) => move_fits(m),
         Entry::End(_, _) => true,
     }
 }

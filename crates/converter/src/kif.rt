@@ -18,8 +18,9 @@ ghost use Rattle.jkf.specs.Entries.{specialOf};
 ghost use Rattle.block.specs.Encode.{concat};
 ghost use Rattle.block.specs.Decode.{run, movesIn, linesIn, commentOf, notedIn, lineIn, decode};
 ghost use Rattle.block.specs.Sound.{Sound};
-ghost use Rattle.converter.specs.Entries.{targetText, promoteText, originText, moveText, kindWidth, promoteWidth, originWidth, moveWidth, specialWidth, hour, minute, second, figureText, nowText, totalText, padding, timeText, playText, widthOf, entryLine, starText, remarkText, remarksText, notedText, entriesText};
-ghost use Rattle.converter.specs.Show.{mainText, variationHead, variationText, linesText, ShownLines};
+ghost use Rattle.converter.specs.Entries.{targetText, promoteText, originText, moveText, kindWidth, promoteWidth, originWidth, moveWidth, specialWidth, hour, minute, second, figureText, nowText, totalText, timePadding, timeText, playText, widthOf, entryLine, starText, remarkText, remarksText, notedText, entriesText};
+ghost use Rattle.converter.specs.Show.{mainText, variationHead, variationText, linesText};
+ghost use Rattle.converter.specs.inner.Lines.{ShownLines};
 
 // 同 and a wide space, or a file and a rank.
 fn put_target(out: &mut [u8], to: Target) -> usize
@@ -85,7 +86,7 @@ fn put_play(out: &mut [u8], e: Entry) -> usize
 {
     match e {
         Entry::Slot => 0,
-        Entry::Play(m) => put_move(out, m),
+        Entry::Moved(m) => put_move(out, m),
         Entry::End(s, _) => spell::put_special(out, jkf::number_of(s)),
     }
 }
@@ -143,7 +144,7 @@ pub(crate) fn width_of(e: Entry) -> usize
 {
     match e {
         Entry::Slot => 0,
-        Entry::Play(m) => move_width(m),
+        Entry::Moved(m) => move_width(m),
         Entry::End(s, _) => special_width(jkf::number_of(s)),
     }
 }
@@ -219,8 +220,8 @@ fn put_time(out: &mut [u8], width: usize, time: Time) -> usize
 }
 
 fn put_padding(out: &mut [u8], width: usize) -> usize
-    requires { ⌜ length (padding width) ≤ length (now out) ⌝ }
-    ensures { λ r. ⌜ Wrote (padding width) (now (out .entry)) (now (out .exit)) r ⌝ }
+    requires { ⌜ length (timePadding width) ≤ length (now out) ⌝ }
+    ensures { λ r. ⌜ Wrote (timePadding width) (now (out .entry)) (now (out .exit)) r ⌝ }
 {
     if 13 <= width {
         return 0;

@@ -25,10 +25,12 @@ ghost use Rattle.jkf.specs.Entries.{specialOf};
 ghost use Rattle.block.specs.Encode.{concat};
 ghost use Rattle.block.specs.Decode.{run, movesIn, linesIn, entryCount, commentOf, notedIn, lineIn, decode};
 ghost use Rattle.block.specs.Sound.{Sound};
-ghost use Rattle.converter.specs.Headers.{headersOf, headersText};
+ghost use Rattle.converter.specs.Headers.{headersText};
+ghost use Rattle.converter.specs.inner.Places.{storedHeaders};
 ghost use Rattle.converter.specs.Diagrams.{positionText};
 ghost use Rattle.converter.specs.Entries.{targetText, promoteText, originText, moveText, specialText, nowText, totalText, timeText, playText, entryLine, remarkText, remarksText, notedText, entriesText};
-ghost use Rattle.converter.specs.Show.{mainText, variationText, recordText, ShownLines};
+ghost use Rattle.converter.specs.Show.{mainText, variationText, recordText};
+ghost use Rattle.converter.specs.inner.Lines.{ShownLines};
 
 // A number to a width.
 fn padded_length(v: u64, width: usize) -> usize
@@ -112,7 +114,7 @@ fn play_length(e: Entry) -> usize
 {
     match e {
         Entry::Slot => 0,
-        Entry::Play(m) => move_length(m),
+        Entry::Moved(m) => move_length(m),
         Entry::End(s, _) => special_length(jkf::number_of(s)),
     }
 }
@@ -274,7 +276,7 @@ fn position_length(p: Position) -> usize
 // The header: each entry has a ： and an LF.
 fn headers_length(b: &[u8]) -> usize
     requires { ⌜ Sound (now b) ⌝ }
-    ensures { λ r. ⌜ (r ≡ length (headersText (headersOf (now (b .entry))))) × (r ≤ 10000000000) ⌝ }
+    ensures { λ r. ⌜ (r ≡ length (headersText (storedHeaders (now (b .entry))))) × (r ≤ 10000000000) ⌝ }
 {
     block::header_bytes(b) + 4 * block::headers_in(b)
 }

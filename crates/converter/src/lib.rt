@@ -20,8 +20,9 @@ ghost use lib.ListN.{length};
 ghost use Rattle.lent.specs.Bytes.{Wrote};
 ghost use Rattle.block.specs.Decode.{decode};
 ghost use Rattle.block.specs.Sound.{Sound};
-ghost use Rattle.converter.specs.Show.{ShownLines, recordText, leftOut, showLines, show};
-ghost use Rattle.converter.specs.Writing.{filledWith, shownOf, writeOf};
+ghost use Rattle.converter.specs.Show.{recordText, leftOut, showLines, show};
+ghost use Rattle.converter.specs.inner.Lines.{ShownLines};
+ghost use Rattle.converter.specs.Writing.{textStored, shownOf, writeOf};
 
 // Two figures that say what cannot be written, or that all can.
 pub enum Obstacle {
@@ -42,8 +43,8 @@ fn put_record(out: &mut [u8], b: &[u8], lines: usize) -> usize
 // A block of which all can be written.
 fn write_all(b: &[u8], lines: usize, out: &mut [u8]) -> Answer
     requires { ⌜ ShownLines (now b) lines ⌝ }
-    ensures { λ r. ⌜ r ≡ filledWith (recordText (decode (now (b .entry)))) (leftOut (decode (now (b .entry)) .lines)) (now (out .entry)) .answer ⌝ }
-    ensures { λ _. ⌜ now (out .exit) ≡ filledWith (recordText (decode (now (b .entry)))) (leftOut (decode (now (b .entry)) .lines)) (now (out .entry)) .buffer ⌝ }
+    ensures { λ r. ⌜ r ≡ textStored (recordText (decode (now (b .entry)))) (leftOut (decode (now (b .entry)) .lines)) (now (out .entry)) .answer ⌝ }
+    ensures { λ _. ⌜ now (out .exit) ≡ textStored (recordText (decode (now (b .entry)))) (leftOut (decode (now (b .entry)) .lines)) (now (out .entry)) .buffer ⌝ }
 {
     let needed = text_length(b, lines);
     if out.len() < needed {

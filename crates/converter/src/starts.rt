@@ -12,8 +12,9 @@ ghost use Rattle.spell.specs.Spell.{spelled};
 ghost use Rattle.spell.specs.Count.{countText};
 ghost use Rattle.block.specs.Encode.{concat};
 ghost use Rattle.block.specs.Sound.{Sound};
-ghost use Rattle.converter.specs.Headers.{headerLine, linesOf, headersOf, headersText, Placed, range};
-ghost use Rattle.converter.specs.Diagrams.{presetLine, heldText, allHeld, orNone, handLine, cellText, cellsText, rowText, rowsText, boardText, turnText, diagramText, positionText};
+ghost use Rattle.converter.specs.Headers.{headerLine, linesOf, headersText, range};
+ghost use Rattle.converter.specs.inner.Places.{storedHeaders, Placed};
+ghost use Rattle.converter.specs.Diagrams.{presetLine, heldText, allHeld, orNone, handLineText, cellText, cellsText, boardRow, boardRows, boardText, turnText, diagramText, positionText};
 
 // The line of a header entry.
 fn put_header(out: &mut [u8], key: &[u8], value: &[u8]) -> usize
@@ -47,8 +48,8 @@ fn leading_places(b: &[u8]) -> [u16; 12]
 
 // The header entries with leading keys, in the order of these.
 fn put_leading(out: &mut [u8], b: &[u8], places: &[u16]) -> usize
-    requires { ⌜ Placed (now b) (now places) × (length (concat (λ n. linesOf n (headersOf (now b))) (range 1 12)) ≤ length (now out)) ⌝ }
-    ensures { λ r. ⌜ Wrote (concat (λ n. linesOf n (headersOf (now (b .entry)))) (range 1 12)) (now (out .entry)) (now (out .exit)) r ⌝ }
+    requires { ⌜ Placed (now b) (now places) × (length (concat (λ n. linesOf n (storedHeaders (now b))) (range 1 12)) ≤ length (now out)) ⌝ }
+    ensures { λ r. ⌜ Wrote (concat (λ n. linesOf n (storedHeaders (now (b .entry)))) (range 1 12)) (now (out .entry)) (now (out .exit)) r ⌝ }
 {
     let texts = block::texts_of(b);
     let mut at = 0;
@@ -70,8 +71,8 @@ fn put_leading(out: &mut [u8], b: &[u8], places: &[u16]) -> usize
 
 // The others, in their own order.
 fn put_others(out: &mut [u8], b: &[u8]) -> usize
-    requires { ⌜ length (linesOf 0 (headersOf (now b))) ≤ length (now out) ⌝ }
-    ensures { λ r. ⌜ Wrote (linesOf 0 (headersOf (now (b .entry)))) (now (out .entry)) (now (out .exit)) r ⌝ }
+    requires { ⌜ length (linesOf 0 (storedHeaders (now b))) ≤ length (now out) ⌝ }
+    ensures { λ r. ⌜ Wrote (linesOf 0 (storedHeaders (now (b .entry)))) (now (out .entry)) (now (out .exit)) r ⌝ }
 {
     let count = block::headers_in(b);
     let texts = block::texts_of(b);
@@ -90,8 +91,8 @@ fn put_others(out: &mut [u8], b: &[u8]) -> usize
 
 // The header.   (the Rust's write_header)
 pub(crate) fn put_headers(out: &mut [u8], b: &[u8]) -> usize
-    requires { ⌜ Sound (now b) × (length (headersText (headersOf (now b))) ≤ length (now out)) ⌝ }
-    ensures { λ r. ⌜ Wrote (headersText (headersOf (now (b .entry)))) (now (out .entry)) (now (out .exit)) r ⌝ }
+    requires { ⌜ Sound (now b) × (length (headersText (storedHeaders (now b))) ≤ length (now out)) ⌝ }
+    ensures { λ r. ⌜ Wrote (headersText (storedHeaders (now (b .entry)))) (now (out .entry)) (now (out .exit)) r ⌝ }
 {
     let places = leading_places(b);
     let n = put_leading(out, b, &places);
@@ -148,7 +149,7 @@ fn put_all_held(out: &mut [u8], hands: &[u8], side: usize) -> usize
     at
 }
 
-// The same, or that it holds nothing.
+// All that a side holds, or that it holds nothing.
 fn put_hand(out: &mut [u8], hands: &[u8], side: usize) -> usize
     requires { ⌜ (side ≤ 1) × (length (orNone (allHeld (now hands) side)) ≤ length (now out)) ⌝ }
     ensures { λ r. ⌜ Wrote (orNone (allHeld (now (hands .entry)) side)) (now (out .entry)) (now (out .exit)) r ⌝ }
@@ -162,8 +163,8 @@ fn put_hand(out: &mut [u8], hands: &[u8], side: usize) -> usize
 
 // The line of a side's hand.
 fn put_hand_line(out: &mut [u8], hands: &[u8], side: usize) -> usize
-    requires { ⌜ (side ≤ 1) × (length (handLine (now hands) side) ≤ length (now out)) ⌝ }
-    ensures { λ r. ⌜ Wrote (handLine (now (hands .entry)) side) (now (out .entry)) (now (out .exit)) r ⌝ }
+    requires { ⌜ (side ≤ 1) × (length (handLineText (now hands) side) ≤ length (now out)) ⌝ }
+    ensures { λ r. ⌜ Wrote (handLineText (now (hands .entry)) side) (now (out .entry)) (now (out .exit)) r ⌝ }
 {
     let n = spell::put_side(out, side as u8);
     let m = lent::put_at(out, n, b"\xe3\x81\xae\xe6\x8c\x81\xe9\xa7\x92\xef\xbc\x9a");
@@ -223,8 +224,8 @@ fn put_row_end(out: &mut [u8], rank: usize) -> usize
 
 // A row of the diagram.
 fn put_row(out: &mut [u8], cells: &[u8], rank: usize) -> usize
-    requires { ⌜ (rank < 9) × (length (rowText (now cells) rank) ≤ length (now out)) ⌝ }
-    ensures { λ r. ⌜ Wrote (rowText (now (cells .entry)) rank) (now (out .entry)) (now (out .exit)) r ⌝ }
+    requires { ⌜ (rank < 9) × (length (boardRow (now cells) rank) ≤ length (now out)) ⌝ }
+    ensures { λ r. ⌜ Wrote (boardRow (now (cells .entry)) rank) (now (out .entry)) (now (out .exit)) r ⌝ }
 {
     let n = lent::put_bytes(out, b"|");
     let m = n + put_cells(&mut out[n..], cells, rank);
@@ -232,8 +233,8 @@ fn put_row(out: &mut [u8], cells: &[u8], rank: usize) -> usize
 }
 
 fn put_rows(out: &mut [u8], cells: &[u8]) -> usize
-    requires { ⌜ length (rowsText (now cells)) ≤ length (now out) ⌝ }
-    ensures { λ r. ⌜ Wrote (rowsText (now (cells .entry))) (now (out .entry)) (now (out .exit)) r ⌝ }
+    requires { ⌜ length (boardRows (now cells)) ≤ length (now out) ⌝ }
+    ensures { λ r. ⌜ Wrote (boardRows (now (cells .entry))) (now (out .entry)) (now (out .exit)) r ⌝ }
 {
     let mut at = 0;
     let mut rank = 0;
@@ -271,8 +272,8 @@ fn put_turn(out: &mut [u8], turn: u8) -> usize
 
 // White's hand and the board.
 fn put_upper(out: &mut [u8], p: Position) -> usize
-    requires { ⌜ length ((presetLine 16 ++ handLine (p .hands) 1) ++ boardText (p .cells)) ≤ length (now out) ⌝ }
-    ensures { λ r. ⌜ Wrote ((presetLine 16 ++ handLine (p .hands) 1) ++ boardText (p .cells)) (now (out .entry)) (now (out .exit)) r ⌝ }
+    requires { ⌜ length ((presetLine 16 ++ handLineText (p .hands) 1) ++ boardText (p .cells)) ≤ length (now out) ⌝ }
+    ensures { λ r. ⌜ Wrote ((presetLine 16 ++ handLineText (p .hands) 1) ++ boardText (p .cells)) (now (out .entry)) (now (out .exit)) r ⌝ }
 {
     let hands = p.hands;
     let cells = p.cells;

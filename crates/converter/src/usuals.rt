@@ -7,12 +7,12 @@ ghost use lib.ListN.{length};
 ghost use Rattle.lent.specs.Bytes.{Wrote};
 ghost use Rattle.block.specs.EntryBytes.{entryIn};
 ghost use Rattle.converter.specs.Entries.{entryLine};
-ghost use Rattle.converter.specs.Usuals.{Aimed, Named, Left, Clocked, UsualRow, isLong, spaced, startText, nameText, clocksText};
+ghost use Rattle.converter.specs.inner.Usuals.{SpelledTarget, SpelledKind, SpelledOrigin, SpelledClocks, UsualRow, isLong, spaced, startText, nameText, clocksText};
 
 // 同, or a square of the board; with an origin, a time with no hours and a total with hours.
 fn has_target(row: &[u8]) -> bool
     requires { ⌜ 15 ≤ length (now row) ⌝ }
-    ensures { λ r. ⌜ (r ≡ true → Aimed (now (row .entry))) ⌝ }
+    ensures { λ r. ⌜ (r ≡ true → SpelledTarget (now (row .entry))) ⌝ }
 {
     if row[8] == 23 {
         return true;
@@ -29,7 +29,7 @@ fn has_target(row: &[u8]) -> bool
 // A kind of one character; or one of two, which is not promoted again.
 fn has_name(row: &[u8]) -> bool
     requires { ⌜ 15 ≤ length (now row) ⌝ }
-    ensures { λ r. ⌜ (r ≡ true → Named (now (row .entry))) ⌝ }
+    ensures { λ r. ⌜ (r ≡ true → SpelledKind (now (row .entry))) ⌝ }
 {
     if row[2] < 1 {
         return false;
@@ -46,7 +46,7 @@ fn has_name(row: &[u8]) -> bool
 // An origin of two digits.
 fn has_origin(row: &[u8]) -> bool
     requires { ⌜ 15 ≤ length (now row) ⌝ }
-    ensures { λ r. ⌜ (r ≡ true → Left (now (row .entry))) ⌝ }
+    ensures { λ r. ⌜ (r ≡ true → SpelledOrigin (now (row .entry))) ⌝ }
 {
     if 9 < row[6] {
         return false;
@@ -57,7 +57,7 @@ fn has_origin(row: &[u8]) -> bool
 // Numbers of a clock of at most two digits.
 fn has_clocks(row: &[u8]) -> bool
     requires { ⌜ 15 ≤ length (now row) ⌝ }
-    ensures { λ r. ⌜ (r ≡ true → Clocked (now (row .entry))) ⌝ }
+    ensures { λ r. ⌜ (r ≡ true → SpelledClocks (now (row .entry))) ⌝ }
 {
     if 99 < row[10] {
         return false;
@@ -140,7 +140,7 @@ fn put_start(out: &mut [u8], ply: usize, row: &[u8]) -> usize
     let rank = if row[8] == 23 {
         0xe38080
     } else {
-        spell::numeral_key(row[5])
+        spell::numeral_code(row[5])
     };
     lent::put_bytes(
         out,
@@ -165,9 +165,9 @@ fn put_long_name(out: &mut [u8], row: &[u8]) -> usize
     requires { ⌜ UsualRow (now row) × (isLong (now row) ≡ true) × (length (nameText (now row)) ≤ length (now out)) ⌝ }
     ensures { λ r. ⌜ Wrote (nameText (now (row .entry))) (now (out .entry)) (now (out .exit)) r ⌝ }
 {
-    let k = spell::kind_key(row[2]);
+    let k = spell::kind_code(row[2]);
     let l = if 9 < row[2] {
-        spell::kind_key(row[2] - 8)
+        spell::kind_code(row[2] - 8)
     } else {
         0xe68890
     };
@@ -197,7 +197,7 @@ fn put_name(out: &mut [u8], row: &[u8]) -> usize
     if is_long(row) {
         return put_long_name(out, row);
     }
-    let k = spell::kind_key(row[2]);
+    let k = spell::kind_code(row[2]);
     lent::put_bytes(
         out,
         &[

@@ -18,7 +18,7 @@ use Rattle.plays.specs.Plays.{plyAt}
 use Rattle.plays.specs.Counted.{extentAt}
 use Rattle.plays.specs.declared.Extent.{Extent}
 use Rattle.edit.specs.Edit.{playsIn, isVariation, variationOf, placeOf, putIn, none, line, changedFrom, removedFrom}
-use Rattle.edit.specs.Splicing.{relined, without, spliced, linesAfter, recordAfter, Lines, RowsFit, Adds, AllRowed}
+use Rattle.edit.specs.inner.Splicing.{relined, without, spliced, linesAfter, recordAfter, Lines, RowsFit, Adds, AllRowed}
 use Rattle.edit.proofs.Placing.{PutsIn, put-length}
 use Rattle.edit.proofs.Keeping.{still-lines}
 use Rattle.edit.proofs.Texts.{text-small, variation-says, adds-text}

@@ -10,7 +10,7 @@ use borrow.Author.Tests.{ltb-false}
 use Rattle.lists.proofs.Laws.{by-pick}
 use lib.ListN.{length, drop, length-append, length-drop}
 use Rattle.lent.specs.Bytes.{fitting}
-use Rattle.lent.specs.Regions.{put, Stored}
+use Rattle.lent.specs.Stored.{put, Stored}
 use Rattle.jkf.specs.Answers.{Outcome}
 use Rattle.jkf.specs.declared.Answer.{Answer}
 use Rattle.jkf.specs.declared.Answer.the-variants.{Done}
@@ -28,8 +28,9 @@ use Rattle.block.proofs.Tabling.{length-run, run-snoc, concat-snoc, concat-none
 use Rattle.block.proofs.Lengths.{block-length}
 use Rattle.block.proofs.Within.{key-length, value-length}
 use Rattle.block.proofs.Attached.{attach-length}
-use Rattle.filling.specs.Parts.{Headed}
-use Rattle.filling.specs.Filling.{unlessRefused, atFront, sizesOf, areSmall, lengthOf, onOpening, begun, opening, opened, Grown, grown, putHeaders, putNoted, putEntries}
+use Rattle.filling.specs.inner.Parts.{Headed}
+use Rattle.filling.specs.Filling.{unlessRefused, atFront, areSmall, lengthOf, begun, opening, opened, Grown, grown, putNoted, putEntries}
+use Rattle.filling.specs.inner.Parts.{sizesOf, onOpening, putHeaders}
 use Rattle.filling.specs.declared.Sizes.{Sizes}
 use Rattle.filling.specs.declared.Walk.{Walk}
 use Rattle.filling.specs.declared.Opening.{Opening}
@@ -37,9 +38,9 @@ use Rattle.filling.specs.declared.Opening.the-variants.{Begun, Refused}
 use Rattle.filling.proofs.Growing.{headers-put, all-then}
 use Rattle.filling.proofs.Putting.{length-is, not-begun, begun-walk, begun-total, Opens, opens, refuses, unrefused}
 use Rattle.filling.proofs.Wholes.{headers-fit, block-by-rows}
-use Rattle.plays.specs.Counted.{playEntries}
-use Rattle.edit.specs.Splicing.{relined, linesAfter, recordAfter, entriesAfter, addedSizes, sizesAfter, headersPut, withRows, beginning, beginningOf}
-use Rattle.edit.specs.Outcomes.{storedOf}
+use Rattle.plays.specs.inner.Entries.{playEntries}
+use Rattle.edit.specs.inner.Splicing.{relined, linesAfter, recordAfter, entriesAfter, addedSizes, sizesAfter, headersPut, withRows, beginning, beginningOf}
+use Rattle.edit.specs.Outcomes.{editStored}
 use Rattle.edit.proofs.Sounds.{entries-after}
 use Rattle.edit.proofs.Afresh.{after-length}
 use Rattle.edit.proofs.Measured.{entries-three, comments-three, bytes-three, sizes-same}
@@ -138,8 +139,8 @@ module _ (b : List ℕ) (s : Sound b) (p q : ℕ) (vs : List Play) (within : (p 
 
     -- refused
     pub refused-stored : (rows : List ℕ) {a : Answer} {o₁ : List ℕ} → Refused a ≡ beginning b z o → o₁ ≡ beginningOf b z rows o
-        → (a ≡ storedOf block second o .answer) × (o₁ ≡ storedOf block second o .buffer)
-    unfolding beginning beginningOf storedOf
+        → (a ≡ editStored block second o .answer) × (o₁ ≡ editStored block second o .buffer)
+    unfolding beginning beginningOf editStored
     refused-stored rows {a} {o₁} e f = go (opening z (length o)) refl e f
       where
         done : Outcome
@@ -154,8 +155,8 @@ module _ (b : List ℕ) (s : Sound b) (p q : ℕ) (vs : List Play) (within : (p 
 
     -- or filled in
     pub begun-stored : {w : Walk} {n : ℕ} {rows o₁ o₂ : List ℕ} → rows ≡ table lineRow lineStep 0 ls → Begun w n ≡ beginning b z o → o₁ ≡ beginningOf b z rows o
-        → o₂ ≡ putEntries (entriesAfter b p q (playEntries vs)) w o₁ .buffer → (Done n second ≡ storedOf block second o .answer) × (o₂ ≡ storedOf block second o .buffer)
-    unfolding beginning beginningOf storedOf
+        → o₂ ≡ putEntries (entriesAfter b p q (playEntries vs)) w o₁ .buffer → (Done n second ≡ editStored block second o .answer) × (o₂ ≡ editStored block second o .buffer)
+    unfolding beginning beginningOf editStored
     begun-stored {w} {n} {rows} {o₁} {o₂} table-is e f d = go (opening z (length o)) refl e f
       where
         done : Outcome
@@ -182,8 +183,8 @@ module _ (b : List ℕ) (s : Sound b) (p q : ℕ) (vs : List Play) (within : (p 
             )
 
 -- it keeps the buffer's length
-pub stored-size : (block : List ℕ) (second : ℕ) (o : List ℕ) → length (storedOf block second o .buffer) ≡ length o
-unfolding storedOf
+pub stored-size : (block : List ℕ) (second : ℕ) (o : List ℕ) → length (editStored block second o .buffer) ≡ length o
+unfolding editStored
 stored-size block second o =
     by-pick (λ (r : Outcome). length (r .buffer) ≡ length o) (ltb 65535 (length block)) _ _ (λ _. refl)
     (λ _. by-pick (λ (r : Outcome). length (r .buffer) ≡ length o) (ltb (length o) (length block)) _ _ (λ _. refl)

@@ -22,7 +22,7 @@ use Rattle.block.proofs.LineTables.{le16-take}
 use Rattle.block.proofs.Attached.{attach-length, attach-line, parent-first}
 use Rattle.block.proofs.LineTables.{parent-back}
 use Rattle.edit.specs.Edit.{renumbered, none, line, changedFrom}
-use Rattle.edit.specs.Splicing.{AllRowed}
+use Rattle.edit.specs.inner.Splicing.{AllRowed}
 use Rattle.edit.proofs.Nearing.{renumbered-low, renumbered-high}
 use Rattle.edit.proofs.Placing.{parent-near}
 

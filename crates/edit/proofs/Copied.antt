@@ -13,9 +13,7 @@ use Rattle.block.specs.Decode.{run, movePlace, firstComment, commentCount, keyO
 use Rattle.block.proofs.Tabling.{concat-append, concat-none, concat-more, concat-longer}
 use Rattle.filling.specs.Filling.{Grown, header, putAll, putComments, putEntry, putNoted}
 use Rattle.filling.specs.declared.Walk.{Walk}
-use Rattle.filling.proofs.Growing.{Doing, doing-start, doing-step, doing-as, doing-done}
-use Rattle.plays.specs.Plays.{noted}
-use Rattle.plays.proofs.Filled.{noted-done}
+use Rattle.filling.proofs.Growing.{noted-done, Doing, doing-start, doing-step, doing-as, doing-done}
 use Rattle.edit.proofs.Rests.{rest, rest-all, rest-none, rest-next}
 
 -- ---- a run
@@ -43,7 +41,7 @@ noted-copied b k w o {i} {n} {e} {v} {r} {o₁} {o₂} p q x y z f g =
     let x₁ : v ≡ putComments (notedIn b k .comments) w o .walk = x ∙ ap (λ (l : List (List ℕ)). putComments l w o .walk) cs in
     let y₁ : o₁ ≡ putComments (notedIn b k .comments) w o .buffer = y ∙ ap (λ (l : List (List ℕ)). putComments l w o .buffer) cs in
     let d = noted-done e (notedIn b k .comments) w o {at = 0} x₁ y₁ f g refl in
-    let z₁ : noted e (notedIn b k .comments) ≡ notedIn b k = ap (λ (u : Entry). noted u (notedIn b k .comments)) z in
+    let z₁ : record { what = e; comments = notedIn b k .comments } ≡ notedIn b k = ap (λ (u : Entry). record { what = u; comments = notedIn b k .comments }) z in
     (d .0 ∙ ap (λ (u : Noted). putNoted u w o .walk) z₁, d .1 .0 ∙ ap (λ (u : Noted). putNoted u w o .buffer) z₁)
 
 pub header-copied : (b : List ℕ) (k : ℕ) {key value : List ℕ} → key ≡ keyOf b k → value ≡ valueOf b k → header key value ≡ headerIn b (0 + k)

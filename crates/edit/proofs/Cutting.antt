@@ -15,7 +15,7 @@ use Rattle.jkf.specs.Attaching.{near, all, Play, play, starts, counts, parentIn
 use Rattle.jkf.proofs.Nears.{near-before, near-last, Hangs}
 use Rattle.block.proofs.Attached.{parent-first, parent-later}
 use Rattle.edit.specs.Edit.{notBelow, removedFrom, lowered, Kept}
-use Rattle.edit.specs.Splicing.{without, Lines}
+use Rattle.edit.specs.inner.Splicing.{without, Lines}
 use Rattle.edit.proofs.Leading.{Runs, notBelow-leads, behind}
 use Rattle.edit.proofs.Nearing.{Cut, cut-part, lowered-low, lowered-high, cut-kept, cut-before, cut-apart, cut-after, hang-moved, hung-all}
 use Rattle.edit.proofs.Placing.{each-hangs, parent-near, in-front, past-front}

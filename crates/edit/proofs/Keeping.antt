@@ -20,7 +20,7 @@ use Rattle.jkf.specs.Model.{Line}
 use Rattle.block.specs.Formed.{lineOf}
 use Rattle.block.proofs.Attached.{attach-length, attach-line, parent-first, parent-later}
 use Rattle.edit.specs.Edit.{placeOf, putIn, renumbered, none, line, changedFrom}
-use Rattle.edit.specs.Splicing.{Lines}
+use Rattle.edit.specs.inner.Splicing.{Lines}
 use Rattle.edit.proofs.Nearing.{put-kept, renumbered-low, renumbered-high, hangs-there, hang-moved, hung-all}
 use Rattle.edit.proofs.Placing.{each-hangs, parent-near, PutsIn, put-length, put-list, ply-low, ply-within, place-past, place-within, put-starts, put-counts, new-hangs, before-same, after-same}
 

@@ -15,7 +15,7 @@ use Rattle.plays.specs.Plays.{entriesAt}
 use Rattle.plays.specs.Counted.{extentAt}
 use Rattle.plays.specs.declared.Extent.{Extent}
 use Rattle.edit.specs.Edit.{variationOf}
-use Rattle.edit.specs.Splicing.{commentsWithin, bytesWithin, addedSizes, sizesAfter}
+use Rattle.edit.specs.inner.Splicing.{commentsWithin, bytesWithin, addedSizes, sizesAfter}
 use Rattle.edit.proofs.Texts.{text-small}
 
 -- ---- three lists of entries, one after the other

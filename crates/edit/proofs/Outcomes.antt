@@ -18,8 +18,8 @@ use Rattle.block.specs.Sound.{soundb}
 use Rattle.block.proofs.Tabling.{length-run}
 use Rattle.edit.proofs.Parents.{cut-fresh, insert-play}
 use Rattle.edit.specs.Edit.{playsIn, Edited, isVariation, variationOf, isPlyOf, carries, placeOf, putIn, none, line, changedFrom, insertAt, insertOn, insert, removedFrom, remove}
-use Rattle.edit.specs.Splicing.{relined, insertPlay, without}
-use Rattle.edit.specs.Outcomes.{storedOf, editedOf, putInOf, cutOf}
+use Rattle.edit.specs.inner.Splicing.{relined, insertPlay, without}
+use Rattle.edit.specs.Outcomes.{editStored, editedOf, putInOf, cutOf}
 
 -- a block says as many lines as it counts
 pub lines-counted : (b : List ℕ) → length (decode b .lines) ≡ linesIn b
@@ -35,7 +35,7 @@ module _ (r : Record) (o : List ℕ) where
     unfolding editedOf insertPlay
     parent-changes h = rw (e, lt-ltb c m h)
 
-    pub none-changes : m ≤ c → editedOf (insertPlay r n v) o ≡ storedOf (encode (relined r (putIn n v (playsIn (r .lines))))) n o
+    pub none-changes : m ≤ c → editedOf (insertPlay r n v) o ≡ editStored (encode (relined r (putIn n v (playsIn (r .lines))))) n o
     unfolding editedOf insertPlay
     none-changes h = rw (e, le-ltb c m h)
 
@@ -98,11 +98,11 @@ module _ (b : List ℕ) (k : ℕ) (o : List ℕ) where
   ps = playsIn (decode b .lines)
 
   pub removed : (k ≡ 0 → ⊥) → k < linesIn b
-      → editedOf (remove (decode b) k) o ≡ storedOf (encode (relined (decode b) (without k (removedFrom ps k) ps))) (removedFrom ps k) o
+      → editedOf (remove (decode b) k) o ≡ editStored (encode (relined (decode b) (without k (removedFrom ps k) ps))) (removedFrom ps k) o
   unfolding editedOf remove
   removed z h =
       rw (ne-eqb k 0 z, lines-counted b, lt-ltb k (linesIn b) h)
-      (ap (λ (x : Record). storedOf (encode x) (removedFrom ps k) o) (cut-fresh (decode b) k (removedFrom ps k)))
+      (ap (λ (x : Record). editStored (encode x) (removedFrom ps k) o) (cut-fresh (decode b) k (removedFrom ps k)))
 
   pub cut-unsound : soundb b ≡ false → cutOf b k o ≡ refuse NotSound o
   unfolding cutOf

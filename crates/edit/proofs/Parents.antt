@@ -9,7 +9,7 @@ use Rattle.jkf.specs.Model.{Line, Record}
 use Rattle.jkf.specs.Attaching.{Play, play}
 use Rattle.jkf.specs.declared.Answer.the-variants.{ParentChanges}
 use Rattle.edit.specs.Edit.{playsIn, fresh, reparented, putIn, renumbered, lowered, putLine, lineOn, edited, refused, changedFrom, onChanged, insertAt, withoutLines}
-use Rattle.edit.specs.Splicing.{relined, without, insertPlay}
+use Rattle.edit.specs.inner.Splicing.{relined, without, insertPlay}
 
 plays-append : (ls ms : List Line) → playsIn (ls ++ ms) ≡ playsIn ls ++ playsIn ms
 plays-append [] ms = refl

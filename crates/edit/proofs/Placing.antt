@@ -24,7 +24,7 @@ use Rattle.jkf.specs.Model.{Line}
 use Rattle.block.specs.Formed.{lineOf}
 use Rattle.block.proofs.Attached.{all-hang, attach-length, attach-line, parent-later}
 use Rattle.edit.specs.Edit.{isPlyOf, carries, above, placeOf, putIn, renumbered}
-use Rattle.edit.specs.Splicing.{Lines}
+use Rattle.edit.specs.inner.Splicing.{Lines}
 use Rattle.edit.proofs.Leading.{Runs, above-leads, behind}
 use Rattle.edit.proofs.Nearing.{near-is, Put, put-part, put-before, put-new, put-after}
 

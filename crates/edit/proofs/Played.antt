@@ -18,7 +18,7 @@ use Rattle.jkf.specs.Attaching.{Play, play, playOf, starts, counts}
 use Rattle.block.specs.Decode.{run, linesIn, startOf, firstEntry, entryCount, notedIn, lineIn, decode}
 use Rattle.block.proofs.Tabling.{length-run, run-getD, drop-run, run-next, run-end, map-run}
 use Rattle.edit.specs.Edit.{playsIn, isPlyOf, carries, above, placeOf, notBelow, removedFrom}
-use Rattle.edit.specs.Splicing.{playIn}
+use Rattle.edit.specs.inner.Splicing.{playIn}
 
 -- ---- the lines of a block
 

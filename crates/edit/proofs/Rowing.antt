@@ -19,25 +19,26 @@ use lib.Dec.{eqb}
 use borrow.Author.Tests.{eq-eqb, ne-eqb}
 use Rattle.lists.specs.Pick.{pick}
 use Rattle.lent.specs.Bytes.{le16, bytes16, fitting}
-use Rattle.lent.specs.Regions.{put, Stored}
+use Rattle.lent.specs.Stored.{put, Stored}
 use Rattle.lent.proofs.Regions.{put-eq, stored-all}
 use Rattle.jkf.specs.Attaching.{near, hangs, onHang, Play, play, playOf, starts, counts, parentIn, attach}
-use Rattle.jkf.specs.Following.{startAt, countAt, parentAt, hangsBy, Linked}
+use Rattle.jkf.specs.Following.{startAt, countAt, parentAt, hangsBy}
+use Rattle.jkf.specs.inner.Linked.{Linked}
 use Rattle.jkf.specs.declared.Hang.{Hang}
 use Rattle.jkf.proofs.Nears.{near-none, near-same, near-before, hangs-followed}
 use Rattle.jkf.specs.Model.{Line}
 use Rattle.block.specs.Formed.{lineOf}
-use Rattle.block.specs.Encode.{table, concat, lineRow, lineStep, entriesOf}
+use Rattle.block.specs.Encode.{lineBytes, table, concat, lineRow, lineStep, entriesOf}
 use Rattle.block.specs.Decode.{linesIn, startOf, firstEntry, entryCount, notedIn, decode}
 use Rattle.block.proofs.Tabling.{after, table-snoc, after-adds, length-run, concat-sum, concat-next}
 use Rattle.block.proofs.LineTables.{le16-take}
-use Rattle.plays.specs.Counted.{playEntries}
+use Rattle.plays.specs.inner.Entries.{playEntries}
 use Rattle.filling.proofs.Growing.{line}
 use Rattle.block.proofs.LineTables.{start-back, count-back, parent-back}
 use Rattle.jkf.proofs.Hangings.{hangs-before}
 use Rattle.block.proofs.Attached.{no-parent, attach-length, attach-line}
 use Rattle.edit.specs.Edit.{playsIn}
-use Rattle.edit.specs.Splicing.{spliced, playIn, rowAfter, RowsFit, Rowed, Keeps, Adds, AllRowed}
+use Rattle.edit.specs.inner.Splicing.{spliced, playIn, rowAfter, RowsFit, Rowed, Keeps, Adds, AllRowed}
 use Rattle.edit.proofs.Placing.{parent-near, in-front, past-front}
 use Rattle.edit.proofs.Played.{play-is, plays-long}
 
@@ -184,11 +185,11 @@ module _ {ps : List Play} {n : ℕ} (fit : RowsFit ps n) {i e : ℕ} {rows : Lis
 -- with the parent that it has found
 pub row-stored : (rows rows′ : List ℕ) (i start first count parent r : ℕ) → 8 * (i + 1) ≤ length rows
     → parent ≡ onHang (hangsBy rows start i) (λ p e. p) 0
-    → Stored (fitting (bytes16 start ++ bytes16 first ++ bytes16 count ++ bytes16 parent) (drop (8 * i) rows)) rows rows′ (8 * i) r
+    → Stored (fitting (lineBytes start first count parent) (drop (8 * i) rows)) rows rows′ (8 * i) r
     → rows′ ≡ put rows (8 * i) (rowAfter rows i start first count)
 row-stored rows rows′ i start first count parent r h g s =
     stored-all (omega arith) s .bytes
-    ∙ ap (λ (p : ℕ). put rows (8 * i) (bytes16 start ++ bytes16 first ++ bytes16 count ++ bytes16 p)) g
+    ∙ ap (λ (p : ℕ). put rows (8 * i) (lineBytes start first count p)) g
 
 -- of a line that has entries, and of one that has none
 module _ (i start first count : ℕ) (rows rows′ : List ℕ) where

@@ -25,10 +25,10 @@ use Rattle.block.proofs.Sums.{sum-more, sum-rises, sum-within, sum-some}
 use Rattle.block.proofs.Hanging.{hang-first, hang-says}
 use Rattle.block.proofs.Tabling.{run-add, run-all, concat-append, take-run, drop-run}
 use Rattle.plays.specs.Plays.{plyAt}
-use Rattle.plays.specs.Counted.{playEntries}
+use Rattle.plays.specs.inner.Entries.{playEntries}
 use Rattle.block.proofs.Attached.{start-low, attach-length, attach-entries, attach-line, parent-first, parent-later}
 use Rattle.edit.specs.Edit.{playsIn, isVariation, variationOf, isPlyOf, carries, putIn, removedFrom}
-use Rattle.edit.specs.Splicing.{without, linesAfter, Lines, playIn, RowsFit, entriesAfter}
+use Rattle.edit.specs.inner.Splicing.{without, linesAfter, Lines, playIn, RowsFit, entriesAfter}
 use Rattle.edit.proofs.Played.{plays-are, play-is, starts-is, counts-is, plays-long}
 use Rattle.edit.proofs.Nearing.{Put, Cut, hang-moved, hung-all}
 use Rattle.edit.proofs.Placing.{PutsIn, put-length, put-list, ply-within}

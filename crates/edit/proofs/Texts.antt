@@ -10,15 +10,15 @@ use lib.Dec.{eqb, ltb}
 use borrow.Author.Tests.{ltb-false, eqb-true, eqb-false}
 use Rattle.lists.specs.Pick.{pick}
 use Rattle.lists.proofs.Laws.{pick-none, pick-both}
-use Rattle.text.specs.Utf8.{wellFormed}
+use Rattle.text.specs.Utf8.{wellFormedBytes}
 use Rattle.jkf.specs.Model.{Noted}
 use Rattle.block.specs.Encode.{concat, commentsOf, commentText}
 use Rattle.plays.specs.Plays.{entriesAt, plyAt}
-use Rattle.plays.specs.Counted.{playEntries}
+use Rattle.plays.specs.inner.Entries.{playEntries}
 use Rattle.plays.proofs.Items.{entries-within}
 use Rattle.plays.proofs.Weights.{entries-short}
 use Rattle.edit.specs.Edit.{isVariation, variationOf}
-use Rattle.edit.specs.Splicing.{Adds}
+use Rattle.edit.specs.inner.Splicing.{Adds}
 
 -- what is read takes at least as many bytes as it counts
 pub text-small : (t : List ℕ) → length t ≤ 65535
@@ -37,13 +37,13 @@ module _ (t : List ℕ) where
   es = entriesAt t 0 .state
 
   -- it is not too long, has an entry, and is UTF-8
-  pub variation-says : isVariation t ≡ true → (length t ≤ 65535) × (length es ≡ 0 → ⊥) × (wellFormed t ≡ length t)
+  pub variation-says : isVariation t ≡ true → (length t ≤ 65535) × (length es ≡ 0 → ⊥) × (wellFormedBytes t ≡ length t)
   unfolding isVariation
   variation-says h =
-      let end = pick (eqb (entriesAt t 0 .at) (length t)) (eqb (wellFormed t) (length t)) false in
+      let end = pick (eqb (entriesAt t 0 .at) (length t)) (eqb (wellFormedBytes t) (length t)) false in
       let (a, r) = pick-none (ltb 65535 (length t)) (pick (eqb (length es) 0) false end) h in
       let (b, r′) = pick-none (eqb (length es) 0) end r in
-      let (_, w) = pick-both (eqb (entriesAt t 0 .at) (length t)) (eqb (wellFormed t) (length t)) r′ in
+      let (_, w) = pick-both (eqb (entriesAt t 0 .at) (length t)) (eqb (wellFormedBytes t) (length t)) r′ in
       (ltb-false _ _ a, eqb-false _ _ b, eqb-true _ _ w)
 
   pub adds-text : Adds (variationOf t ∷ []) 0 (plyAt t 0) (length es)

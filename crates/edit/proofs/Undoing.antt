@@ -9,7 +9,7 @@ use lib.ListN.{length, take, drop, take-append-drop}
 use lib.Seq.{length-take-le, take-at, drop-at, drop-drop}
 use Rattle.jkf.specs.Attaching.{Play}
 use Rattle.edit.specs.Edit.{placeOf, putIn, notBelow, removedFrom}
-use Rattle.edit.specs.Splicing.{without}
+use Rattle.edit.specs.inner.Splicing.{without}
 use Rattle.edit.proofs.Leading.{Runs, notBelow-leads, behind}
 use Rattle.edit.proofs.Placing.{PutsIn, place-within, place-next, put-starts}
 

@@ -6,7 +6,7 @@ use mathlib.Core.Bool.{Bool, true, false}
 use lib.ListN.{length, take, drop}
 use lib.Dec.{eqb, leb, ltb}
 use Rattle.lists.specs.Pick.{pick}
-use Rattle.text.specs.Utf8.{wellFormed}
+use Rattle.text.specs.Utf8.{wellFormedBytes}
 use Rattle.jkf.specs.declared.Answer.{Answer}
 use Rattle.jkf.specs.declared.Answer.the-variants.{NoSuchPart, NotOneVariation, OutsideLine, EntryTaken, ParentChanges}
 use Rattle.jkf.specs.Model.{Line, Record}
@@ -45,9 +45,9 @@ isVariation t =
     false
     (pick (eqb (length (entriesAt t 0 .state)) 0)
     false
-    (pick (eqb (entriesAt t 0 .at) (length t)) (eqb (wellFormed t) (length t)) false))
+    (pick (eqb (entriesAt t 0 .at) (length t)) (eqb (wellFormedBytes t) (length t)) false))
 
--- Its first printed number is the ply that it starts at.
+-- The line of play of a text: its first printed number is the ply that it starts at.
 abbrev pub variationOf : List ℕ → Play
 variationOf t = play (plyAt t 0) (entriesAt t 0 .state)
 

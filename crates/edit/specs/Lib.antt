@@ -1,3 +1,3 @@
 pub mod Edit
-pub mod Splicing
 pub mod Outcomes
+pub mod inner

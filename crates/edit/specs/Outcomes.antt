@@ -13,11 +13,11 @@ use Rattle.filling.specs.Filling.{unlessRefused, atFront}
 use Rattle.edit.specs.Edit.{Edited, edited, refused, insert, remove}
 
 -- The block of the edited record stands at the front of the buffer, and nothing past it changes.
-unfoldable pub storedOf : List ℕ → ℕ → List ℕ → Outcome
-storedOf b second o = unlessRefused (length b) o (record { answer = Done (length b) second; buffer = atFront b o })
+unfoldable pub editStored : List ℕ → ℕ → List ℕ → Outcome
+editStored b second o = unlessRefused (length b) o (record { answer = Done (length b) second; buffer = atFront b o })
 
 unfoldable pub editedOf : Edited → List ℕ → Outcome
-editedOf (edited r second) o = storedOf (encode r) second o
+editedOf (edited r second) o = editStored (encode r) second o
 editedOf (refused a) o = refuse a o
 
 -- Refusal 7, then 10 to 14, then 4 and 5.                                                             (01, Numbers of refusal: order)

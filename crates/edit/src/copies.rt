@@ -8,7 +8,7 @@ ghost use Rattle.block.specs.Encode.{commentText};
 ghost use Rattle.block.specs.Decode.{run, movesIn, commentOf, notedIn};
 ghost use Rattle.block.specs.Sound.{Sound};
 ghost use Rattle.filling.specs.Filling.{putComments, putNoted, putEntries};
-ghost use Rattle.edit.specs.Splicing.{commentsWithin, bytesWithin, headersPut};
+ghost use Rattle.edit.specs.inner.Splicing.{commentsWithin, bytesWithin, headersPut};
 
 // So many comments from one on.
 fn copy_comments(b: &[u8], first: usize, count: usize, w: Walk, out: &mut [u8]) -> Walk

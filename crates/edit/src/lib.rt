@@ -25,8 +25,8 @@ ghost use Rattle.block.specs.Sound.{Sound};
 ghost use Rattle.plays.specs.Plays.{plyAt};
 ghost use Rattle.plays.specs.Counted.{extentAt};
 ghost use Rattle.edit.specs.Edit.{playsIn, isVariation, variationOf, putIn, insertOn, insert, removedFrom, remove};
-ghost use Rattle.edit.specs.Splicing.{relined, insertPlay, without, Lines};
-ghost use Rattle.edit.specs.Outcomes.{storedOf, editedOf, putInOf, cutOf};
+ghost use Rattle.edit.specs.inner.Splicing.{relined, insertPlay, without, Lines};
+ghost use Rattle.edit.specs.Outcomes.{editStored, editedOf, putInOf, cutOf};
 
 // Comments: how many, and how many bytes they have.
 pub(crate) struct Comments {
@@ -96,8 +96,8 @@ pub fn put_in(block: &[u8], line: u64, text: &[u8], out: &mut [u8]) -> Answer
 // Out of a sound block, line k and those that go with it.
 fn remove_from(b: &[u8], k: usize, out: &mut [u8]) -> Answer
     requires { ⌜ Sound (now b) × (0 < k) × (k < linesIn (now b)) ⌝ }
-    ensures { λ r. ⌜ r ≡ storedOf (encode (relined (decode (now (b .entry))) (without k (removedFrom (playsIn (decode (now (b .entry)) .lines)) k) (playsIn (decode (now (b .entry)) .lines))))) (removedFrom (playsIn (decode (now (b .entry)) .lines)) k) (now (out .entry)) .answer ⌝ }
-    ensures { λ r. ⌜ now (out .exit) ≡ storedOf (encode (relined (decode (now (b .entry))) (without k (removedFrom (playsIn (decode (now (b .entry)) .lines)) k) (playsIn (decode (now (b .entry)) .lines))))) (removedFrom (playsIn (decode (now (b .entry)) .lines)) k) (now (out .entry)) .buffer ⌝ }
+    ensures { λ r. ⌜ r ≡ editStored (encode (relined (decode (now (b .entry))) (without k (removedFrom (playsIn (decode (now (b .entry)) .lines)) k) (playsIn (decode (now (b .entry)) .lines))))) (removedFrom (playsIn (decode (now (b .entry)) .lines)) k) (now (out .entry)) .answer ⌝ }
+    ensures { λ r. ⌜ now (out .exit) ≡ editStored (encode (relined (decode (now (b .entry))) (without k (removedFrom (playsIn (decode (now (b .entry)) .lines)) k) (playsIn (decode (now (b .entry)) .lines))))) (removedFrom (playsIn (decode (now (b .entry)) .lines)) k) (now (out .entry)) .buffer ⌝ }
 {
     let n = removed_from(b, k);
     let mut rows = [0u8; 18688];

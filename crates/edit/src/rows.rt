@@ -6,18 +6,18 @@ ghost use Prim.Native.Nat.{_+_, _*_, _-_, _≤_, _<_};
 ghost use lib.ListN.{length};
 ghost use lib.Dec.{eqb, ltb};
 ghost use Rattle.lists.specs.Pick.{pick};
-ghost use Rattle.lent.specs.Regions.{put};
+ghost use Rattle.lent.specs.Stored.{put};
 ghost use Rattle.jkf.specs.Attaching.{onHang, Play};
 ghost use Rattle.jkf.specs.Following.{hangsBy};
 ghost use Rattle.block.specs.Decode.{linesIn, decode};
 ghost use Rattle.edit.specs.Edit.{playsIn, renumbered, none, line, changedFrom};
-ghost use Rattle.edit.specs.Splicing.{spliced, rowAfter, RowsFit, Rowed, Keeps, Adds, AllRowed};
+ghost use Rattle.edit.specs.inner.Splicing.{spliced, rowAfter, RowsFit, Rowed, Keeps, Adds, AllRowed};
 
 // The line that one with this start hangs on, after i rows; 0 where there is none.
 fn parent_in(rows: &[u8], i: usize, start: u64) -> u64
     ensures { λ r. ⌜ r ≡ onHang (hangsBy (now (rows .entry)) start i) (λ p e. p) 0 ⌝ }
 {
-    let Hang::On(parent, _) = jkf::attach(rows, i, start) else {
+    let Hang::On(parent, _) = jkf::hang_of(rows, i, start) else {
         return 0;
     };
     parent
@@ -29,7 +29,7 @@ fn put_row(rows: &mut [u8], i: usize, start: u64, first: usize, count: usize)
     ensures { λ _. ⌜ now (rows .exit) ≡ put (now (rows .entry)) (8 * i) (rowAfter (now (rows .entry)) i start first count) ⌝ }
 {
     let parent = parent_in(rows, i, start);
-    block::put_line(rows, 8 * i, start, first, count, parent);
+    block::put_line_row(rows, 8 * i, start, first, count, parent);
 }
 
 // Row i of a line that has entries; answers the number of the next row.

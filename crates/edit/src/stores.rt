@@ -19,8 +19,8 @@ ghost use Rattle.block.specs.Sound.{Sound, entriesBefore};
 ghost use Rattle.filling.specs.Filling.{areSmall};
 ghost use Rattle.plays.specs.Counted.{extentAt};
 ghost use Rattle.edit.specs.Edit.{variationOf};
-ghost use Rattle.edit.specs.Splicing.{linesAfter, recordAfter, sizesAfter, beginning, beginningOf};
-ghost use Rattle.edit.specs.Outcomes.{storedOf};
+ghost use Rattle.edit.specs.inner.Splicing.{linesAfter, recordAfter, sizesAfter, beginning, beginningOf};
+ghost use Rattle.edit.specs.Outcomes.{editStored};
 
 // How many entries stand before line k; all of them where there is no line k.
 fn entries_before(b: &[u8], k: usize) -> usize
@@ -82,8 +82,8 @@ pub(crate) fn store_with(
 ) -> Answer
     requires { ⌜ Sound (now b) × (n ≤ linesIn (now b)) × (length (now t) ≤ 65535) × (x ≡ extentAt (now t) 0) ⌝ }
     requires { ⌜ now rows ≡ table lineRow lineStep 0 (attach (linesAfter (now b) n n (variationOf (now t) ∷ []))) ⌝ }
-    ensures { λ r. ⌜ r ≡ storedOf (encode (recordAfter (now (b .entry)) n n (variationOf (now (t .entry)) ∷ []))) n (now (out .entry)) .answer ⌝ }
-    ensures { λ r. ⌜ now (out .exit) ≡ storedOf (encode (recordAfter (now (b .entry)) n n (variationOf (now (t .entry)) ∷ []))) n (now (out .entry)) .buffer ⌝ }
+    ensures { λ r. ⌜ r ≡ editStored (encode (recordAfter (now (b .entry)) n n (variationOf (now (t .entry)) ∷ []))) n (now (out .entry)) .answer ⌝ }
+    ensures { λ r. ⌜ now (out .exit) ≡ editStored (encode (recordAfter (now (b .entry)) n n (variationOf (now (t .entry)) ∷ []))) n (now (out .entry)) .buffer ⌝ }
 {
     let added = Sizes {
         headers: 0,
@@ -108,8 +108,8 @@ pub(crate) fn store_with(
 pub(crate) fn store_without(b: &[u8], k: usize, n: usize, rows: &[u8], out: &mut [u8]) -> Answer
     requires { ⌜ Sound (now b) × (k + n ≤ linesIn (now b)) ⌝ }
     requires { ⌜ now rows ≡ table lineRow lineStep 0 (attach (linesAfter (now b) k (k + n) [])) ⌝ }
-    ensures { λ r. ⌜ r ≡ storedOf (encode (recordAfter (now (b .entry)) k (k + n) [])) n (now (out .entry)) .answer ⌝ }
-    ensures { λ r. ⌜ now (out .exit) ≡ storedOf (encode (recordAfter (now (b .entry)) k (k + n) [])) n (now (out .entry)) .buffer ⌝ }
+    ensures { λ r. ⌜ r ≡ editStored (encode (recordAfter (now (b .entry)) k (k + n) [])) n (now (out .entry)) .answer ⌝ }
+    ensures { λ r. ⌜ now (out .exit) ≡ editStored (encode (recordAfter (now (b .entry)) k (k + n) [])) n (now (out .entry)) .buffer ⌝ }
 {
     let nothing = Sizes {
         headers: 0,

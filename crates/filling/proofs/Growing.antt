@@ -10,8 +10,8 @@ use lib.Dec.{eqb, leb}
 use borrow.Author.Tests.{le-leb}
 use Rattle.lists.specs.Pick.{pick}
 use Rattle.lists.proofs.Laws.{by-pick}
-use Rattle.lent.specs.Bytes.{bytes16}
-use Rattle.lent.specs.Regions.{Room, Filled, Stored, put}
+use Rattle.lent.specs.Stored.{Stored, put}
+use Rattle.lent.specs.inner.Regions.{Room, Filled}
 use Rattle.lent.proofs.Regions.{put-none, length-put, room-front, room-at, then-fill, then-room, as-texts, filled-under, filled-first}
 use Rattle.jkf.specs.Model.{Header, Noted, Line}
 use Rattle.jkf.specs.declared.Entry.{Entry}
@@ -19,8 +19,9 @@ use Rattle.block.specs.EntryBytes.{entryBytes}
 use Rattle.block.specs.Encode.{table, concat, headerRow, headerText, lineRow, entryRow, commentRow, entriesOf, commentsOf, commentText}
 use Rattle.block.proofs.RowPlaces.{entry-wide}
 use Rattle.filling.specs.declared.Walk.{Walk}
-use Rattle.filling.specs.Filling.{Grown, grown, hasHeader, putHeader, putLineRow, hasComment, putComment, putEntry, putAll, putHeaders, putComments, putNoted, putEntries}
-use Rattle.filling.specs.Parts.{headerTexts, commentTexts, entryTexts, lineTexts, headerEnds, commentEnds, entryEnds, lineEnds, HeadersFit, CommentsFit, EntriesFit, LineFits, Headed, Commented, Entered, Lined}
+use Rattle.filling.specs.Filling.{Grown, grown, hasHeader, putHeader, putLineRow, hasComment, putComment, putEntry, putAll, putComments, putNoted, putEntries}
+use Rattle.filling.specs.inner.Parts.{putHeaders}
+use Rattle.filling.specs.inner.Parts.{headerTexts, commentTexts, entryTexts, lineTexts, headerEnds, commentEnds, entryEnds, lineEnds, HeadersFit, CommentsFit, EntriesFit, LineFits, Headed, Commented, Entered, Lined}
 use Rattle.filling.proofs.Texts.{headers-append, comments-append, entries-append, keyed, one-header, texted, one-comment, commented, written}
 
 -- ---- the buffer keeps its length
@@ -54,12 +55,6 @@ unfolding putNoted
 noted-size e w o =
     let g = putComments (e .comments) w o in
     entry-size (e .what) (w .noted) (g .walk .noted - w .noted) (g .walk) (g .buffer) ∙ all-size putComment comment-size (e .comments) w o
-
-pub line-size : (start first count parent : ℕ) (w : Walk) (o : List ℕ) → length (putLineRow start first count parent w o .buffer) ≡ length o
-unfolding putLineRow
-line-size start first count parent w o =
-    by-pick (λ (g : Grown). length (g .buffer) ≡ length o) (leb (w .lines + 8) (length o)) _ (grown w o)
-    (λ _. length-put o (w .lines) (bytes16 start ++ bytes16 first ++ bytes16 count ++ bytes16 parent)) (λ _. refl)
 
 -- some, and then the others
 pub all-then : {X : Type 0} (one : X → Walk → List ℕ → Grown) (xs ys : List X) (w : Walk) (o : List ℕ)
@@ -244,6 +239,14 @@ module _ (x : Noted) where
           noted = omega (arith, d .noted, ap length own-comments);
           bytes = omega (arith, d .bytes, ap (λ (l : List (List ℕ)). length (commentText l)) own-comments);
         })
+
+-- ---- put by hand: the comments, and then the entry, whose bytes say how many they are
+
+pub noted-done : (e : Entry) (cs : List (List ℕ)) (w : Walk) (o : List ℕ) {v r : Walk} {o₁ o₂ : List ℕ} {at end : ℕ} → v ≡ putComments cs w o .walk → o₁ ≡ putComments cs w o .buffer
+    → r ≡ putEntry e (w .noted) (v .noted - w .noted) v o₁ .walk → o₂ ≡ putEntry e (w .noted) (v .noted - w .noted) v o₁ .buffer
+    → at ≡ end → (r ≡ putNoted (record { what = e; comments = cs }) w o .walk) × ((o₂ ≡ putNoted (record { what = e; comments = cs }) w o .buffer) × (at ≡ end))
+unfolding putNoted
+noted-done e cs w o {v} {r} {o₁} {o₂} a b c d f = (c ∙ rw (a, b), (d ∙ rw (a, b), f))
 
 -- ---- entries
 

@@ -3,9 +3,9 @@
 use Prim.Native.Nat.{ℕ, _+_, _-_, _≤_, _<_}
 use native.Mathlib.Omega.{arith}
 use mathlib.Core.Path.{_≡_, refl, sym, ap, ap₂, _∙_}
-use mathlib.Core.List.{List, _++_, append-nil}
+use mathlib.Core.List.{List, _++_}
 use mathlib.Core.Bool.{Bool, true, false}
-use lib.ListN.{length, take, drop, length-drop, drop-of-length-le}
+use lib.ListN.{length, take, drop, length-drop}
 use lib.Seq.{length-take-le, drop-drop}
 use lib.Dec.{eqb, leb, ltb}
 use borrow.Author.Tests.{leb-true, leb-false, le-leb, lt-leb, lt-ltb, le-ltb, ltb-true, ltb-false}
@@ -13,8 +13,8 @@ use Rattle.lists.specs.Pick.{pick}
 use Rattle.lists.proofs.Laws.{pick-both}
 use borrow.Rule.Slice.PartMut.{midOf, putMid}
 use Rattle.lent.specs.Bytes.{Wrote, bytes16, fitting}
-use Rattle.lent.specs.Regions.{Stored, put}
-use Rattle.lent.proofs.Writes.{wrote-all}
+use Rattle.lent.specs.Stored.{Stored, put}
+use Rattle.lent.proofs.Writes.{wrote-all, wrote-whole}
 use Rattle.lent.proofs.Regions.{length-put, put-eq, put-more, stored-all}
 use Rattle.jkf.specs.Answers.{Outcome}
 use Rattle.jkf.specs.declared.Answer.{Answer}
@@ -23,14 +23,15 @@ use Rattle.jkf.specs.declared.Entry.{Entry}
 use Rattle.jkf.specs.declared.Position.{Position}
 use Rattle.block.specs.EntryBytes.{entryBytes}
 use Rattle.block.specs.PositionBytes.{positionBytes}
-use Rattle.block.specs.Encode.{blockLength, headerRow, commentRow}
+use Rattle.block.specs.Encode.{lineBytes, blockLength, headerRow, commentRow}
 use Rattle.block.proofs.EntriesBack.{entry-length}
 use Rattle.block.proofs.Lengths.{head-length}
 use Rattle.filling.specs.declared.Sizes.{Sizes}
 use Rattle.filling.specs.declared.Walk.{Walk}
 use Rattle.filling.specs.declared.Opening.{Opening}
 use Rattle.filling.specs.declared.Opening.the-variants.{Begun, Refused}
-use Rattle.filling.specs.Filling.{unlessRefused, onOpening, areSmall, lengthOf, begun, opening, headFor, frontPut, opened, header, hasHeader, putHeader, putLineRow, hasComment, putComment, putEntry}
+use Rattle.filling.specs.Filling.{unlessRefused, areSmall, lengthOf, begun, opening, headFor, frontPut, opened, header, hasHeader, putHeader, putLineRow, hasComment, putComment, putEntry}
+use Rattle.filling.specs.inner.Parts.{onOpening}
 
 -- ---- whether something has room
 
@@ -180,7 +181,7 @@ pub part-put : (t o : List ℕ) (p n : ℕ) {y : List ℕ} {m : ℕ} → n ≡ l
 part-put t o p n {y} {m} e h w =
     let l : length (midOf p n o) ≡ n = length-take-le n (drop p o) (simp length-drop (omega arith)) in
     let v = wrote-all {t = t} (omega (arith, l, e)) w in
-    let z : y ≡ t = v .bytes ∙ ap (λ (u : List ℕ). t ++ u) (drop-of-length-le (midOf p n o) {i = m} (omega (arith, l, e, v .count))) ∙ append-nil t in
+    let z : y ≡ t = wrote-whole v (l ∙ e) in
     rw z (ap (λ (u : List ℕ). take p o ++ (t ++ u)) (drop-drop n p o ∙ ap (λ (k : ℕ). drop (p + k) o) e) ∙ sym (put-eq o p t (omega (arith, e, h))))
 
 -- ---- a comment
@@ -272,7 +273,7 @@ module _ (start first count parent : ℕ) (w : Walk) (o : List ℕ) where
   line-none n = rw n (refl, refl)
 
   pub line-done : {o₁ : List ℕ} {p : ℕ} → leb (w .lines + 8) (length o) ≡ true
-      → Stored (fitting (bytes16 start ++ bytes16 first ++ bytes16 count ++ bytes16 parent) (drop (w .lines) o)) o o₁ (w .lines) p
+      → Stored (fitting (lineBytes start first count parent) (drop (w .lines) o)) o o₁ (w .lines) p
       → (_≡_ {A = Walk}
       (record {
         headers = w .headers;
@@ -287,7 +288,7 @@ module _ (start first count parent : ℕ) (w : Walk) (o : List ℕ) where
       (putLineRow start first count parent w o .walk)) × (o₁ ≡ putLineRow start first count parent w o .buffer)
   unfolding putLineRow
   line-done {o₁} {p} a x =
-      let x₁ = stored-all {t = bytes16 start ++ bytes16 first ++ bytes16 count ++ bytes16 parent} (leb-true (w .lines + 8) (length o) a) x in
+      let x₁ = stored-all {t = lineBytes start first count parent} (leb-true (w .lines + 8) (length o) a) x in
       rw (a, x₁ .end) (refl, x₁ .bytes)
 
 -- ---- a header entry

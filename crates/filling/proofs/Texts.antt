@@ -5,11 +5,11 @@ use native.Mathlib.Omega.{arith}
 use mathlib.Core.Path.{_≡_, refl, ap, ap₂, _∙_}
 use mathlib.Core.List.{List, [], _∷_, _++_, append-nil}
 use lib.ListN.{length, length-append}
-use Rattle.lent.specs.Regions.{join}
+use Rattle.lent.specs.inner.Regions.{join}
 use Rattle.jkf.specs.Model.{Header, Noted, Line}
 use Rattle.block.specs.Encode.{table, concat, headerRow, headerStep, headerText, entryRow, entryStep, commentRow, commentStep, lineRow, lineStep, entriesOf, commentsOf, commentText}
 use Rattle.block.proofs.Tabling.{after, table-append, concat-append, after-adds}
-use Rattle.filling.specs.Parts.{headerTexts, commentTexts, entryTexts, lineTexts}
+use Rattle.filling.specs.inner.Parts.{headerTexts, commentTexts, entryTexts, lineTexts}
 
 module _ (bytes : ℕ) (xs ys : List Header) where
   header-after : after headerRow headerStep bytes xs ≡ bytes + length (headerText xs)

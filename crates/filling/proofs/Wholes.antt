@@ -7,7 +7,8 @@ use mathlib.Core.List.{List, [], _∷_, _++_, append-assoc, append-nil}
 use lib.ListN.{length, drop, length-append}
 use lib.Seq.{drop-append-add, drop-drop}
 use Rattle.lent.specs.Bytes.{fitting}
-use Rattle.lent.specs.Regions.{put, puts, moved, join, Room, Same, Filled, all, starts}
+use Rattle.lent.specs.Stored.{put}
+use Rattle.lent.specs.inner.Regions.{puts, endsPast, join, Room, SameMany, Filled, all, placesOf}
 use Rattle.lent.proofs.Regions.{same-of, filled-length, length-put, put-more, put-front, stored-all, room-front, room-at, then-fill, then-room, as-texts, whole, whole-room, put-none}
 use Rattle.block.specs.PositionBytes.{positionBytes}
 use Rattle.jkf.specs.declared.Position.{Position}
@@ -16,8 +17,9 @@ use Rattle.block.specs.Encode.{table, blockLength, headerRow, headerStep, heade
 use Rattle.block.proofs.Tabling.{table-length}
 use Rattle.block.proofs.RowPlaces.{header-wide, line-wide, entry-wide, comment-wide}
 use Rattle.block.proofs.Lengths.{head-length}
-use Rattle.filling.specs.Filling.{sizesOf, lengthOf, begun, headFor, frontPut, putEntries}
-use Rattle.filling.specs.Parts.{entryTexts, lineTexts, entryEnds, lineEnds, Headed, HeadersFit, EntriesFit, LinesFit}
+use Rattle.filling.specs.Filling.{lengthOf, begun, headFor, frontPut, putEntries}
+use Rattle.filling.specs.inner.Parts.{sizesOf}
+use Rattle.filling.specs.inner.Parts.{entryTexts, lineTexts, entryEnds, lineEnds, Headed, HeadersFit, EntriesFit, LinesFit}
 use Rattle.filling.specs.declared.Sizes.{Sizes}
 use Rattle.filling.specs.declared.Walk.{Walk}
 use Rattle.filling.proofs.Putting.{length-short}
@@ -75,7 +77,7 @@ module _ (version : ℕ) (p : Position) (hs : List Header) (ls : List Line) wher
     head-long : length head ≡ 128
     head-long = omega (arith, length-append (headFor version z) (positionBytes p), front-long, long)
 
-    places-are : Same places (starts 0 texts)
+    places-are : SameMany places (placesOf 0 texts)
     places-are =
         let a = table-length headerRow headerStep 8 header-wide 0 hs in
         let b = table-length lineRow lineStep 8 line-wide 0 ls in
@@ -196,7 +198,7 @@ module _ (version : ℕ) (p : Position) (hs : List Header) (ls : List Line) wher
             pub block-filled : {o₃ : List ℕ} → o₃ ≡ puts o₂ (lineEnds r) (lineTexts 0 0 (r .bytes) ls) → o₃ ≡ encodeFlat version (positionBytes p) hs ls es cs ++ drop n o
             block-filled {o₃} q =
                 let q₁ : o₃ ≡ puts o₂ (lineEnds r) (lineTexts 0 0 textSize ls) = q ∙ ap (λ (k : ℕ). puts o₂ (lineEnds r) (lineTexts 0 0 k ls)) bytes-are in
-                let last : Filled lastTexts o₂ o₃ afterHeaders (moved afterHeaders lastTexts) = record { bytes = q₁ ∙ simp put-none; ends = same-of {ps = moved afterHeaders lastTexts} refl } in
+                let last : Filled lastTexts o₂ o₃ afterHeaders (endsPast afterHeaders lastTexts) = record { bytes = q₁ ∙ simp put-none; ends = same-of {ps = endsPast afterHeaders lastTexts} refl } in
                 let f = as-texts texts-are (then-fill room-steps front-filled last) in
                 let e : length (all texts) ≡ n = omega (arith, all-long, size) in
                 whole (omega (arith, e, fits)) f places-are ∙ ap (λ (k : ℕ). all texts ++ drop k o) e ∙ ap (λ (l : List ℕ). l ++ drop n o) block-is

@@ -6,17 +6,17 @@ use mathlib.Core.Bool.{Bool, false}
 use lib.ListN.{length, drop}
 use lib.Dec.{eqb, leb, ltb}
 use Rattle.lists.specs.Pick.{pick}
-use Rattle.lent.specs.Bytes.{bytes16, fitting}
-use Rattle.lent.specs.Regions.{put}
+use Rattle.lent.specs.Bytes.{fitting}
+use Rattle.lent.specs.Stored.{put}
 use Rattle.jkf.specs.Answers.{Outcome, refuse}
-use Rattle.jkf.specs.Model.{Header, Noted, Line}
+use Rattle.jkf.specs.Model.{Header, Noted}
 use Rattle.jkf.specs.declared.Answer.{Answer}
 use Rattle.jkf.specs.declared.Answer.the-variants.{BlockTooLong, BufferShort}
 use Rattle.jkf.specs.declared.Entry.{Entry}
 use Rattle.jkf.specs.declared.Position.{Position}
 use Rattle.block.specs.EntryBytes.{entryBytes}
 use Rattle.block.specs.PositionBytes.{positionBytes}
-use Rattle.block.specs.Encode.{headBytes, blockLength, headerRow, headerText, commentRow, entriesOf, commentsOf, commentText}
+use Rattle.block.specs.Encode.{headBytes, blockLength, lineBytes, headerRow, commentRow}
 use Rattle.filling.specs.declared.Sizes.{Sizes}
 use Rattle.filling.specs.declared.Walk.{Walk}
 use Rattle.filling.specs.declared.Opening.{Opening}
@@ -38,17 +38,6 @@ atFront b o = b ++ drop (length b) o
 
 -- ---- the length
 
--- The sizes of a block with these header entries and lines.
-abbrev pub sizesOf : List Header → List Line → Sizes
-sizesOf hs ls =
-    record {
-      headers = length hs;
-      lines = length ls;
-      entries = length (entriesOf ls);
-      comments = length (commentsOf (entriesOf ls));
-      bytes = length (headerText hs) + length (commentText (commentsOf (entriesOf ls)));
-    }
-
 -- Sizes that can be added up in 64 bits: each below 2 to the power of 58.
 abbrev pub isSmall : ℕ → Bool
 isSmall n = leb n 288230376151711743
@@ -65,10 +54,6 @@ lengthOf z =
     pick (areSmall z) (blockLength (z .headers) (z .lines) (z .entries) (z .comments) (z .bytes)) 18446744073709551615
 
 -- ---- the front
-
-abbrev pub onOpening : {A : Type 0} → Opening → (Walk → ℕ → A) → (Answer → A) → A
-onOpening (Begun w n) f g = f w n
-onOpening (Refused a) f g = g a
 
 -- Where the parts of a block begin of which nothing is filled in.                                  (01, The block: offsets)
 unfoldable pub begun : Sizes → Walk
@@ -126,7 +111,7 @@ hasHeader key value w room =
     false)
     false
 
--- Its row at the end of the header rows; its key, and its value behind it, at the end of the texts. (01, The block: header entry, text)
+-- A header entry's row at the end of the header rows; its key, and its value behind it, at the end of the texts. (01, The block: header entry, text)
 unfoldable pub putHeader : Header → Walk → List ℕ → Grown
 putHeader h w o =
     pick (hasHeader (length (h .key)) (length (h .value)) w (length o))
@@ -159,7 +144,7 @@ putLineRow start first count parent w o =
       noted = w .noted;
       bytes = w .bytes;
     })
-    (put o (w .lines) (bytes16 start ++ bytes16 first ++ bytes16 count ++ bytes16 parent)))
+    (put o (w .lines) (lineBytes start first count parent)))
     (grown w o)
 
 -- A comment of n bytes has room.
@@ -169,7 +154,7 @@ hasComment n w room =
     (pick (leb (w .text + n) room) (pick (isNumber (w .noted + 1)) (isNumber (w .bytes + n)) false) false)
     false
 
--- Its row at the end of the comment rows, its bytes at the end of the texts.                        (01, The block: comment, text)
+-- A comment's row at the end of the comment rows, its bytes at the end of the texts.                (01, The block: comment, text)
 unfoldable pub putComment : List ℕ → Walk → List ℕ → Grown
 putComment c w o =
     pick (hasComment (length c) w (length o))
@@ -210,9 +195,6 @@ putEntry e first count w o =
 unfoldable pub putAll : {X : Type 0} → (X → Walk → List ℕ → Grown) → List X → Walk → List ℕ → Grown
 putAll one [] w o = grown w o
 putAll one (x ∷ xs) w o = let g = one x w o in putAll one xs (g .walk) (g .buffer)
-
-abbrev pub putHeaders : List Header → Walk → List ℕ → Grown
-putHeaders = putAll putHeader
 
 abbrev pub putComments : List (List ℕ) → Walk → List ℕ → Grown
 putComments = putAll putComment

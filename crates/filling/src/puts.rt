@@ -45,7 +45,7 @@ pub fn put_header(out: &mut [u8], w: Walk, key: &[u8], value: &[u8]) -> Walk
         return w;
     }
     let middle = w.bytes + key.len();
-    let headers = block::put_header(out, w.headers, w.bytes, key.len(), middle, value.len());
+    let headers = block::put_header_row(out, w.headers, w.bytes, key.len(), middle, value.len());
     let past = lent::put_at(out, w.text, key);
     let text = lent::put_at(out, past, value);
     Walk {
@@ -75,7 +75,7 @@ pub fn put_line(
     if !has_room(w.lines, 8, out.len()) {
         return w;
     }
-    let lines = block::put_line(out, w.lines, start, first, count, parent);
+    let lines = block::put_line_row(out, w.lines, start, first, count, parent);
     Walk {
         headers: w.headers,
         lines,
@@ -113,7 +113,7 @@ pub fn put_comment(out: &mut [u8], w: Walk, c: &[u8]) -> Walk
     if !has_comment(w, n, out.len()) {
         return w;
     }
-    let comments = block::put_comment(out, w.comments, w.bytes, n);
+    let comments = block::put_comment_row(out, w.comments, w.bytes, n);
     let start = w.text;
     let text = start + n;
     lent::put_bytes(&mut out[start..text], c);
@@ -147,7 +147,7 @@ pub fn put_entry(out: &mut [u8], w: Walk, e: Entry, first: usize, count: usize) 
     if !has_room(w.entries, 1, 18446744073709551615) {
         return w;
     }
-    let moves = block::put_entry(out, w.moves, e, first_comment(first, count), count);
+    let moves = block::put_entry_row(out, w.moves, e, first_comment(first, count), count);
     Walk {
         headers: w.headers,
         lines: w.lines,

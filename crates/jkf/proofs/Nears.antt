@@ -20,7 +20,8 @@ use Rattle.lists.specs.Pick.{pick}
 use Rattle.lists.proofs.Laws.{by-pick}
 use Rattle.lent.specs.Bytes.{le16}
 use Rattle.jkf.specs.Attaching.{near, hangOn, hangs, onHang}
-use Rattle.jkf.specs.Following.{startAt, countAt, parentAt, follow, followed, hangsBy, Linked}
+use Rattle.jkf.specs.Following.{startAt, countAt, parentAt, follow, followed, hangsBy}
+use Rattle.jkf.specs.inner.Linked.{Linked}
 use Rattle.jkf.specs.declared.Hang.the-variants.{On, Nowhere}
 
 -- past the end of a table every number is 0

@@ -8,7 +8,7 @@ use Rattle.jkf.specs.declared.Special.the-variants.{Toryo, Chudan, Senni
 use Rattle.jkf.specs.declared.Time.{Time}
 use Rattle.jkf.specs.declared.Time.the-variants.{Untimed}
 use Rattle.jkf.specs.declared.Entry.{Entry}
-use Rattle.jkf.specs.declared.Entry.the-variants.{Slot, Play, End}
+use Rattle.jkf.specs.declared.Entry.the-variants.{Slot, Moved, End}
 
 -- An ending's number, in the Rust's order.                                                           (01, The block: special)
 abbrev pub specialNumber : Special → ℕ
@@ -38,5 +38,5 @@ specialOf n =
 -- The time of an entry; the slot has none.
 abbrev pub timeOf : Entry → Time
 timeOf Slot = Untimed
-timeOf (Play m) = m .time
+timeOf (Moved m) = m .time
 timeOf (End s t) = t

@@ -1,12 +1,11 @@
 -- The search for a parent along the stored parents, in a table of lines in lent memory.               (01, Attaching rule)
 -- Assumes nothing: these are definitions.
-use Prim.Native.Nat.{ℕ, zero, suc, _+_, _*_, _-_, _<_}
-use mathlib.Core.Path.{_≡_}
+use Prim.Native.Nat.{ℕ, zero, suc, _+_, _*_, _-_}
 use mathlib.Core.List.{List}
 use lib.Dec.{leb, ltb}
 use Rattle.lists.specs.Pick.{pick}
 use Rattle.lent.specs.Bytes.{le16}
-use Rattle.jkf.specs.Attaching.{near, hangOn}
+use Rattle.jkf.specs.Attaching.{hangOn}
 use Rattle.jkf.specs.declared.Hang.{Hang}
 
 -- A table of lines in lent memory: rows of eight bytes, start, first entry, entry count, parent.     (01, The block: line)
@@ -33,7 +32,3 @@ followed lines s k = follow lines s k (k - 1)
 
 unfoldable pub hangsBy : List ℕ → ℕ → ℕ → Hang
 hangsBy lines s k = hangOn s (followed lines s k) (startAt lines (followed lines s k)) (countAt lines (followed lines s k))
-
--- Each of the first k lines but line 0 has the parent that the rule finds for it: so both searches find the same.
-pub record Linked (lines : List ℕ) (k : ℕ) : Type 0 where
-  pub parents : (i : ℕ) → 0 < i → i < k → parentAt lines i ≡ near (startAt lines) (startAt lines i) i

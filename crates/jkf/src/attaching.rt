@@ -43,7 +43,7 @@ pub fn nearest(lines: &[u8], k: usize, s: u64) -> usize
 }
 
 // Where a line that starts at s hangs, after k lines.   (the Rust's attach)
-pub fn attach(lines: &[u8], k: usize, s: u64) -> Hang
+pub fn hang_of(lines: &[u8], k: usize, s: u64) -> Hang
     ensures { λ r. ⌜ r ≡ hangsBy (now (lines .entry)) s k ⌝ }
 {
     let p = nearest(lines, k, s);

@@ -33,7 +33,7 @@ pub fn time_of(e: Entry) -> Time
 {
     match e {
         Entry::Slot => Time::Untimed,
-        Entry::Play(m) => m.time,
+        Entry::Moved(m) => m.time,
         Entry::End(_, t) => t,
     }
 }

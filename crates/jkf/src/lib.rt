@@ -2,7 +2,7 @@
 mod attaching;
 mod entries;
 
-pub use attaching::attach;
+pub use attaching::hang_of;
 pub use attaching::nearest;
 pub use entries::number_of;
 pub use entries::special_of;
@@ -124,7 +124,7 @@ pub struct Move {
 // An entry of a line: the initial slot, a move, or a special.   (the Rust's MoveFormat)
 pub enum Entry {
     Slot,
-    Play(Move),
+    Moved(Move),
     End(Special, Time),
 }
 

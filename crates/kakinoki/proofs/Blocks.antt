@@ -12,7 +12,8 @@ use Rattle.lists.proofs.Repeats.{many-more, many-stop}
 use Rattle.lent.proofs.Regions.{sets-more}
 use Rattle.text.specs.Text.{cursor}
 use Rattle.text.specs.declared.Cursor.{Cursor}
-use Rattle.kakinoki.specs.Informations.{headerAt, Said, informationAt, isLine, saidOf, hashLinesAt, informationItem, informationsAt, faultOf, faultAt, tell, tellAll, untold, headerPlace, headerPlacesAt, low16, blockAt}
+use Rattle.kakinoki.specs.Informations.{headerAt, Said, informationAt, isLine, saidOf, hashLinesAt, informationItem, informationsAt, faultOf, faultAt, tell, tellAll, untold, keyedPlace, headerPlacesAt, low16}
+use Rattle.kakinoki.specs.inner.Blocks.{blockAt}
 use Rattle.kakinoki.specs.declared.Told.{Told}
 use Rattle.kakinoki.specs.declared.Information.{Information}
 use Rattle.kakinoki.specs.declared.Fault.{Fault}
@@ -68,11 +69,11 @@ module _ {s : List ℕ} {start : ℕ} {o₀ : List ℕ} {t : Told} {n at : ℕ} 
       saying-within = item s at _ _ here .within
 
       pub saying-more : {t′ : Told} {n′ : ℕ} {o′ : List ℕ} → t′ ≡ tell t (saidOf (i .info) (i .counts) (headerAt s h))
-          → n′ ≡ n + length (headerPlace (i .info) h) → o′ ≡ sets o n (low16 (headerPlace (i .info) h)) → Saying s start o₀ t′ n′ (i .next .at) o′
+          → n′ ≡ n + length (keyedPlace (i .info) h) → o′ ≡ sets o n (low16 (keyedPlace (i .info) h)) → Saying s start o₀ t′ n′ (i .next .at) o′
       unfolding informationsAt tellAll
       saying-more {t′} {n′} {o′} f g r =
           let next : ℕ = i .next .at in
-          let ps : List ℕ = headerPlace (i .info) h in
+          let ps : List ℕ = keyedPlace (i .info) h in
           let qs : List ℕ = headerPlacesAt s next in
           let m = many-more (informationItem s) (length s) (item-goes s) at next _ here in
           let d : headerPlacesAt s at ≡ ps ++ qs = rw (read, q) (places-more s at (lineAt s at .next .at) _ (item-more s at (rw read at line))) in

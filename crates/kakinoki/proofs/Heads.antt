@@ -11,7 +11,7 @@ use Rattle.lists.specs.Repeat.{Step, more, stop, ended, onStep, manyFrom}
 use Rattle.lists.proofs.Laws.{by-pick}
 use Rattle.text.specs.declared.Cursor.{Cursor}
 use Rattle.jkf.specs.Model.{Header}
-use Rattle.kakinoki.specs.Informations.{headerAt, Said, isLine, saidOf, hashLinesAt, informationItem, informationsAt, pairsOf, headerPlace, headerPlacesFrom, headerPlacesAt}
+use Rattle.kakinoki.specs.Informations.{headerAt, Said, isLine, saidOf, hashLinesAt, informationItem, informationsAt, pairsOf, keyedPlace, headerPlacesFrom, headerPlacesAt}
 use Rattle.kakinoki.specs.Starts.{firstBlock, diagram, secondPlace, headersSaid, headerPlaces}
 use Rattle.kakinoki.specs.declared.Info.{Info}
 use Rattle.kakinoki.specs.declared.Info.the-variants.{Preset, Turn, Hands, Keyed, Refused, Nothing}
@@ -24,7 +24,7 @@ use Rattle.kakinoki.proofs.Diagrams.{board-from}
 
 module _ (s : List ℕ) where
   line-said : (i : Info) (counts : List ℕ) (at : ℕ) (ps : List ℕ) (xs : List Said) → isLine i ≡ true → map (headerAt s) ps ≡ pairsOf xs
-      → map (headerAt s) (headerPlace i at ++ ps) ≡ pairsOf (saidOf i counts (headerAt s at) ∷ xs)
+      → map (headerAt s) (keyedPlace i at ++ ps) ≡ pairsOf (saidOf i counts (headerAt s at) ∷ xs)
   unfolding pairsOf
   line-said (Preset n) counts at ps xs t e = e
   line-said (Turn n) counts at ps xs t e = e
@@ -95,7 +95,7 @@ module _ (s : List ℕ) where
   place-begins : (at : ℕ) → Every (Begins s) (placeAt s at)
   place-begins at = go (lineAt s at .info) refl
     where
-      go : (i : Info) → lineAt s at .info ≡ i → Every (Begins s) (headerPlace i (hashLinesAt s at))
+      go : (i : Info) → lineAt s at .info ≡ i → Every (Begins s) (keyedPlace i (hashLinesAt s at))
       go (Preset n) e = tt
       go (Turn n) e = tt
       go (Hands side) e = tt

@@ -13,7 +13,7 @@ use Rattle.text.specs.Text.{cursor}
 use Rattle.text.specs.declared.Cursor.{Cursor}
 use Rattle.text.proofs.Laws.{After}
 use Rattle.spell.proofs.Answers.{by-spelled}
-use Rattle.kakinoki.specs.Informations.{onHeld, onKeyValue, emptyHand, handLineAt, keyValueAt, headerAt, Said, information, keyedAt, handsOrKeyedAt, informationAt, isLine, saidOf, hashLinesAt, informationItem, headerPlace}
+use Rattle.kakinoki.specs.Informations.{onHeld, onKeyValue, emptyHand, handLineAt, keyValueAt, headerAt, Said, information, keyedAt, handsOrKeyedAt, informationAt, isLine, saidOf, hashLinesAt, informationItem, keyedPlace}
 use Rattle.kakinoki.specs.declared.Held.{Held}
 use Rattle.kakinoki.specs.declared.Held.the-variants.{By, Unreadable, NoHand}
 use Rattle.kakinoki.specs.declared.KeyValue.{KeyValue}
@@ -68,7 +68,7 @@ record Far (n at : ℕ) (ps : List ℕ) (next : ℕ) : Type 0 where
   pub within : next ≤ n
   pub five : at + 5 * length ps ≤ next
 
-far : (s : List ℕ) (at : ℕ) (i : Info) (next : Cursor) → isLine i ≡ true → Tells s at i next → Far (length s) at (headerPlace i at) (next .at)
+far : (s : List ℕ) (at : ℕ) (i : Info) (next : Cursor) → isLine i ≡ true → Tells s at i next → Far (length s) at (keyedPlace i at) (next .at)
 far s at (Preset n) next t a = let p = a .past in record { past = p; within = a .within; five = omega arith }
 far s at (Turn n) next t a = let p = a .past in record { past = p; within = a .within; five = omega arith }
 far s at (Hands side) next t a = let p = a .past in record { past = p; within = a .within; five = omega arith }
@@ -102,7 +102,7 @@ module _ (s : List ℕ) (at : ℕ) where
     pub says : saidOf (lineAt .info) (lineAt .counts) (headerAt s (hashLinesAt s at)) ≡ x
     pub past : at < next
     pub within : next ≤ length s
-    pub five : at + 5 * length (headerPlace (lineAt .info) (hashLinesAt s at)) ≤ next
+    pub five : at + 5 * length (keyedPlace (lineAt .info) (hashLinesAt s at)) ≤ next
 
   pub item : (next : ℕ) (x : Said) → informationItem s at ≡ more next x → Item next x
   unfolding informationItem

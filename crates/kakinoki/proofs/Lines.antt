@@ -24,7 +24,7 @@ use Rattle.spell.proofs.Answers.{OnSpelled, isAs, isNot, by-spelled}
 use Rattle.kakinoki.specs.Informations.{onKeyValue, hashLineAt, hashItem, hashLinesAt, paddedEndAt, endsLine, presetLineAt, turnLineAt, emptyHand, pieceStep, piecesAt, handAt, heldAt, handLineAt, valueAt, keyValueAt}
 use Rattle.spell.specs.Words.{presetTag, turnTag, handsTag, noneTag}
 use Rattle.kakinoki.specs.declared.Hand.{Hand}
-use Rattle.kakinoki.specs.declared.HandLine.{HandLine}
+use Rattle.kakinoki.specs.declared.HandSaid.{HandSaid}
 use Rattle.kakinoki.specs.declared.Held.{Held}
 use Rattle.kakinoki.specs.declared.Held.the-variants.{By, Unreadable, NoHand}
 use Rattle.kakinoki.specs.declared.KeyValue.{KeyValue}
@@ -126,7 +126,7 @@ hand-from s at =
 held-after : (side : ℕ) (s : List ℕ) (at : ℕ) → OnHeld (After at (length s)) (heldAt side s at .held)
 unfolding heldAt
 held-after side s at =
-    by-past (λ (l : HandLine). OnHeld (After at (length s)) (l .held)) tt (paddedEndAt s (handAt s at .next .at))
+    by-past (λ (l : HandSaid). OnHeld (After at (length s)) (l .held)) tt (paddedEndAt s (handAt s at .next .at))
     (λ e w. let a = padded-after s (handAt s at .next .at) e w in
     record { past = omega (arith, hand-from s at, a .past); within = a .within })
 
@@ -137,7 +137,7 @@ hand-line-after s at =
     (λ side c a. by-past Q tt (tagAt handsTag s (c .at))
     (λ d w. held-map (heldAt side s (d .at) .held) (λ e b. onward (onward a (tag-after handsTag s (c .at) d (omega arith) w)) b) (held-after side s (d .at))))
   where
-    Q : HandLine → Type 0
+    Q : HandSaid → Type 0
     Q l = OnHeld (After at (length s)) (l .held)
 
 -- ---- key and value

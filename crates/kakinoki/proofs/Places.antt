@@ -7,13 +7,13 @@ use mathlib.Core.List.{List, [], _∷_, _++_}
 use lib.ListN.{length, length-append}
 use Rattle.lists.specs.Repeat.{Step, more, stop, ended, onStep, manyFrom}
 use Rattle.lists.proofs.Repeats.{many-within}
-use Rattle.kakinoki.specs.Informations.{Said, hashLinesAt, informationItem, informationsAt, headerPlace, headerPlacesFrom, headerPlacesAt}
+use Rattle.kakinoki.specs.Informations.{Said, hashLinesAt, informationItem, informationsAt, keyedPlace, headerPlacesFrom, headerPlacesAt}
 use Rattle.kakinoki.proofs.Items.{lineAt, item, item-goes}
 
 module _ (s : List ℕ) where
   -- the place of the item at a place, if it is a header line
   abbrev pub placeAt : ℕ → List ℕ
-  placeAt at = headerPlace (lineAt s at .info) (hashLinesAt s at)
+  placeAt at = keyedPlace (lineAt s at .info) (hashLinesAt s at)
 
   -- one more unit of fuel changes nothing where the fuel reaches to the end of the text
   places-enough : (k at : ℕ) → length s ≤ k + at → headerPlacesFrom s k at ≡ headerPlacesFrom s (suc k) at

@@ -17,7 +17,7 @@ use Rattle.text.proofs.Answers.{by-past}
 use Rattle.text.proofs.Widths.{pad-within}
 use Rattle.spell.specs.Tables.{Spelling, kinds, numerals}
 use Rattle.spell.specs.Spell.{firstOf, hasNumber}
-use Rattle.spell.specs.Count.{ten, tensAt, countAt}
+use Rattle.spell.specs.Count.{ten, tensAt, handCountAt}
 use Rattle.spell.specs.declared.Spelled.{Spelled}
 use Rattle.spell.specs.declared.Spelled.the-variants.{As, Not}
 use Rattle.spell.proofs.Answers.{OnSpelled, isAs, isNot, as-is, by-spelled, below, first-within, first-known, first-some}
@@ -116,8 +116,8 @@ module _ (s : List ℕ) where
       Q = OnSpelled (λ n c. After at (length s) c)
 
   -- a count is passed
-  pub count-after : (at : ℕ) → OnSpelled (λ n c. After at (length s) c) (countAt s at)
-  unfolding countAt
+  pub count-after : (at : ℕ) → OnSpelled (λ n c. After at (length s) c) (handCountAt s at)
+  unfolding handCountAt
   count-after at =
       by-spelled Q (numeral-after at) (tens-after at)
       (λ t c a. by-spelled Q (isAs a) (numeral-after (c .at)) (λ d e b. isAs (onward a b)))

@@ -8,9 +8,10 @@ use lib.ListN.{length, length-append}
 use Rattle.lists.specs.Pick.{pick}
 use Rattle.text.specs.declared.Cursor.{Cursor}
 use Rattle.jkf.specs.declared.Position.{Position}
-use Rattle.kakinoki.specs.Informations.{headerPlacesAt, low16, blockAt}
+use Rattle.kakinoki.specs.Informations.{headerPlacesAt, low16}
+use Rattle.kakinoki.specs.inner.Blocks.{blockAt}
 use Rattle.kakinoki.specs.Boards.{boardAt}
-use Rattle.kakinoki.specs.Starts.{merged, positionOf, secondPlace, headerPlaces, startOf}
+use Rattle.kakinoki.specs.Starts.{merged, positionOf, secondPlace, headerPlaces, startRead}
 use Rattle.kakinoki.specs.declared.Told.{Told}
 use Rattle.kakinoki.specs.declared.Fault.{Fault}
 use Rattle.kakinoki.specs.declared.InformationBlock.{InformationBlock}
@@ -38,8 +39,8 @@ module _ (s : List ℕ) (first : InformationBlock) (b : Board) (at : ℕ) (p : f
   second-place = rw (r, q, p)
 
   pub start-all : (second : InformationBlock) (t : Told) (w : Position) → second ≡ blockAt s at → t ≡ merged (first .told) (second .told) → w ≡ positionOf b t
-      → starting (second .fault) w (first .headers + second .headers) (second .next) ≡ startOf s
-  unfolding startOf headerPlaces blockAt
+      → starting (second .fault) w (first .headers + second .headers) (second .next) ≡ startRead s
+  unfolding startRead headerPlaces blockAt
   start-all second t w u f g =
       rw (g, f, u, second-place, q, p, length-append (headerPlacesAt s 0) (headerPlacesAt s (secondPlace s)))
 

@@ -8,7 +8,7 @@ use mathlib.Core.List.{List, [], _∷_}
 use types.Run.{OneOf}
 use denote.Enum.Declared.{tagOf}
 use Rattle.jkf.specs.Model.{Header}
-use Rattle.kakinoki.specs.Informations.{saidOf, faultOf, tell, headerPlace}
+use Rattle.kakinoki.specs.Informations.{saidOf, faultOf, tell, keyedPlace}
 use Rattle.kakinoki.specs.declared.Info.{Info}
 use Rattle.kakinoki.specs.declared.Info.the-variants.{Preset, Turn, Hands, Keyed, Refused, Nothing}
 use Rattle.kakinoki.specs.declared.Told.{Told}
@@ -26,7 +26,7 @@ fault-else Refused at h =
 fault-else Nothing at h = refl
 
 -- all but a header line
-pub keep-else : (i : Info) (at : ℕ) → OneOf (0 ∷ 1 ∷ 2 ∷ 4 ∷ 5 ∷ []) (tagOf the-type i) → headerPlace i at ≡ []
+pub keep-else : (i : Info) (at : ℕ) → OneOf (0 ∷ 1 ∷ 2 ∷ 4 ∷ 5 ∷ []) (tagOf the-type i) → keyedPlace i at ≡ []
 keep-else (Preset n) at h = refl
 keep-else (Turn n) at h = refl
 keep-else (Hands side) at h = refl

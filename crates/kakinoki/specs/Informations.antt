@@ -14,7 +14,7 @@ use Rattle.text.specs.declared.Place.the-variants.{Absent}
 use Rattle.spell.specs.Words.{presetTag, turnTag, handsTag, noneTag}
 use Rattle.spell.specs.Spell.{onSpelled, firstOf}
 use Rattle.spell.specs.Tables.{kinds, presets, sides}
-use Rattle.spell.specs.Count.{countAt}
+use Rattle.spell.specs.Count.{handCountAt}
 use Rattle.spell.specs.declared.Spelled.{Spelled}
 use Rattle.spell.specs.declared.Spelled.the-variants.{As, Not}
 use Rattle.jkf.specs.Model.{Header}
@@ -23,13 +23,12 @@ use Rattle.kakinoki.specs.declared.Piece.the-variants.{Of, NoPiece}
 use Rattle.kakinoki.specs.declared.Hand.{Hand}
 use Rattle.kakinoki.specs.declared.Held.{Held}
 use Rattle.kakinoki.specs.declared.Held.the-variants.{By, Unreadable, NoHand}
-use Rattle.kakinoki.specs.declared.HandLine.{HandLine}
+use Rattle.kakinoki.specs.declared.HandSaid.{HandSaid}
 use Rattle.kakinoki.specs.declared.KeyValue.{KeyValue}
 use Rattle.kakinoki.specs.declared.KeyValue.the-variants.{Pair, NoPair}
 use Rattle.kakinoki.specs.declared.Info.{Info}
 use Rattle.kakinoki.specs.declared.Info.the-variants.{Preset, Turn, Hands, Keyed, Refused, Nothing}
 use Rattle.kakinoki.specs.declared.Information.{Information}
-use Rattle.kakinoki.specs.declared.InformationBlock.{InformationBlock}
 use Rattle.kakinoki.specs.declared.Named.{Named}
 use Rattle.kakinoki.specs.declared.Named.the-variants.{Is, Unsaid}
 use Rattle.kakinoki.specs.declared.Told.{Told}
@@ -55,8 +54,8 @@ onKeyValue NoPair f d = d
 abbrev pub hand : List ℕ → Cursor → Hand
 hand counts next = record { counts = counts; next = next }
 
-abbrev pub handLine : Held → List ℕ → HandLine
-handLine held counts = record { held = held; counts = counts }
+abbrev pub handSaid : Held → List ℕ → HandSaid
+handSaid held counts = record { held = held; counts = counts }
 
 -- ---- lines
 
@@ -93,7 +92,7 @@ turnLineAt s at = onSpelled (firstOf sides s at) (λ n c. onPlace (tagAt turnTag
 unfoldable pub pieceAt : List ℕ → ℕ → Piece
 pieceAt s at =
     onSpelled (firstOf kinds s at)
-    (λ k c. onSpelled (countAt s (c .at)) (λ n d. Of k n (cursor (paddingAt s (d .at)))) (Of k 1 (cursor (paddingAt s (c .at)))))
+    (λ k c. onSpelled (handCountAt s (c .at)) (λ n d. Of k n (cursor (paddingAt s (d .at)))) (Of k 1 (cursor (paddingAt s (c .at)))))
     NoPiece
 
 abbrev pub emptyHand : List ℕ
@@ -116,16 +115,16 @@ unfoldable pub handAt : List ℕ → ℕ → Hand
 handAt s at = onPlace (tagAt noneTag s at) (λ c. hand emptyHand c) (piecesAt s at)
 
 -- The hand of a side, which must go on to padding and a break: after の持駒： there is no other way to read the line.
-unfoldable pub heldAt : ℕ → List ℕ → ℕ → HandLine
+unfoldable pub heldAt : ℕ → List ℕ → ℕ → HandSaid
 heldAt side s at =
-    onPlace (paddedEndAt s (handAt s at .next .at)) (λ e. handLine (By side e) (handAt s at .counts)) (handLine Unreadable emptyHand)
+    onPlace (paddedEndAt s (handAt s at .next .at)) (λ e. handSaid (By side e) (handAt s at .counts)) (handSaid Unreadable emptyHand)
 
 -- A side, の持駒： and its hand.                                                                        (the Rust's information_line_hands)
-unfoldable pub handLineAt : List ℕ → ℕ → HandLine
+unfoldable pub handLineAt : List ℕ → ℕ → HandSaid
 handLineAt s at =
     onSpelled (firstOf sides s at)
-    (λ side c. onPlace (tagAt handsTag s (c .at)) (λ d. heldAt side s (d .at)) (handLine NoHand emptyHand))
-    (handLine NoHand emptyHand)
+    (λ side c. onPlace (tagAt handsTag s (c .at)) (λ d. heldAt side s (d .at)) (handSaid NoHand emptyHand))
+    (handSaid NoHand emptyHand)
 
 -- ---- key and value                                                                                  (01, Reading rules: key and value)
 
@@ -238,7 +237,7 @@ unfoldable pub tellAll : Told → List Said → Told
 tellAll t [] = t
 tellAll t (x ∷ xs) = tellAll (tell t x) xs
 
--- Its header entries, in the order of the file.
+-- The header entries among what is said, in the order of the file.
 unfoldable pub pairsOf : List Said → List Header
 pairsOf [] = []
 pairsOf (ofPreset n ∷ xs) = pairsOf xs
@@ -249,19 +248,19 @@ pairsOf (ofPair h ∷ xs) = h ∷ pairsOf xs
 -- ---- where its header lines begin
 
 -- The place of a line, if it is a header line.
-abbrev pub headerPlace : Info → ℕ → List ℕ
-headerPlace (Preset n) at = []
-headerPlace (Turn n) at = []
-headerPlace (Hands side) at = []
-headerPlace Keyed at = at ∷ []
-headerPlace Refused at = []
-headerPlace Nothing at = []
+abbrev pub keyedPlace : Info → ℕ → List ℕ
+keyedPlace (Preset n) at = []
+keyedPlace (Turn n) at = []
+keyedPlace (Hands side) at = []
+keyedPlace Keyed at = at ∷ []
+keyedPlace Refused at = []
+keyedPlace Nothing at = []
 
 -- The places of a block's header lines, with the length of the text for fuel.
 unfoldable pub headerPlacesFrom : List ℕ → ℕ → ℕ → List ℕ
 headerPlacesFrom s zero at = []
 headerPlacesFrom s (suc k) at =
-    onStep (informationItem s at) (λ next x. headerPlace (informationAt s (hashLinesAt s at) .info) (hashLinesAt s at) ++ headerPlacesFrom s k next) []
+    onStep (informationItem s at) (λ next x. keyedPlace (informationAt s (hashLinesAt s at) .info) (hashLinesAt s at) ++ headerPlacesFrom s k next) []
 
 unfoldable pub headerPlacesAt : List ℕ → ℕ → List ℕ
 headerPlacesAt s at = headerPlacesFrom s (length s) at
@@ -270,14 +269,3 @@ headerPlacesAt s at = headerPlacesFrom s (length s) at
 abbrev pub low16 : List ℕ → List ℕ
 low16 [] = []
 low16 (p ∷ ps) = p % 65536 ∷ low16 ps
-
--- ---- the whole block
-
-unfoldable pub blockAt : List ℕ → ℕ → InformationBlock
-blockAt s at =
-    record {
-      told = tellAll untold (informationsAt s at .state);
-      headers = length (headerPlacesAt s at);
-      fault = faultAt s (informationsAt s at .at);
-      next = cursor (informationsAt s at .at);
-    }

@@ -1,3 +1,4 @@
 pub mod Informations
 pub mod Boards
 pub mod Starts
+pub mod inner

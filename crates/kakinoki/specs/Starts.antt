@@ -73,8 +73,8 @@ headerPlaces s = headerPlacesAt s 0 ++ headerPlacesAt s (secondPlace s)
 
 -- A hand line that cannot be read ends its block. No board begins with it, so the second block, which then begins where the first ended,
 -- ends there as well.                                                                                 (01, Numbers of refusal: 3)
-unfoldable pub startOf : List ℕ → Start
-startOf s =
+unfoldable pub startRead : List ℕ → Start
+startRead s =
     record {
       fault = faultAt s (secondBlock s .at);
       position = positionOf (diagram s) (merged (tellAll untold (firstBlock s .state)) (tellAll untold (secondBlock s .state)));

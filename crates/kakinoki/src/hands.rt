@@ -1,6 +1,6 @@
 // Hand lines.
 use crate::Hand;
-use crate::HandLine;
+use crate::HandSaid;
 use crate::Held;
 use crate::Piece;
 use spell::Spelled;
@@ -65,28 +65,28 @@ fn hand(c: Cursor, s: &[u8]) -> Hand
 }
 
 // The hand of a side to the end of its line.
-fn held(side: u8, c: Cursor, s: &[u8]) -> HandLine
+fn held(side: u8, c: Cursor, s: &[u8]) -> HandSaid
     ensures { λ r. ⌜ r ≡ heldAt side (now (s .entry)) (c .at) ⌝ }
 {
     let hand = hand(c, s);
     let Place::Past(end) = padded_end(hand.next, s) else {
-        return HandLine {
+        return HandSaid {
             held: Held::Unreadable,
             counts: [0; 7],
         };
     };
     let counts = hand.counts;
-    HandLine {
+    HandSaid {
         held: Held::By(side, end),
         counts,
     }
 }
 
 // A side, の持駒： and its hand.   (the Rust's information_line_hands)
-pub(crate) fn hand_line(c: Cursor, s: &[u8]) -> HandLine
+pub(crate) fn hand_line(c: Cursor, s: &[u8]) -> HandSaid
     ensures { λ r. ⌜ r ≡ handLineAt (now (s .entry)) (c .at) ⌝ }
 {
-    let none = HandLine {
+    let none = HandSaid {
         held: Held::NoHand,
         counts: [0; 7],
     };

@@ -18,7 +18,8 @@ ghost use lib.ListN.{length, drop};
 ghost use lib.Seq.{sets};
 ghost use Rattle.text.specs.Text.{endsKey, keyAt};
 ghost use Rattle.jkf.specs.Model.{Header};
-ghost use Rattle.kakinoki.specs.Informations.{hashLineAt, hashLinesAt, endsLine, presetLineAt, turnLineAt, valueAt, keyValueAt, emptyHand, information, keyedAt, handsOrKeyedAt, informationAt, isLine, saidOf, faultOf, tell, headerPlace, headerPlacesAt, low16, blockAt};
+ghost use Rattle.kakinoki.specs.Informations.{hashLineAt, hashLinesAt, endsLine, presetLineAt, turnLineAt, valueAt, keyValueAt, emptyHand, information, keyedAt, handsOrKeyedAt, informationAt, isLine, saidOf, faultOf, tell, keyedPlace, headerPlacesAt, low16};
+ghost use Rattle.kakinoki.specs.inner.Blocks.{blockAt};
 
 // # and the rest of its line.   (the Rust's comment_line)
 fn hash_line(c: Cursor, s: &[u8]) -> Place
@@ -253,8 +254,8 @@ fn tell(told: Told, info: Info, counts: [u8; 7]) -> Told
 // The place of a header line, kept behind the n that are kept; how many are found by now. What does not fit is counted and not kept.
 fn keep(info: Info, c: Cursor, n: usize, places: &mut [u16]) -> usize
     requires { ⌜ n + 1 < 18446744073709551616 ⌝ }
-    ensures { λ r. ⌜ r ≡ n + length (headerPlace info (c .at)) ⌝ }
-    ensures { λ r. ⌜ now (places .exit) ≡ sets (now (places .entry)) n (low16 (headerPlace info (c .at))) ⌝ }
+    ensures { λ r. ⌜ r ≡ n + length (keyedPlace info (c .at)) ⌝ }
+    ensures { λ r. ⌜ now (places .exit) ≡ sets (now (places .entry)) n (low16 (keyedPlace info (c .at))) ⌝ }
 {
     match info {
         Info::Keyed => {

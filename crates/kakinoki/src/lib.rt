@@ -28,7 +28,7 @@ pub enum Held {
     NoHand,
 }
 
-pub struct HandLine {
+pub struct HandSaid {
     pub held: Held,
     pub counts: [u8; 7],
 }

@@ -13,7 +13,7 @@ ghost use mathlib.Core.List.{_++_};
 ghost use lib.Seq.{sets};
 ghost use Rattle.lists.specs.Pick.{pick};
 ghost use Rattle.kakinoki.specs.Informations.{low16};
-ghost use Rattle.kakinoki.specs.Starts.{named, either, addCounts, addHands, merged, positionOf, headerPlaces, startOf};
+ghost use Rattle.kakinoki.specs.Starts.{named, either, addCounts, addHands, merged, positionOf, headerPlaces, startRead};
 
 // What is named, or else a number.
 fn or_else(a: Named, d: u8) -> u8
@@ -147,7 +147,7 @@ fn smaller(a: usize, b: usize) -> usize
 
 // Both blocks, the board between them, and the places of the header lines.   (the Rust's parse_without_moves)
 pub fn parse_without_moves(s: &[u8], places: &mut [u16]) -> Start
-    ensures { λ r. ⌜ r ≡ startOf (now (s .entry)) ⌝ }
+    ensures { λ r. ⌜ r ≡ startRead (now (s .entry)) ⌝ }
     ensures { λ r. ⌜ now (places .exit) ≡ sets (now (places .entry)) 0 (low16 (headerPlaces (now (s .entry)))) ⌝ }
 {
     let first = informations(Cursor { at: 0 }, s, places);

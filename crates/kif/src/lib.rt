@@ -2,7 +2,7 @@
 ghost use mathlib.Core.Path.{_≡_};
 ghost use Rattle.block.specs.Decode.{headersIn, commentsIn, keyOffset, keyLength, valueOffset, valueLength, commentOffset, commentLength};
 ghost use Rattle.block.specs.Sound.{soundb};
-ghost use Rattle.block.specs.Look.{lookAnswer, Told};
+ghost use Rattle.block.specs.Look.{lookAnswer, Answered};
 ghost use Rattle.parser.specs.Read.{readOf};
 ghost use Rattle.converter.specs.Writing.{writeOf};
 ghost use Rattle.edit.specs.Outcomes.{putInOf, cutOf};
@@ -24,7 +24,7 @@ pub extern "C" fn kif_comment(
     first: &mut u64,
     second: &mut u64,
 )
-    ensures { λ _. ⌜ Told (lookAnswer (now (block .entry)) (commentsIn (now (block .entry))) k (commentOffset (now (block .entry)) k) (commentLength (now (block .entry)) k)) (now (number .exit)) (now (first .exit)) (now (second .exit)) ⌝ }
+    ensures { λ _. ⌜ Answered (lookAnswer (now (block .entry)) (commentsIn (now (block .entry))) k (commentOffset (now (block .entry)) k) (commentLength (now (block .entry)) k)) (now (number .exit)) (now (first .exit)) (now (second .exit)) ⌝ }
 {
     block::comment(block, k, number, first, second);
 }
@@ -32,7 +32,7 @@ pub extern "C" fn kif_comment(
 // Where the key of header entry k stands, and how long it is.
 #[no_mangle]
 pub extern "C" fn kif_key(block: &[u8], k: u64, number: &mut u64, first: &mut u64, second: &mut u64)
-    ensures { λ _. ⌜ Told (lookAnswer (now (block .entry)) (headersIn (now (block .entry))) k (keyOffset (now (block .entry)) k) (keyLength (now (block .entry)) k)) (now (number .exit)) (now (first .exit)) (now (second .exit)) ⌝ }
+    ensures { λ _. ⌜ Answered (lookAnswer (now (block .entry)) (headersIn (now (block .entry))) k (keyOffset (now (block .entry)) k) (keyLength (now (block .entry)) k)) (now (number .exit)) (now (first .exit)) (now (second .exit)) ⌝ }
 {
     block::key(block, k, number, first, second);
 }
@@ -46,7 +46,7 @@ pub extern "C" fn kif_value(
     first: &mut u64,
     second: &mut u64,
 )
-    ensures { λ _. ⌜ Told (lookAnswer (now (block .entry)) (headersIn (now (block .entry))) k (valueOffset (now (block .entry)) k) (valueLength (now (block .entry)) k)) (now (number .exit)) (now (first .exit)) (now (second .exit)) ⌝ }
+    ensures { λ _. ⌜ Answered (lookAnswer (now (block .entry)) (headersIn (now (block .entry))) k (valueOffset (now (block .entry)) k) (valueLength (now (block .entry)) k)) (now (number .exit)) (now (first .exit)) (now (second .exit)) ⌝ }
 {
     block::value(block, k, number, first, second);
 }
@@ -60,7 +60,7 @@ pub extern "C" fn kif_read(
     first: &mut u64,
     second: &mut u64,
 )
-    ensures { λ _. ⌜ Told (readOf (now (text .entry)) (now (out .entry)) .answer) (now (number .exit)) (now (first .exit)) (now (second .exit)) ⌝ }
+    ensures { λ _. ⌜ Answered (readOf (now (text .entry)) (now (out .entry)) .answer) (now (number .exit)) (now (first .exit)) (now (second .exit)) ⌝ }
     ensures { λ _. ⌜ now (out .exit) ≡ readOf (now (text .entry)) (now (out .entry)) .buffer ⌝ }
 {
     let f = jkf::figures_of(parser::read(text, out));
@@ -78,7 +78,7 @@ pub extern "C" fn kif_write(
     first: &mut u64,
     second: &mut u64,
 )
-    ensures { λ _. ⌜ Told (writeOf (now (block .entry)) (now (out .entry)) .answer) (now (number .exit)) (now (first .exit)) (now (second .exit)) ⌝ }
+    ensures { λ _. ⌜ Answered (writeOf (now (block .entry)) (now (out .entry)) .answer) (now (number .exit)) (now (first .exit)) (now (second .exit)) ⌝ }
     ensures { λ _. ⌜ now (out .exit) ≡ writeOf (now (block .entry)) (now (out .entry)) .buffer ⌝ }
 {
     let f = jkf::figures_of(converter::write(block, out));
@@ -98,7 +98,7 @@ pub extern "C" fn kif_put_in(
     first: &mut u64,
     second: &mut u64,
 )
-    ensures { λ _. ⌜ Told (putInOf (now (block .entry)) line (now (text .entry)) (now (out .entry)) .answer) (now (number .exit)) (now (first .exit)) (now (second .exit)) ⌝ }
+    ensures { λ _. ⌜ Answered (putInOf (now (block .entry)) line (now (text .entry)) (now (out .entry)) .answer) (now (number .exit)) (now (first .exit)) (now (second .exit)) ⌝ }
     ensures { λ _. ⌜ now (out .exit) ≡ putInOf (now (block .entry)) line (now (text .entry)) (now (out .entry)) .buffer ⌝ }
 {
     let f = jkf::figures_of(edit::put_in(block, line, text, out));
@@ -117,7 +117,7 @@ pub extern "C" fn kif_cut(
     first: &mut u64,
     second: &mut u64,
 )
-    ensures { λ _. ⌜ Told (cutOf (now (block .entry)) line (now (out .entry)) .answer) (now (number .exit)) (now (first .exit)) (now (second .exit)) ⌝ }
+    ensures { λ _. ⌜ Answered (cutOf (now (block .entry)) line (now (out .entry)) .answer) (now (number .exit)) (now (first .exit)) (now (second .exit)) ⌝ }
     ensures { λ _. ⌜ now (out .exit) ≡ cutOf (now (block .entry)) line (now (out .entry)) .buffer ⌝ }
 {
     let f = jkf::figures_of(edit::cut(block, line, out));

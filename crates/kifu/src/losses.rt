@@ -16,7 +16,7 @@ fn unpromoted(e: Entry) -> usize
     ensures { λ r. ⌜ r ≤ 1 ⌝ }
 {
     match e {
-        Entry::Play(m) => if m.promote == 1 { 1 } else { 0 },
+        Entry::Moved(m) => if m.promote == 1 { 1 } else { 0 },
         _ => 0,
     }
 }

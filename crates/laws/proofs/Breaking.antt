@@ -11,7 +11,7 @@ use Rattle.lists.specs.All.{All, none, next}
 use Rattle.lists.specs.Repeat.{Step, more, stop, ended, onStep, manyFrom}
 use Rattle.lists.proofs.Laws.{by-pick}
 use Rattle.text.specs.Text.{cursor, onPlace, tagAt, breakAt, tailAt, lineEndAt, paddingAt, wideColon, keyAt}
-use Rattle.text.specs.Utf8.{wellFormed}
+use Rattle.text.specs.Utf8.{wellFormedBytes}
 use Rattle.text.specs.declared.Cursor.{Cursor}
 use Rattle.text.specs.declared.Place.{Place}
 use Rattle.text.specs.declared.Place.the-variants.{Past, Absent}
@@ -21,11 +21,11 @@ use Rattle.text.proofs.Boundaries.{Boundary, boundary-start, boundary-break}
 use Rattle.spell.specs.Tables.{presets, sides}
 use Rattle.spell.specs.declared.Spelled.{Spelled}
 use Rattle.spell.proofs.Answers.{OnSpelled, isAs, isNot, by-spelled, first-known}
-use Rattle.kakinoki.specs.Informations.{onHeld, onKeyValue, hashLineAt, hashItem, hashLinesAt, paddedEndAt, endsLine, presetLineAt, turnLineAt, emptyHand, handAt, heldAt, handLineAt, valueAt, keyValueAt, Said, information, keyedAt, handsOrKeyedAt, informationAt, isLine, informationItem, informationsAt, headerPlace, headerPlacesFrom, headerPlacesAt}
+use Rattle.kakinoki.specs.Informations.{onHeld, onKeyValue, hashLineAt, hashItem, hashLinesAt, paddedEndAt, endsLine, presetLineAt, turnLineAt, emptyHand, handAt, heldAt, handLineAt, valueAt, keyValueAt, Said, information, keyedAt, handsOrKeyedAt, informationAt, isLine, informationItem, informationsAt, keyedPlace, headerPlacesFrom, headerPlacesAt}
 use Rattle.spell.specs.Words.{presetTag, turnTag, handsTag, filesTag, ruleTag}
 use Rattle.kakinoki.specs.Boards.{noCells, noBoard, rowsFrom, ruledAt, boardAt}
 use Rattle.kakinoki.specs.Starts.{firstBlock, diagram, secondPlace, headerPlaces}
-use Rattle.kakinoki.specs.declared.HandLine.{HandLine}
+use Rattle.kakinoki.specs.declared.HandSaid.{HandSaid}
 use Rattle.kakinoki.specs.declared.Held.{Held}
 use Rattle.kakinoki.specs.declared.Held.the-variants.{By, Unreadable, NoHand}
 use Rattle.kakinoki.specs.declared.KeyValue.{KeyValue}
@@ -79,7 +79,7 @@ pair-parts s at from to end e = subst (OnPair (HeaderParts s at)) e (parts-known
 
 -- ---- past a break
 
-module _ (s : List ℕ) (w : wellFormed s ≡ length s) where
+module _ (s : List ℕ) (w : wellFormedBytes s ≡ length s) where
   abbrev Bound : Cursor → Type 0
   Bound c = Boundary s (c .at)
 
@@ -123,7 +123,7 @@ module _ (s : List ℕ) (w : wellFormed s ≡ length s) where
   turn-bound at =
       by-spelled SpelledBound isNot (first-known 2 sides refl s at) (λ n c k. by-place SpelledBound isNot (tagAt turnTag s (c .at)) (λ d. ends-bound n (d .at)))
 
-  abbrev HeldBound : HandLine → Type 0
+  abbrev HeldBound : HandSaid → Type 0
   HeldBound l = OnHeld Bound (l .held)
 
   held-bound : (side at : ℕ) → HeldBound (heldAt side s at)
@@ -202,7 +202,7 @@ module _ (s : List ℕ) (w : wellFormed s ≡ length s) where
   place-headline : (at : ℕ) → Boundary s at → All Headline (placeAt s at)
   place-headline at b = go (lineAt s at .info) refl
     where
-      go : (i : Info) → lineAt s at .info ≡ i → All Headline (headerPlace i (hashLinesAt s at))
+      go : (i : Info) → lineAt s at .info ≡ i → All Headline (keyedPlace i (hashLinesAt s at))
       go (Preset n) e = none
       go (Turn n) e = none
       go (Hands side) e = none

@@ -15,28 +15,28 @@ use native.Mathlib.Omega.{arith}
 use mathlib.Core.Path.{_≡_, sym, ap, ap₂, _∙_, subst}
 use mathlib.Core.List.{List, []}
 use mathlib.Core.Bool.{Bool}
-use lib.ListN.{length, take}
+use lib.ListN.{length}
 use lib.Dec.{leb}
 use borrow.Author.Tests.{ne-eqb, lt-ltb, le-leb, leb-true, leb-false}
 use Rattle.lists.specs.Pick.{pick}
 use Rattle.lists.proofs.Laws.{by-pick}
 use Rattle.jkf.specs.declared.Answer.{Answer}
-use Rattle.jkf.specs.declared.Answer.the-variants.{Done, BlockTooLong, NotSound, ParentChanges}
-use Rattle.jkf.specs.Answers.{figures, Outcome, refuse}
+use Rattle.jkf.specs.declared.Answer.the-variants.{Done, NotSound}
+use Rattle.jkf.specs.Answers.{figures, refuse}
 use Rattle.jkf.specs.Attaching.{hangs, Play, play, playOf, starts, counts, parentIn, attach}
 use Rattle.jkf.specs.declared.Hang.the-variants.{On}
 use Rattle.jkf.proofs.Nears.{near-same, hangs-made}
 use Rattle.jkf.specs.Model.{Line, Record}
 use Rattle.block.specs.Encode.{encode}
-use Rattle.block.specs.Decode.{decode, linesIn, startOf, entryCount, parentOf}
+use Rattle.block.specs.Decode.{decode, linesIn, startOf, entryCount}
 use Rattle.block.specs.Sound.{Sound}
 use Rattle.block.specs.Formed.{lineOf, Formed}
 use Rattle.block.proofs.Deciding.{sound-answers}
 use Rattle.plays.specs.Plays.{entriesAt, plyAt}
 use Rattle.block.proofs.Attached.{attach-length, attach-line}
 use Rattle.edit.specs.Edit.{Edited, edited, playsIn, variationOf, renumbered, removedFrom, lowered, Kept, remove}
-use Rattle.edit.specs.Splicing.{relined, without}
-use Rattle.edit.specs.Outcomes.{storedOf, editedOf, putInOf, cutOf}
+use Rattle.edit.specs.inner.Splicing.{relined, without}
+use Rattle.edit.specs.Outcomes.{editStored, editedOf, putInOf, cutOf}
 use Rattle.edit.proofs.Played.{starts-is, counts-is, plays-long}
 use Rattle.edit.proofs.Placing.{put-length, put-list, ply-low, ply-within, place-past, place-within, put-starts, put-counts, new-hangs}
 use Rattle.edit.proofs.Keeping.{kept-after-put, new-parent}
@@ -45,23 +45,13 @@ use Rattle.edit.proofs.Sounds.{lines-afresh, plays-back, parent-is}
 use Rattle.edit.proofs.Parents.{cut-fresh}
 use Rattle.edit.proofs.Undoing.{cut-undoes}
 use Rattle.laws.specs.Blocks.{Bytes, frontOf}
+use Rattle.laws.specs.Edits.{withParent, HangsFrom, itself, on, PutHolds, NoParentRefused, CutHolds, NoCutTooLong}
 use Rattle.laws.proofs.Fields.{lines-are, start-is, entry-count-is}
 use Rattle.laws.proofs.Decoded.{formed-fits, decode-encode}
 use Rattle.laws.proofs.Encoded.{encode-decode}
 use Rattle.laws.proofs.Made.{sound-encode}
 use Rattle.laws.proofs.EditsDone.{putPlace, putLines, PutDone, put-done, parent-kept, cutMany, cutLines, CutDone, cut-done, cut-not-long}
 use Rattle.laws.proofs.Fewer.{same-record}
-
--- ---- words
-
--- A line with this parent.
-abbrev pub withParent : ℕ → Line → Line
-withParent p l = record { start = l .start; parent = p; entries = l .entries }
-
--- Line l is line k, or its parent hangs from line k.
-pub data HangsFrom (b : List ℕ) (k : ℕ) : ℕ → Type 0 where
-  itself : HangsFrom b k k
-  on : {l : ℕ} → 0 < l → l < linesIn b → HangsFrom b k (parentOf b l) → HangsFrom b k l
 
 -- the lines of a block without their parents
 abbrev playsOf : List ℕ → List Play
@@ -222,22 +212,22 @@ module _ (b t o : List ℕ) (bs : Bytes b) (ts : Bytes t) (k n i : ℕ) (done : 
       ∙ ap (λ (l : List Play). edited (relined r l) 1) back
       ∙ ap (λ (x : Record). edited x 1) (same-record b (puts .sound))
 
-  pub put-undone : (o′ : List ℕ) → cutOf (frontOf n (putInOf b k t o)) i o′ ≡ storedOf b 1 o′
+  pub put-undone : (o′ : List ℕ) → cutOf (frontOf n (putInOf b k t o)) i o′ ≡ editStored b 1 o′
   unfolding cutOf editedOf
   put-undone o′ =
       let c = frontOf n (putInOf b k t o) in
       ap (λ (x : Bool). pick x (editedOf (remove (decode c) i) o′) (refuse NotSound o′)) (sound-answers c put-sound)
       ∙ ap (λ (x : ℕ). editedOf (remove (decode c) x) o′) (puts .place)
       ∙ ap (λ (x : Edited). editedOf x o′) taken-back
-      ∙ ap (λ (x : List ℕ). storedOf x 1 o′) (encode-decode b (puts .sound) bs)
+      ∙ ap (λ (x : List ℕ). editStored x 1 o′) (encode-decode b (puts .sound) bs)
 
-pub no-parent-refused : (b t o : List ℕ) (k i : ℕ) → putInOf b k t o .answer ≡ ParentChanges i → ⊥
+pub no-parent-refused : NoParentRefused
 unfolding figures
 no-parent-refused b t o k i e = omega (arith, ap (λ (x : Answer). figures x .number) e, parent-kept b t o k)
 
 -- ---- cut
 
-pub no-cut-too-long : (b o : List ℕ) (k n : ℕ) → Bytes b → cutOf b k o .answer ≡ BlockTooLong n → ⊥
+pub no-cut-too-long : NoCutTooLong
 unfolding figures
 no-cut-too-long b o k n bs e = cut-not-long b o bs k (ap (λ (x : Answer). figures x .number) e)
 
@@ -318,3 +308,24 @@ module _ (b o : List ℕ) (bs : Bytes b) (k n m : ℕ) (done : cutOf b k o .answ
       let (a, z) = run-is-what-hangs (playsOf b) k (cuts .cut) l in
       subst (λ (x : ℕ). (HangsFrom b k l → (k ≤ l) × (l < k + x)) × ((k ≤ l) × (l < k + x) → HangsFrom b k l)) (sym (cuts .many))
       (λ h. a (in-lines h), λ r. in-block (z r))
+
+-- ---- together
+
+pub put-holds : PutHolds
+put-holds b t o bs ts k n i done =
+    record {
+      put-sound = put-sound b t o bs ts k n i done;
+      put-rest = put-rest b t o bs ts k n i done;
+      put-keeps = put-keeps b t o bs ts k n i done;
+      put-hangs = put-hangs b t o bs ts k n i done;
+      put-undone = put-undone b t o bs ts k n i done;
+    }
+
+pub cut-holds : CutHolds
+cut-holds b o bs k n m done =
+    record {
+      cut-sound = cut-sound b o bs k n m done;
+      cut-rest = cut-rest b o bs k n m done;
+      cut-keeps = cut-keeps b o bs k n m done;
+      cut-takes = cut-takes b o bs k n m done;
+    }

@@ -27,8 +27,8 @@ use Rattle.block.specs.Formed.{Formed}
 use Rattle.block.proofs.Deciding.{sound-says}
 use Rattle.plays.specs.Plays.{plyAt}
 use Rattle.edit.specs.Edit.{fresh, withoutLines, Edited, edited, refused, Changed, none, onChanged, playsIn, isVariation, variationOf, isPlyOf, carries, placeOf, putIn, changedFrom, insertOn, insert, removedFrom, remove}
-use Rattle.edit.specs.Splicing.{relined, insertPlay, without}
-use Rattle.edit.specs.Outcomes.{storedOf, editedOf, putInOf, cutOf}
+use Rattle.edit.specs.inner.Splicing.{relined, insertPlay, without}
+use Rattle.edit.specs.Outcomes.{editStored, editedOf, putInOf, cutOf}
 use Rattle.edit.proofs.Placing.{PutsIn, place-past}
 use Rattle.edit.proofs.Keeping.{still-lines, no-parent-changes}
 use Rattle.edit.proofs.Cutting.{CutsOut, lines-after-cut}
@@ -56,8 +56,8 @@ module _ (b : List ℕ) (second : ℕ) (o : List ℕ) where
   abbrev Fronted : Outcome → Type 0
   Fronted x = (n m : ℕ) → x .answer ≡ Done n m → (take n (x .buffer) ≡ b) × (length b ≤ 65535) × (m ≡ second)
 
-  stored-done : Fronted (storedOf b second o)
-  unfolding storedOf figures
+  stored-done : Fronted (editStored b second o)
+  unfolding editStored figures
   stored-done =
       by-pick Fronted (ltb 65535 (length b)) _ _ (λ _ n m e. not-done (BlockTooLong (length b)) n m (omega arith) e)
       (λ l. by-pick Fronted (ltb (length o) (length b)) _ _ (λ _ n m e. not-done (BufferShort (length b)) n m (omega arith) e)
@@ -68,8 +68,8 @@ module _ (b : List ℕ) (second : ℕ) (o : List ℕ) where
       )))
 
   -- and its answer's number is below 14
-  stored-low : figures (storedOf b second o .answer) .number < 14
-  unfolding storedOf figures
+  stored-low : figures (editStored b second o .answer) .number < 14
+  unfolding editStored figures
   stored-low =
       by-pick Low (ltb 65535 (length b)) _ _ (λ _. omega arith) (λ _. by-pick Low (ltb (length o) (length b)) _ _ (λ _. omega arith) (λ _. omega arith))
     where
@@ -194,7 +194,7 @@ module _ (b : List ℕ) (k : ℕ) where
 
 -- a cut's answer has not the number of a block that is too long
 pub cut-not-long : (b o : List ℕ) → Bytes b → (k : ℕ) → figures (cutOf b k o .answer) .number ≡ 4 → ⊥
-unfolding cutOf remove editedOf storedOf figures
+unfolding cutOf remove editedOf editStored figures
 cut-not-long b o bs k =
     by-pick Not (soundb b) (editedOf (remove (decode b) k) o) (refuse NotSound o) (λ e. taken (sound-says b e)) (λ _ z. omega arith)
   where

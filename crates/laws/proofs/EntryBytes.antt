@@ -16,7 +16,7 @@ use Rattle.jkf.specs.declared.Origin.{Origin}
 use Rattle.jkf.specs.declared.Origin.the-variants.{Unknown, From}
 use Rattle.jkf.specs.declared.Entry.{Entry}
 use Rattle.jkf.specs.declared.Entry.the-variants.{Slot}
-use Rattle.block.specs.EntryBytes.{fromMark, sameMark, hourMark, timeMark, targetBytes, originBytes, clockBytes, timeBytes, headBytes, entryBytes}
+use Rattle.block.specs.EntryBytes.{fromMark, sameMark, hourMark, timeMark, targetBytes, originBytes, clockBytes, timeBytes, entryHead, entryBytes}
 use Rattle.moves.specs.Fits.{ClockFits, hmsFits, msFits, TimeFits, untimedFits, timedFits, TargetFits, sameFits, squareFits, OriginFits, fromFits, EntryFits, playFits, endFits}
 use Rattle.moves.proofs.Smalls.{Bytes, each, byte, nought, bytes-at, bytes-join, bytes-one, bytes-16, zeros}
 
@@ -73,8 +73,8 @@ from-mark : (o : Origin) → fromMark o ≤ 1
 from-mark Unknown = omega arith
 from-mark (From x y) = omega arith
 
-head-bytes : {e : Entry} → EntryFits e → Bytes (headBytes e)
-unfolding headBytes
+head-bytes : {e : Entry} → EntryFits e → Bytes (entryHead e)
+unfolding entryHead
 head-bytes (playFits {m} f) =
     let a = f .side in
     let b = f .kind in
@@ -91,15 +91,15 @@ head-bytes (endFits {x} {t} _ f) =
     let w : timeMark t < 256 = omega (arith, time-mark t) in
     each i (each p (bytes-join (zeros 6) (bytes-one w)))
 
-slot-head : Bytes (headBytes Slot)
-unfolding headBytes
+slot-head : Bytes (entryHead Slot)
+unfolding entryHead
 slot-head = zeros 9
 
 time-of : {e : Entry} → EntryFits e → TimeFits (timeOf e)
 time-of (playFits f) = f .time
 time-of (endFits _ f) = f
 
-with-numbers : (e : Entry) → Bytes (headBytes e) → Bytes (timeBytes (timeOf e)) → (f n k : ℕ) → getD (entryBytes e f n) k 0 < 256
+with-numbers : (e : Entry) → Bytes (entryHead e) → Bytes (timeBytes (timeOf e)) → (f n k : ℕ) → getD (entryBytes e f n) k 0 < 256
 unfolding entryBytes
 with-numbers e h t f n = bytes-at (bytes-join (bytes-join (bytes-join (bytes-join h t) (zeros 1)) (bytes-16 f)) (bytes-16 n))
 

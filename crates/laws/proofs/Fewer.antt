@@ -13,10 +13,10 @@ use Rattle.block.specs.Decode.{decode}
 use Rattle.block.specs.Sound.{Sound}
 use Rattle.block.proofs.Tabling.{concat-append}
 use Rattle.block.proofs.Lengths.{block-length}
-use Rattle.plays.specs.Counted.{playEntries}
+use Rattle.plays.specs.inner.Entries.{playEntries}
 use Rattle.block.proofs.Attached.{attach-length, attach-entries}
 use Rattle.edit.specs.Edit.{playsIn}
-use Rattle.edit.specs.Splicing.{relined, without}
+use Rattle.edit.specs.inner.Splicing.{relined, without}
 use Rattle.edit.proofs.Sounds.{lines-afresh}
 use Rattle.edit.proofs.Assembled.{position-long}
 use Rattle.laws.specs.Blocks.{Bytes}

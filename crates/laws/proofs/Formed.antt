@@ -10,7 +10,7 @@ use Rattle.block.specs.Decode.{decode}
 use Rattle.block.specs.Sound.{Sound}
 use Rattle.block.specs.Formed.{Formed}
 use Rattle.edit.specs.Edit.{playsIn}
-use Rattle.edit.specs.Splicing.{relined}
+use Rattle.edit.specs.inner.Splicing.{relined}
 use Rattle.edit.proofs.Sounds.{lines-hang}
 use Rattle.laws.specs.Blocks.{Bytes}
 use Rattle.laws.proofs.Encoded.{encode-decode}

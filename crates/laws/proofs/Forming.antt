@@ -11,7 +11,7 @@ use borrow.Author.Tests.{ltb-false}
 use Rattle.lists.specs.Repeat.{Step, more, stop}
 use Rattle.lists.proofs.Laws.{by-pick}
 use Rattle.text.specs.Text.{widthStep, pastAll}
-use Rattle.text.specs.Utf8.{charWidth, wellFormed}
+use Rattle.text.specs.Utf8.{charWidth, wellFormedBytes}
 use Rattle.text.proofs.Widths.{char-within}
 use Rattle.jkf.specs.Attaching.{Hung, all, first, attach, allHung}
 use Rattle.jkf.specs.declared.Answer.{Answer}
@@ -20,14 +20,14 @@ use Rattle.jkf.specs.Answers.{figures, Outcome, refuse}
 use Rattle.block.specs.Encode.{encode, headBytes, entriesOf, commentsOf, headerText}
 use Rattle.block.specs.Formed.{Formed}
 use Rattle.moves.proofs.Smalls.{Bytes, each, bytes-at, bytes-join, bytes-one, bytes-16, zeros}
-use Rattle.kakinoki.specs.Starts.{startOf}
+use Rattle.kakinoki.specs.Starts.{startRead}
 use Rattle.kakinoki.specs.declared.Fault.{Fault}
 use Rattle.kakinoki.specs.declared.Fault.the-variants.{NoFault, At}
 use Rattle.kakinoki.proofs.Reach.{repeat-keeps}
 use Rattle.plays.specs.Plays.{playsAt}
 use Rattle.filling.specs.Filling.{atFront}
 use Rattle.parser.specs.Parse.{headersOf, parse, recordOf, needed}
-use Rattle.parser.specs.Read.{onFault, onHung, filledWith, storedOf, startedOf, readOf}
+use Rattle.parser.specs.Read.{onFault, onHung, filledWith, readStored, startedOf, readOf}
 use Rattle.plays.proofs.Items.{on-more, no-more}
 use Rattle.laws.proofs.Playing.{entries-kind, comments-valid, some-lines, lines-fit}
 use Rattle.laws.proofs.Smalling.{lines-bytes, entries-bytes, remarks-bytes, comments-bytes}
@@ -49,17 +49,17 @@ module _ (s : List ℕ) (b : (k : ℕ) → getD s k 0 < 256) where
   pub read-bytes : Bytes (encode (recordOf (parse s)))
   unfolding encode parse
   read-bytes =
-      let at = startOf s .next .at in
+      let at = startRead s .next .at in
       let hs = headersOf s in
       let ls = attach (playsAt s at .state) in
       let cs = commentsOf (entriesOf ls) in
       bytes-join (bytes-join (bytes-join (bytes-join (bytes-join (bytes-join (bytes-join (head-bytes _ _ _ _ _ _) (start-bytes s)) (headers-bytes 0 hs)) (lines-bytes 0 ls))
       (entries-bytes s at 0)) (remarks-bytes (length (headerText hs)) cs)) (header-text-bytes s b)) (comments-bytes s at b)
 
-  pub read-formed : wellFormed s ≡ length s → needed (parse s) ≤ 65535 → allHung (parse s .plays) ≡ all → Formed (recordOf (parse s))
+  pub read-formed : wellFormedBytes s ≡ length s → needed (parse s) ≤ 65535 → allHung (parse s .plays) ≡ all → Formed (recordOf (parse s))
   unfolding parse
   read-formed w n g =
-      let at = startOf s .next .at in
+      let at = startRead s .next .at in
       record {
         version = refl;
         short = omega (arith, needed-is s);
@@ -77,7 +77,7 @@ module _ (s : List ℕ) (b : (k : ℕ) → getD s k 0 < 256) where
 -- ---- what is done
 
 -- no more is well formed than there is
-pub well-within : (s : List ℕ) → wellFormed s ≤ length s
+pub well-within : (s : List ℕ) → wellFormedBytes s ≤ length s
 unfolding pastAll
 well-within s = repeat-keeps (widthStep (charWidth s)) (λ to u. to ≤ length s) step (length s) 0 tt (omega arith)
   where
@@ -100,7 +100,7 @@ module _ (s o : List ℕ) (b : (k : ℕ) → getD s k 0 < 256) where
   abbrev Fronted : Outcome → Type 0
   Fronted r = (t m : ℕ) → r .answer ≡ Done t m → (take m (r .buffer) ≡ encode (recordOf (parse s))) × Formed (recordOf (parse s))
 
-  filled-front : wellFormed s ≡ length s → needed (parse s) ≤ 65535 → Fronted (filledWith (parse s) o)
+  filled-front : wellFormedBytes s ≡ length s → needed (parse s) ≤ 65535 → Fronted (filledWith (parse s) o)
   unfolding filledWith figures
   filled-front w n = go (allHung (parse s .plays)) refl
     where
@@ -111,14 +111,14 @@ module _ (s o : List ℕ) (b : (k : ℕ) → getD s k 0 < 256) where
       go all g t m e =
           (take-at (encode (recordOf (parse s))) (drop (length (encode (recordOf (parse s)))) o) m (needed-is s ∙ done-second _ _ t m e), read-formed s b w n g)
 
-  stored-front : wellFormed s ≡ length s → Fronted (storedOf (parse s) o)
-  unfolding storedOf figures
+  stored-front : wellFormedBytes s ≡ length s → Fronted (readStored (parse s) o)
+  unfolding readStored figures
   stored-front w =
       by-pick Fronted (ltb 65535 (needed (parse s))) _ _ (λ _ t m e. refused (BlockTooLong (needed (parse s))) t m (omega arith) e)
       (λ n. by-pick Fronted (ltb (length o) (needed (parse s))) _ _ (λ _ t m e. refused (BufferShort (needed (parse s))) t m (omega arith) e)
       (λ _. filled-front w (ltb-false 65535 (needed (parse s)) n)))
 
-  fault-front : (f : Fault) → wellFormed s ≡ length s → Fronted (onFault f (λ at. refuse (HandLine at) o) (storedOf (parse s) o))
+  fault-front : (f : Fault) → wellFormedBytes s ≡ length s → Fronted (onFault f (λ at. refuse (HandLine at) o) (readStored (parse s) o))
   unfolding figures
   fault-front (At at) w t m e = refused (HandLine at) t m (omega arith) e
   fault-front NoFault w t m e = stored-front w t m e
@@ -128,5 +128,5 @@ module _ (s o : List ℕ) (b : (k : ℕ) → getD s k 0 < 256) where
   unfolding readOf startedOf figures
   read-done =
       by-pick Fronted (ltb 65535 (length s)) _ _ (λ _ t m e. refused (TextTooLong (length s)) t m (omega arith) e)
-      (λ _. by-pick Fronted (ltb (wellFormed s) (length s)) _ _ (λ _ t m e. refused (NotUtf8 (wellFormed s)) t m (omega arith) e)
-      (λ n. fault-front (startOf s .fault) (omega (arith, well-within s, ltb-false (wellFormed s) (length s) n))))
+      (λ _. by-pick Fronted (ltb (wellFormedBytes s) (length s)) _ _ (λ _ t m e. refused (NotUtf8 (wellFormedBytes s)) t m (omega arith) e)
+      (λ n. fault-front (startRead s .fault) (omega (arith, well-within s, ltb-false (wellFormedBytes s) (length s) n))))

@@ -5,7 +5,7 @@ use Prim.Native.Nat.{ℕ, zero, suc, _+_, _-_, _<_}
 use native.Mathlib.Numerals.{add-one}
 use native.Mathlib.Omega.{arith}
 use mathlib.Core.Path.{_≡_, refl, sym, ap, _∙_, subst}
-use mathlib.Core.List.{List, [], _∷_, _++_, map}
+use mathlib.Core.List.{List, [], _∷_, _++_}
 use mathlib.Core.Bool.{Bool, true, false, true≢false}
 use lib.ListN.{length, getD}
 use lib.Dec.{eqb, ltb}
@@ -15,10 +15,11 @@ use Rattle.lists.specs.Pick.{pick}
 use Rattle.lists.specs.Test.{each, claim}
 use Rattle.lists.proofs.Laws.{by-pick}
 use Rattle.text.specs.Text.{keyAt}
-use Rattle.text.specs.Utf8.{wellFormed}
+use Rattle.text.specs.Utf8.{wellFormedBytes}
 use Rattle.text.proofs.Laws.{tail-from, break-after}
 use Rattle.text.proofs.Boundaries.{boundary-colon, boundary-tail, part-well, key-part, key-well}
-use Rattle.sorted.specs.Sorted.{onOrder, compared, byBytes, enterAll, All as Alls, Ascending}
+use Rattle.sorted.specs.Sorted.{onOrder, compared, byBytes}
+use Rattle.sorted.specs.inner.Orders.{Ascending}
 use Rattle.sorted.specs.declared.Order.{Order}
 use Rattle.sorted.specs.declared.Order.the-variants.{Less, Equal, Greater}
 use Rattle.sorted.proofs.Orders.{bytes-chain, bytes-flip}
@@ -34,37 +35,24 @@ use Rattle.kakinoki.specs.declared.KeyValue.{KeyValue}
 use Rattle.kakinoki.specs.declared.KeyValue.the-variants.{Pair, NoPair}
 use Rattle.kakinoki.proofs.Heads.{headers-said}
 use Rattle.parser.specs.Parse.{byHeader, headersOf}
-use Rattle.parser.proofs.Alls.{all-at, all-any}
+use Rattle.parser.proofs.Alls.{all-at, all-any, all-map}
 use Rattle.laws.proofs.Smalling.{bytes-concat, bytes-table}
 use Rattle.laws.proofs.Breaking.{pair-parts, Headline, headlines}
 
 -- ---- what holds of all header entries
 
-all-map : {A B : Type 0} {P : B → Type 0} (f : A → B) {l : List A} → All (λ x. P (f x)) l → All P (map f l)
-all-map f none = none
-all-map f (next p t) = next p (all-map f t)
-
-all-there : {A : Type 0} {P : A → Type 0} {l : List A} → All P l → Alls P l
-all-there none = tt
-all-there (next p t) = (p, all-there t)
-
-all-back : {A : Type 0} {P : A → Type 0} (l : List A) → Alls P l → All P l
-all-back [] h = none
-all-back (x ∷ l) h = next (h .0) (all-back l (h .1))
-
 -- what holds of the entry of each header line
 headers-all : (s : List ℕ) (P : Header → Type 0) → All (λ at. P (headerAt s at)) (headerPlaces s) → All P (headersOf s)
 unfolding headersOf
 headers-all s P h =
-    all-back (enterAll byHeader [] (headersSaid s))
-    (enterAll-all byHeader P [] (headersSaid s) tt (subst (Alls P) (headers-said s) (all-there (all-map (headerAt s) h))))
+    enterAll-all byHeader P [] (headersSaid s) none (subst (All P) (headers-said s) (all-map (headerAt s) h))
 
 -- ---- texts are valid
 
 abbrev Valid : Header → Type 0
 Valid h = claim (valid (h .key)) × claim (valid (h .value))
 
-module _ (s : List ℕ) (w : wellFormed s ≡ length s) where
+module _ (s : List ℕ) (w : wellFormedBytes s ≡ length s) where
   header-valid : (at : ℕ) → Headline s w at → Valid (headerAt s at)
   unfolding headerAt
   header-valid at h =
@@ -115,10 +103,10 @@ headers-ascend s =
 next-before : (hs : List Header) → Ascending byHeader hs → (k : ℕ) → suc k < length hs → before (headerOf hs k .key) (headerOf hs (suc k) .key) ≡ true
 next-before [] a k h = absurd (omega arith)
 next-before (x ∷ []) a k h = absurd (omega arith)
-next-before (x ∷ y ∷ hs) a zero h = less-before (x .key) (y .key) (a .0 .0)
+next-before (x ∷ y ∷ hs) a zero h = less-before (x .key) (y .key) (all-at y (a .0) 0 (omega arith))
 next-before (x ∷ y ∷ hs) a (suc k) h = next-before (y ∷ hs) (a .1) k (omega arith)
 
-pub headers-fit : (s : List ℕ) → wellFormed s ≡ length s → claim (each (length (headersOf s)) (headerFits (headersOf s)))
+pub headers-fit : (s : List ℕ) → wellFormedBytes s ≡ length s → claim (each (length (headersOf s)) (headerFits (headersOf s)))
 headers-fit s w k h =
     let hs = headersOf s in
     let (key, value) = all-at (record { key = []; value = [] }) (headers-valid s w) k h in (

@@ -22,3 +22,4 @@ pub mod Back
 pub mod Cases
 pub mod EditsDone
 pub mod Edits
+pub mod Theorems

@@ -80,9 +80,6 @@ part-number {b} {t} {o} {n} i p = sym (le16-drop b o i) ∙ ap (λ (l : List ℕ
 pub part-number₀ : {b t : List ℕ} {o n : ℕ} → Part b o n t → le16 b o ≡ le16 (t ++ drop n (drop o b)) 0
 part-number₀ {b} {t} {o} {n} p = number-at b o ∙ ap (λ (l : List ℕ). le16 l 0) (from-part p .is)
 
-pub number-small : (b : List ℕ) → Bytes b → (i : ℕ) → le16 b i < 65536
-number-small b u i = omega (arith, u i, u (i + 1))
-
 pub number-part : (b : List ℕ) → Bytes b → (i : ℕ) → i + 1 < length b → Part b i 2 (bytes16 (le16 b i))
 number-part b u i h =
     let x = getD b i 0 in

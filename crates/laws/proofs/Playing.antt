@@ -12,11 +12,11 @@ use Rattle.lists.specs.All.{All, next}
 use Rattle.lists.specs.Test.{each, claim}
 use Rattle.lists.specs.Repeat.{more, stop}
 use Rattle.lists.proofs.Laws.{by-pick}
-use Rattle.text.specs.Utf8.{wellFormed}
+use Rattle.text.specs.Utf8.{wellFormedBytes}
 use Rattle.text.specs.declared.Cursor.{Cursor}
 use Rattle.jkf.specs.Attaching.{all, Play, play, starts, counts, attach, allHung}
 use Rattle.jkf.specs.declared.Entry.{Entry}
-use Rattle.jkf.specs.declared.Entry.the-variants.{Slot, Play as Moved, End}
+use Rattle.jkf.specs.declared.Entry.the-variants.{Slot, Moved, End}
 use Rattle.jkf.specs.Model.{Noted}
 use Rattle.block.specs.Encode.{concat, entriesOf, commentsOf}
 use Rattle.block.specs.Sound.{valid, kindTest}
@@ -32,7 +32,7 @@ use Rattle.moves.proofs.Fits.{move-line-fits}
 use Rattle.moves.proofs.Worded.{remark-well}
 use Rattle.plays.specs.Plays.{noted, commentItem, commentsAt, entryItem, entriesAt, skippedAt, plyAt, skipsAt, playItem, variationItem, variationsAt, slotAt, pastMain, mainAt, playsAt}
 use Rattle.parser.proofs.Alls.{OnStep, goes, stops, all-at, all-append, all-concat, many-all}
-use Rattle.block.proofs.Attached.{attach-length, attach-entries, starts-small, lines-hang}
+use Rattle.block.proofs.Attached.{attach-length, attach-entries, lines-hang}
 use Rattle.plays.proofs.Items.{textOf}
 
 -- ---- what holds of all that is read
@@ -124,7 +124,7 @@ entries-kind s at =
 
 -- ---- comments are valid
 
-pub comments-valid : (s : List ℕ) (at : ℕ) → wellFormed s ≡ length s
+pub comments-valid : (s : List ℕ) (at : ℕ) → wellFormedBytes s ≡ length s
     → claim (each (length (commentsOf (entriesOf (attach (playsAt s at .state))))) (λ k. valid (getD (commentsOf (entriesOf (attach (playsAt s at .state)))) k [])))
 comments-valid s at w k h =
     all-at [] (remarks-all s (λ c. claim (valid c)) (comments-all s (λ c. claim (valid c)) (λ at from to end q. remark-well s at from to end w q)) at) k h
@@ -149,7 +149,3 @@ some-lines s at = omega (arith, attach-length (playsAt s at .state))
 pub lines-fit : (s : List ℕ) (at : ℕ) → allHung (playsAt s at .state) ≡ all
     → claim (each (length (attach (playsAt s at .state))) (lineFits 1 (attach (playsAt s at .state))))
 lines-fit s at g = lines-hang (playsAt s at .state) (first-start s at) (plays-some s at) g
-
-pub starts-fit : (s : List ℕ) (at : ℕ) → allHung (playsAt s at .state) ≡ all
-    → (k : ℕ) → k < length (playsAt s at .state) → starts (playsAt s at .state) k < length (entriesOf (attach (playsAt s at .state)))
-starts-fit s at g k h = starts-small (playsAt s at .state) (first-start s at) (plays-some s at 0 (omega arith)) g k h

@@ -18,16 +18,16 @@ use Rattle.lists.specs.Pick.{pick}
 use Rattle.lists.specs.Test.{each, claim}
 use Rattle.lists.proofs.Laws.{by-pick}
 use Rattle.lent.specs.Bytes.{bytes16}
-use Rattle.block.specs.EntryBytes.{timeBytes, headBytes as entryHead, entryBytes}
+use Rattle.block.specs.EntryBytes.{timeBytes, entryHead, entryBytes}
 use Rattle.jkf.specs.Entries.{timeOf}
 use Rattle.block.specs.PositionBytes.{positionBytes, positionIn}
 use Rattle.jkf.specs.declared.Entry.{Entry}
-use Rattle.jkf.specs.declared.Entry.the-variants.{Slot, Play as Moved, End}
+use Rattle.jkf.specs.declared.Entry.the-variants.{Slot, Moved, End}
 use Rattle.block.proofs.ByteArrays.{bytes-length}
 use Rattle.jkf.specs.Model.{Header, Noted}
 use Rattle.jkf.specs.Attaching.{Play, play, counts, attach}
 use Rattle.block.specs.Encode.{encode, entryRow, entryStep, entriesOf, commentsOf, headerText}
-use Rattle.block.specs.Decode.{decode, run, headersIn, linesIn, movesIn, commentsIn, movePlace, textPlace, keyOffset, keyLength, valueOffset, valueLength, firstEntry, entryCount, firstComment, commentCount, commentOffset, commentLength, textAt, keyOf, valueOf, commentOf, headerIn, notedIn}
+use Rattle.block.specs.Decode.{decode, run, headersIn, linesIn, movesIn, commentsIn, movePlace, textPlace, keyOffset, keyLength, valueOffset, valueLength, firstEntry, entryCount, firstComment, commentCount, commentOffset, commentLength, storedText, keyOf, valueOf, commentOf, headerIn, notedIn}
 use Rattle.block.specs.Sound.{Sound, valid, before, kindTest, commentsBefore}
 use Rattle.block.specs.Formed.{headerOf, notedOf, headerFits, Formed}
 use Rattle.block.proofs.Sums.{sum-within}
@@ -41,7 +41,7 @@ use Rattle.parser.proofs.Alls.{all-at, all-concat}
 use Rattle.block.proofs.Attached.{attach-length, attach-entries, lines-hang}
 use Rattle.moves.proofs.Worded.{remark-well}
 use Rattle.edit.specs.Edit.{playsIn, isVariation, variationOf}
-use Rattle.edit.specs.Splicing.{relined, Lines, playIn}
+use Rattle.edit.specs.inner.Splicing.{relined, Lines, playIn}
 use Rattle.edit.proofs.Played.{plays-are}
 use Rattle.edit.proofs.Sounds.{first-is}
 use Rattle.edit.proofs.Texts.{variation-says}
@@ -138,7 +138,7 @@ module _ (b : List ℕ) (s : Sound b) (u : Bytes b) where
   position-part =
       position-bytes (drop 28 b) (omega (arith, length-drop 28 b, s .head .0)) (getD-drop 28 b 3 0 ∙ s .position .0) (getD-drop 28 b 99 0 ∙ s .position .1 .0)
 
-  text-bytes : (from n : ℕ) → AllBytes (textAt b from n)
+  text-bytes : (from n : ℕ) → AllBytes (storedText b from n)
   text-bytes from n = bytes-take n (bytes-drop (textPlace b + from) bytes)
 
   header-bytes : (k : ℕ) → AllBytes (keyOf b k ++ valueOf b k)

@@ -1,6 +1,6 @@
 -- No second result meets a promise.                                                                   (01, What the promises say)
 -- Every promise of a public function is made of the shapes below: an equation for the result, for a lent buffer or for a part, or one of
--- `Wrote`, `Stored` and `Told`. Of each, two results, buffers and numbers that meet it for the same input are equal, since its
+-- `Wrote`, `Stored` and `Answered`. Of each, two results, buffers and numbers that meet it for the same input are equal, since its
 -- equations give the count by the input, and all else by the input and the count. A look-up's part has the bytes that stand where its figures say.
 -- Assumes nothing.
 use Prim.Native.Nat.{ℕ, _+_, _≤_, _<_}
@@ -11,15 +11,15 @@ use lib.ListN.{length, take, drop}
 use lib.Dec.{ltb}
 use Rattle.lists.specs.Pick.{pick}
 use Rattle.lent.specs.Bytes.{Wrote}
-use Rattle.lent.specs.Regions.{Stored}
+use Rattle.lent.specs.Stored.{Stored}
 use Rattle.text.specs.declared.Cursor.{Cursor}
 use Rattle.jkf.specs.Answers.{figures, figured}
 use Rattle.jkf.specs.declared.Answer.{Answer}
 use Rattle.jkf.specs.declared.Answer.the-variants.{Done, NotSound, NoSuchPart}
 use Rattle.jkf.proofs.Answering.{figures-one}
-use Rattle.block.specs.Decode.{textPlace, textAt}
+use Rattle.block.specs.Decode.{textPlace, storedText}
 use Rattle.block.specs.Sound.{soundb}
-use Rattle.block.specs.Look.{Told, lookAnswer, lookPart}
+use Rattle.block.specs.Look.{Answered, lookAnswer, lookPart}
 use Rattle.filling.specs.declared.Walk.{Walk}
 use Rattle.plays.specs.declared.Reached.{Reached}
 
@@ -66,25 +66,25 @@ reached-one r s p q =
 -- ---- the three lent numbers
 
 -- number and figures
-pub told-one : {a : Answer} {n m x y z w : ℕ} → Told a n x y → Told a m z w → (n ≡ m) × (x ≡ z) × (y ≡ w)
-told-one s t = (equation-one (s .number) (t .number), equation-one (s .first) (t .first), equation-one (s .second) (t .second))
+pub answered-one : {a : Answer} {n m x y z w : ℕ} → Answered a n x y → Answered a m z w → (n ≡ m) × (x ≡ z) × (y ≡ w)
+answered-one s t = (equation-one (s .number) (t .number), equation-one (s .first) (t .first), equation-one (s .second) (t .second))
 
 figured-one : {n x y m z w : ℕ} → n ≡ m → x ≡ z → y ≡ w → figured n x y ≡ figured m z w
 figured-one h₀ h₁ h₂ = cc
 
 -- the three numbers say the answer: a call that answers by them promises what one that answers an `Answer` does
-pub answer-one : {a b : Answer} {n x y : ℕ} → Told a n x y → Told b n x y → a ≡ b
+pub answer-one : {a b : Answer} {n x y : ℕ} → Answered a n x y → Answered b n x y → a ≡ b
 answer-one {a} {b} s t = figures-one a b (figured-one (sym (s .number) ∙ t .number) (sym (s .first) ∙ t .first) (sym (s .second) ∙ t .second))
 
 -- them and what an equation tells: a look-up's part, or the lent buffer of a call for C
-pub told-both-one : {A : Type 0} {a : Answer} {t p q : A} {n m x y z w : ℕ} → (p ≡ t) × Told a n x y → (q ≡ t) × Told a m z w
+pub answered-both-one : {A : Type 0} {a : Answer} {t p q : A} {n m x y z w : ℕ} → (p ≡ t) × Answered a n x y → (q ≡ t) × Answered a m z w
     → (p ≡ q) × (n ≡ m) × (x ≡ z) × (y ≡ w)
-told-both-one s t = let e = told-one (s .1) (t .1) in (equation-one (s .0) (t .0), e .0, e .1, e .2)
+answered-both-one s t = let e = answered-one (s .1) (t .1) in (equation-one (s .0) (t .0), e .0, e .1, e .2)
 
 -- ---- where a look-up's part lies
 
 placed : (b : List ℕ) (k offset len : ℕ) (sound there : Bool)
-    → pick sound (pick there (textAt b offset len) []) []
+    → pick sound (pick there (storedText b offset len) []) []
     ≡ take (figures (pick sound (pick there (Done (textPlace b + offset) len) (NoSuchPart k)) NotSound) .second)
     (drop (figures (pick sound (pick there (Done (textPlace b + offset) len) (NoSuchPart k)) NotSound) .first) b)
 unfolding figures
@@ -93,6 +93,6 @@ placed b k offset len true false = refl
 placed b k offset len false there = refl
 
 -- the part is as many bytes of the block as the second figure says, from where the first says on; a refusal's second figure is 0
-pub look-place : (b : List ℕ) (n k offset len : ℕ) {p : List ℕ} {number x y : ℕ} → p ≡ lookPart b n k (textAt b offset len)
-    → Told (lookAnswer b n k offset len) number x y → p ≡ take y (drop x b)
+pub look-place : (b : List ℕ) (n k offset len : ℕ) {p : List ℕ} {number x y : ℕ} → p ≡ lookPart b n k (storedText b offset len)
+    → Answered (lookAnswer b n k offset len) number x y → p ≡ take y (drop x b)
 look-place b n k offset len e t = rw (t .first, t .second) (e ∙ placed b k offset len (soundb b) (ltb k n))

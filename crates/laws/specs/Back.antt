@@ -13,7 +13,7 @@ use Rattle.block.specs.Encode.{encode}
 use Rattle.block.specs.Decode.{decode}
 use Rattle.block.specs.Sound.{Sound}
 use Rattle.block.specs.Formed.{Formed}
-use Rattle.kakinoki.specs.Starts.{startOf}
+use Rattle.kakinoki.specs.Starts.{startRead}
 use Rattle.kakinoki.specs.declared.Fault.the-variants.{NoFault}
 use Rattle.parser.specs.Parse.{Parsed, parse}
 use Rattle.parser.specs.Read.{readOf}
@@ -60,14 +60,14 @@ abbrev pub PlainIsWhole : Type 0
 PlainIsWhole = (r : Record) → recordText r ≡ wholeText (left r)
 
 -- What a reading finds in n bytes that say a record: its header entries, its position, its lines of play without their parents.
-abbrev pub saidBy : Record → ℕ → Parsed
-saidBy r n = record { headers = r .headers; position = r .position; plays = playsIn (r .lines); taken = n }
+abbrev pub parsedOf : Record → ℕ → Parsed
+parsedOf r n = record { headers = r .headers; position = r .position; plays = playsIn (r .lines); taken = n }
 
 -- A text says, to its last byte, the header entries, the position and the lines of play of what it leaves, and no hand line of it fails.
 abbrev pub SaysBack : Type 0
 SaysBack =
     (m : Mode) (r : Record) → Formed r → Sayable r → ColorsFollow r → handsObstacle (r .position) ≡ Clear → AllWritten m r
-    → (parse (textIn m r) ≡ saidBy (leftIn m r) (length (textIn m r))) × (startOf (textIn m r) .fault ≡ NoFault)
+    → (parse (textIn m r) ≡ parsedOf (leftIn m r) (length (textIn m r))) × (startRead (textIn m r) .fault ≡ NoFault)
 
 -- The parents, in a step of its own: these lines of play all hang, and where they did.                 (01, Attaching rule)
 abbrev pub HangsBack : Type 0

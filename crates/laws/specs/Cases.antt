@@ -9,13 +9,13 @@ use lib.Dec.{eqb}
 use Rattle.lists.specs.All.{All}
 use Rattle.lists.specs.Pick.{pick}
 use Rattle.text.specs.Text.{cursor}
-use Rattle.spell.specs.Count.{countAt}
+use Rattle.spell.specs.Count.{handCountAt}
 use Rattle.spell.specs.declared.Spelled.the-variants.{As}
 use Rattle.jkf.specs.Answers.{Outcome, figures, figured}
 use Rattle.jkf.specs.declared.Target.the-variants.{Same}
 use Rattle.jkf.specs.declared.Origin.the-variants.{From}
 use Rattle.jkf.specs.declared.Time.the-variants.{Untimed}
-use Rattle.jkf.specs.declared.Entry.the-variants.{Play}
+use Rattle.jkf.specs.declared.Entry.the-variants.{Moved}
 use Rattle.block.specs.Decode.{run, linesIn, startOf, parentOf}
 use Rattle.moves.specs.Moves.{moveLineAt}
 use Rattle.moves.specs.declared.MoveLine.the-variants.{Numbered, NoLine}
@@ -52,16 +52,16 @@ listing r =
 -- ---- where lines hang
 
 -- On which line, and on which of its entries.
-pub record Place : Type 0 where
+pub record HangsAt : Type 0 where
   pub line : ℕ
   pub entry : ℕ
 
 -- On this line, on its entry with this number.
-abbrev pub on : ℕ → ℕ → Place
+abbrev pub on : ℕ → ℕ → HangsAt
 on line entry = record { line = line; entry = entry }
 
 -- A line's parent, and its start less the parent's.                                                   (01, Attaching rule)
-abbrev pub placeIn : List ℕ → ℕ → Place
+abbrev pub placeIn : List ℕ → ℕ → HangsAt
 placeIn b k = on (parentOf b k) (startOf b k - startOf b (parentOf b k))
 
 -- What f says of each variation of the block in the buffer.
@@ -73,8 +73,8 @@ eachOf f r = run (f (r .buffer)) 1 (linesIn (r .buffer) - 1)
 -- The variations hang at places; a new line has a number, and then they hang so; so many lines are cut, and the others start at plies; a
 -- refusal has a number and two figures.
 pub data Result : Type 0 where
-  hang : List Place → Result
-  goesIn : ℕ → List Place → Result
+  hang : List HangsAt → Result
+  goesIn : ℕ → List HangsAt → Result
   leaves : ℕ → List ℕ → Result
   refused : ℕ → ℕ → ℕ → Result
 
@@ -112,11 +112,11 @@ Holds o (cuts vs line given) = Gives o given (cutting o vs line)
 -- 1 同歩(n) is a move line, to its last byte, from (x, y).
 Holds o (isFrom n x y) =
     moveLineAt (originLine n) 0
-    ≡ Numbered 1 (Play (record { color = 0; piece = 1; promote = 0; to = Same; from = From x y; time = Untimed })) (cursor (length (originLine n)))
--- It is no move line.
+    ≡ Numbered 1 (Moved (record { color = 0; piece = 1; promote = 0; to = Same; from = From x y; time = Untimed })) (cursor (length (originLine n)))
+-- 1 同歩(n) is no move line.
 Holds o (isNoLine n) = moveLineAt (originLine n) 0 ≡ NoLine
 -- The characters are this count, to their last byte.
-Holds o (counts t n) = countAt t 0 ≡ As n (cursor (length t))
+Holds o (counts t n) = handCountAt t 0 ≡ As n (cursor (length t))
 -- The listing program prints this of the text.
 Holds o (prints t listed) = listing (readOf t o) ≡ listed
 

@@ -9,7 +9,7 @@ use Rattle.jkf.specs.declared.Clock.the-variants.{Hms, Ms}
 use Rattle.jkf.specs.declared.Time.{Time}
 use Rattle.jkf.specs.declared.Time.the-variants.{Untimed, Timed}
 use Rattle.jkf.specs.declared.Entry.{Entry}
-use Rattle.jkf.specs.declared.Entry.the-variants.{Slot, Play, End}
+use Rattle.jkf.specs.declared.Entry.the-variants.{Slot, Moved, End}
 use Rattle.jkf.specs.Model.{Noted, Line, Record}
 use Rattle.converter.specs.Entries.{hour, minute, second}
 use Rattle.converter.specs.Show.{shown}
@@ -34,8 +34,8 @@ leftTime (Timed now total) = Timed (leftNow now) (leftTotal total)
 -- Of an entry, its mark and its time.
 unfoldable pub leftEntry : Entry → Entry
 leftEntry Slot = Slot
-leftEntry (Play m) =
-    Play (record { color = m .color; piece = m .piece; promote = leftMark (m .promote); to = m .to; from = m .from; time = leftTime (m .time) })
+leftEntry (Moved m) =
+    Moved (record { color = m .color; piece = m .piece; promote = leftMark (m .promote); to = m .to; from = m .from; time = leftTime (m .time) })
 leftEntry (End s t) = End s (leftTime t)
 
 -- Comments are all kept.

@@ -13,7 +13,7 @@ use Rattle.jkf.specs.declared.Special.{Special}
 use Rattle.jkf.specs.declared.Time.{Time}
 use Rattle.jkf.specs.declared.Move.{Move}
 use Rattle.jkf.specs.declared.Entry.{Entry}
-use Rattle.jkf.specs.declared.Entry.the-variants.{Slot, Play as Moved, End}
+use Rattle.jkf.specs.declared.Entry.the-variants.{Slot, Moved, End}
 use Rattle.jkf.specs.Model.{Noted, Record}
 use Rattle.moves.specs.Fits.{OriginFits}
 use Rattle.converter.specs.Show.{recordText}

@@ -16,7 +16,7 @@ use Rattle.jkf.specs.declared.Special.{Special}
 use Rattle.jkf.specs.declared.Time.{Time}
 use Rattle.jkf.specs.declared.Move.{Move}
 use Rattle.jkf.specs.declared.Entry.{Entry}
-use Rattle.jkf.specs.declared.Entry.the-variants.{Slot, Play as Moved, End}
+use Rattle.jkf.specs.declared.Entry.the-variants.{Slot, Moved, End}
 use Rattle.jkf.specs.Model.{Header, Noted, Record}
 use Rattle.jkf.specs.Attaching.{Play}
 use Rattle.moves.specs.Moves.{colorOf}

@@ -16,13 +16,13 @@ use Rattle.jkf.specs.declared.Time.{Time}
 use Rattle.jkf.specs.declared.Time.the-variants.{Untimed, Timed}
 use Rattle.jkf.specs.declared.Move.{Move}
 use Rattle.jkf.specs.declared.Entry.{Entry}
-use Rattle.jkf.specs.declared.Entry.the-variants.{Slot, Play, End}
+use Rattle.jkf.specs.declared.Entry.the-variants.{Slot, Moved, End}
 use Rattle.jkf.specs.Model.{Noted, Line, Record}
 use Rattle.block.specs.Encode.{concat}
 use Rattle.spell.specs.Words.{promotes, declines}
 use Rattle.converter.specs.Headers.{headersText}
 use Rattle.converter.specs.Diagrams.{positionText}
-use Rattle.converter.specs.Entries.{targetText, originText, specialText, widthOf, figureText, padding, remarksText}
+use Rattle.converter.specs.Entries.{targetText, originText, specialText, widthOf, figureText, timePadding, remarksText}
 use Rattle.converter.specs.Show.{numberLine, slotComments, variationHead}
 
 -- ---- an entry
@@ -43,12 +43,12 @@ clockText fill after (Ms m s) = figureText fill 58 m ++ figureText 48 after s
 -- Now with or without its hour, / and the total with or without its hour, padded as the plain text is.
 unfoldable pub wholeTime : ℕ → Time → List ℕ
 wholeTime width Untimed = []
-wholeTime width (Timed now total) = (padding width ++ ((40 ∷ []) ++ clockText 32 47 now)) ++ clockText 48 41 total
+wholeTime width (Timed now total) = (timePadding width ++ ((40 ∷ []) ++ clockText 32 47 now)) ++ clockText 48 41 total
 
 -- A move or a special.
 unfoldable pub wholePlay : Entry → List ℕ
 wholePlay Slot = []
-wholePlay (Play m) = wholeMove m
+wholePlay (Moved m) = wholeMove m
 wholePlay (End s t) = specialText s
 
 -- An entry's line.

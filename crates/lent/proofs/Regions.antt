@@ -9,7 +9,8 @@ use lib.Seq.{set-append-left, getD-take, getD-drop, drop-at, length-take-le, tak
 use borrow.Rule.Slice.PartMut.{midOf, putMid}
 use Rattle.lent.specs.Bytes.{Wrote, fitting}
 use Rattle.lent.proofs.Writes.{fitting-all, fitting-empty, rest, back}
-use Rattle.lent.specs.Regions.{Stored, put, puts, moved, join, first, Room, Same, Filled, all, starts}
+use Rattle.lent.specs.Stored.{Stored, put}
+use Rattle.lent.specs.inner.Regions.{puts, endsPast, join, first, Room, SameMany, Filled, all, placesOf}
 
 -- ---- one text
 
@@ -113,12 +114,12 @@ pub join-nil : (ts : List (List ℕ)) → join ts [] ≡ ts
 join-nil [] = refl
 join-nil (t ∷ ts) = refl
 
-further : (n : ℕ) (ps : List ℕ) (ts : List (List ℕ)) → first n ps ≤ first n (moved ps ts)
+further : (n : ℕ) (ps : List ℕ) (ts : List (List ℕ)) → first n ps ≤ first n (endsPast ps ts)
 further n [] ts = omega arith
 further n (p ∷ ps) [] = omega arith
 further n (p ∷ ps) (t ∷ ts) = omega arith
 
-pub room-rest : (n : ℕ) (ps : List ℕ) (ts us : List (List ℕ)) → Room n ps (join ts us) → Room n (moved ps ts) us
+pub room-rest : (n : ℕ) (ps : List ℕ) (ts us : List (List ℕ)) → Room n ps (join ts us) → Room n (endsPast ps ts) us
 room-rest n [] [] us r = r
 room-rest n [] (t ∷ ts) [] r = absurd r
 room-rest n [] (t ∷ ts) (u ∷ us) r = absurd r
@@ -127,38 +128,38 @@ room-rest n (p ∷ ps) (t ∷ ts) [] r = (omega (arith, r .0, further n ps ts), 
 room-rest n (p ∷ ps) (t ∷ ts) (u ∷ us) r =
     (omega (arith, r .0, length-append t u, further n ps ts), room-rest n ps ts us (r .1))
 
-pub moved-moved : (ps : List ℕ) (ts us : List (List ℕ)) → moved (moved ps ts) us ≡ moved ps (join ts us)
+pub moved-moved : (ps : List ℕ) (ts us : List (List ℕ)) → endsPast (endsPast ps ts) us ≡ endsPast ps (join ts us)
 moved-moved [] ts us = refl
 moved-moved (p ∷ ps) [] us = refl
 moved-moved (p ∷ ps) (t ∷ ts) [] = refl
 moved-moved (p ∷ ps) (t ∷ ts) (u ∷ us) =
     let z : p + length t + length u ≡ p + length (t ++ u) = omega (arith, length-append t u) in
-    ap (λ (n : ℕ). n ∷ moved (moved ps ts) us) z ∙ ap (λ (l : List ℕ). (p + length (t ++ u)) ∷ l) (moved-moved ps ts us)
+    ap (λ (n : ℕ). n ∷ endsPast (endsPast ps ts) us) z ∙ ap (λ (l : List ℕ). (p + length (t ++ u)) ∷ l) (moved-moved ps ts us)
 
 -- THE LAW: texts appended at all the ends, and then further ones
 pub puts-puts : (n : ℕ) (o : List ℕ) (ps : List ℕ) (ts us : List (List ℕ)) → Room n ps (join ts us)
-    → puts (puts o ps ts) (moved ps ts) us ≡ puts o ps (join ts us)
+    → puts (puts o ps ts) (endsPast ps ts) us ≡ puts o ps (join ts us)
 puts-puts n o [] ts us r = refl
 puts-puts n o (p ∷ ps) [] us r = refl
 puts-puts n o (p ∷ ps) (t ∷ ts) [] r = refl
 puts-puts n o (p ∷ ps) (t ∷ ts) (u ∷ us) r =
     let k : p + length t + length u ≤ first n ps = omega (arith, r .0, length-append t u) in
-    ap (λ (l : List ℕ). puts l (moved ps ts) us)
+    ap (λ (l : List ℕ). puts l (endsPast ps ts) us)
     (past (put o p t) u (p + length t) n ps ts k (room-front n ps ts us (r .1)) ∙ ap (λ (l : List ℕ). puts l ps ts) (put-more o t u p))
     ∙ puts-puts n (put o p (t ++ u)) ps ts us (r .1)
 
 -- ---- the same, of what functions promise
 
-pub same-is : (ps qs : List ℕ) → Same ps qs → ps ≡ qs
+pub same-is : (ps qs : List ℕ) → SameMany ps qs → ps ≡ qs
 same-is [] [] e = refl
 same-is [] (q ∷ qs) e = absurd e
 same-is (p ∷ ps) [] e = absurd e
 same-is (p ∷ ps) (q ∷ qs) e = ap (λ (n : ℕ). n ∷ ps) (e .0) ∙ ap (λ (l : List ℕ). q ∷ l) (same-is ps qs (e .1))
 
-pub same-of : {ps qs : List ℕ} → ps ≡ qs → Same ps qs
-same-of {ps} {qs} e = subst (λ (l : List ℕ). Same ps l) e (self ps)
+pub same-of : {ps qs : List ℕ} → ps ≡ qs → SameMany ps qs
+same-of {ps} {qs} e = subst (λ (l : List ℕ). SameMany ps l) e (self ps)
   where
-    self : (l : List ℕ) → Same l l
+    self : (l : List ℕ) → SameMany l l
     self [] = tt
     self (p ∷ l) = (refl, self l)
 
@@ -169,46 +170,46 @@ filled-length {ts} {o} {o′} {ps} {ps′} f = ap length (f .bytes) ∙ length-p
 pub then-fill : {ts us : List (List ℕ)} {o o₁ o₂ ps ps₁ ps₂ : List ℕ} → Room (length o) ps (join ts us)
     → Filled ts o o₁ ps ps₁ → Filled us o₁ o₂ ps₁ ps₂ → Filled (join ts us) o o₂ ps ps₂
 then-fill {ts} {us} {o} {o₁} {o₂} {ps} {ps₁} {ps₂} r f g =
-    let e = same-is ps₁ (moved ps ts) (f .ends) in
+    let e = same-is ps₁ (endsPast ps ts) (f .ends) in
     record {
       bytes =
           g .bytes ∙ ap (λ (l : List ℕ). puts l ps₁ us) (f .bytes) ∙ ap (λ (l : List ℕ). puts (puts o ps ts) l us) e
           ∙ puts-puts (length o) o ps ts us r;
-      ends = same-of (same-is ps₂ (moved ps₁ us) (g .ends) ∙ ap (λ (l : List ℕ). moved l us) e ∙ moved-moved ps ts us);
+      ends = same-of (same-is ps₂ (endsPast ps₁ us) (g .ends) ∙ ap (λ (l : List ℕ). endsPast l us) e ∙ moved-moved ps ts us);
     }
 
 -- the room that the second function needs
 pub then-room : {ts : List (List ℕ)} {o o₁ ps ps₁ : List ℕ} (us : List (List ℕ)) → Room (length o) ps (join ts us) → Filled ts o o₁ ps ps₁ → Room (length o₁) ps₁ us
 then-room {ts} {o} {o₁} {ps} {ps₁} us r f =
-    rw (filled-length f, same-is ps₁ (moved ps ts) (f .ends)) (room-rest (length o) ps ts us r)
+    rw (filled-length f, same-is ps₁ (endsPast ps ts) (f .ends)) (room-rest (length o) ps ts us r)
 
 pub as-texts : {ts ts′ : List (List ℕ)} {o o′ ps ps′ : List ℕ} → ts ≡ ts′ → Filled ts o o′ ps ps′ → Filled ts′ o o′ ps ps′
 as-texts {ts} {ts′} {o} {o′} {ps} {ps′} e f = subst (λ (x : List (List ℕ)). Filled x o o′ ps ps′) e f
 
 -- ---- the whole
 
-pub room-starts : (n p : ℕ) (ts : List (List ℕ)) → p + length (all ts) ≤ n → Room n (starts p ts) ts
+pub room-starts : (n p : ℕ) (ts : List (List ℕ)) → p + length (all ts) ≤ n → Room n (placesOf p ts) ts
 room-starts n p [] h = tt
 room-starts n p (t ∷ ts) h =
     let k : p + length t + length (all ts) ≤ n = omega (arith, length-append t (all ts)) in
     (near ts k, room-starts n (p + length t) ts k)
   where
-    near : (us : List (List ℕ)) → p + length t + length (all us) ≤ n → p + length t ≤ first n (starts (p + length t) us)
+    near : (us : List (List ℕ)) → p + length t + length (all us) ≤ n → p + length t ≤ first n (placesOf (p + length t) us)
     near [] k = omega arith
     near (u ∷ us) k = omega arith
 
-pub puts-starts : (o : List ℕ) (p : ℕ) (ts : List (List ℕ)) → puts o (starts p ts) ts ≡ put o p (all ts)
+pub puts-starts : (o : List ℕ) (p : ℕ) (ts : List (List ℕ)) → puts o (placesOf p ts) ts ≡ put o p (all ts)
 puts-starts o p [] = sym (put-none o p)
 puts-starts o p (t ∷ ts) = puts-starts (put o p t) (p + length t) ts ∙ put-more o t (all ts) p
 
-pub whole : {ts : List (List ℕ)} {o o′ ps ps′ : List ℕ} → length (all ts) ≤ length o → Filled ts o o′ ps ps′ → Same ps (starts 0 ts)
+pub whole : {ts : List (List ℕ)} {o o′ ps ps′ : List ℕ} → length (all ts) ≤ length o → Filled ts o o′ ps ps′ → SameMany ps (placesOf 0 ts)
     → o′ ≡ all ts ++ drop (length (all ts)) o
 whole {ts} {o} {o′} {ps} {ps′} h f e =
-    f .bytes ∙ ap (λ (l : List ℕ). puts o l ts) (same-is ps (starts 0 ts) e) ∙ puts-starts o 0 ts ∙ put-front o (all ts) h
+    f .bytes ∙ ap (λ (l : List ℕ). puts o l ts) (same-is ps (placesOf 0 ts) e) ∙ puts-starts o 0 ts ∙ put-front o (all ts) h
 
-pub whole-room : (n : ℕ) (ps : List ℕ) (ts : List (List ℕ)) → length (all ts) ≤ n → Same ps (starts 0 ts) → Room n ps ts
+pub whole-room : (n : ℕ) (ps : List ℕ) (ts : List (List ℕ)) → length (all ts) ≤ n → SameMany ps (placesOf 0 ts) → Room n ps ts
 whole-room n ps ts h e =
-    subst (λ (l : List ℕ). Room n l ts) (sym (same-is ps (starts 0 ts) e)) (room-starts n 0 ts (omega arith))
+    subst (λ (l : List ℕ). Room n l ts) (sym (same-is ps (placesOf 0 ts) e)) (room-starts n 0 ts (omega arith))
 
 -- ---- reading back what stands in a region
 
@@ -262,7 +263,7 @@ puts-nil : (o ps : List ℕ) → puts o ps [] ≡ o
 puts-nil o [] = refl
 puts-nil o (p ∷ ps) = refl
 
-moved-nil : (ps : List ℕ) → moved ps [] ≡ ps
+moved-nil : (ps : List ℕ) → endsPast ps [] ≡ ps
 moved-nil [] = refl
 moved-nil (p ∷ ps) = refl
 

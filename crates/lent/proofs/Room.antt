@@ -8,7 +8,7 @@ use lib.ListN.{length, drop, length-append}
 use lib.Seq.{drop-at, drop-drop}
 use borrow.Rule.Slice.PartMut.{midOf, putMid}
 use Rattle.lent.specs.Bytes.{Wrote, fitting}
-use Rattle.lent.specs.Regions.{Stored}
+use Rattle.lent.specs.Stored.{Stored}
 use Rattle.lent.proofs.Writes.{as-text, wrote-all, wrote-length, wrote-front, rest-length, then}
 use Rattle.lent.proofs.Regions.{put-eq, stored-all}
 

@@ -1,3 +1,4 @@
 pub mod Bytes
 pub mod Numbers
-pub mod Regions
+pub mod inner
+pub mod Stored

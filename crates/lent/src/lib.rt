@@ -5,7 +5,7 @@ ghost use Prim.Native.Nat.{_+_, _≤_, _<_};
 ghost use lib.ListN.{length, drop, getD, replicate};
 ghost use Rattle.lent.specs.Bytes.{le16, bytes16, Wrote, fitting};
 ghost use Rattle.lent.specs.Numbers.{decimal, padded};
-ghost use Rattle.lent.specs.Regions.{Stored};
+ghost use Rattle.lent.specs.Stored.{Stored};
 
 // A byte as a number to reckon with.
 pub fn wide(b: u8) -> usize

@@ -19,7 +19,7 @@ use Rattle.text.proofs.Readings.{one-digit, two-digits, digit-in}
 use Rattle.jkf.specs.declared.Clock.the-variants.{Hms, Ms}
 use Rattle.jkf.specs.declared.Time.the-variants.{Timed}
 use Rattle.moves.specs.Moves.{timing, colon, figureAt, hmsAt, msAt, clockAt, spacedAt, clocksAt, timeAt}
-use Rattle.moves.specs.Usuals.{Two, valueOf, UsualNow, UsualTotal, Usual}
+use Rattle.moves.specs.inner.Usuals.{Two, twoDigits, UsualNow, UsualTotal, Usual}
 use Rattle.moves.specs.declared.Clocked.the-variants.{Shows, NoClock}
 
 module _ (s : List ℕ) where
@@ -45,13 +45,13 @@ module _ (s : List ℕ) where
       here at (getD s at 0) refl (rw (ne-eqb (getD s at 0) 32 (λ e. omega arith), ne-eqb (getD s at 0) 9 (λ e. omega arith)))
 
   -- two digits and another byte after them
-  pub two-at : (at e b : ℕ) → Two s at → e ≡ at + 2 → getD s e 0 ≡ b → isDigit b ≡ false → digitsAt 255 s at ≡ Value (valueOf s at) (cursor e)
+  pub two-at : (at e b : ℕ) → Two s at → e ≡ at + 2 → getD s e 0 ≡ b → isDigit b ≡ false → digitsAt 255 s at ≡ Value (twoDigits s at) (cursor e)
   two-at at e b t z g n =
       let r = two-digits 255 s at (getD s at 0) (getD s (at + 1) 0) (omega arith) refl (t .tens) refl (t .ones) (getD s (at + 2) 0) refl (ap (λ (p : ℕ). isDigit (getD s p 0)) (sym z) ∙ ap isDigit g ∙ n) in
-      r ∙ ap (λ (p : ℕ). Value (valueOf s at) (cursor p)) (sym z)
+      r ∙ ap (λ (p : ℕ). Value (twoDigits s at) (cursor p)) (sym z)
 
   -- with the colon
-  figure-at : (at e f : ℕ) → Two s at → e ≡ at + 2 → f ≡ at + 3 → e < length s → getD s e 0 ≡ 58 → figureAt s at ≡ Value (valueOf s at) (cursor f)
+  figure-at : (at e f : ℕ) → Two s at → e ≡ at + 2 → f ≡ at + 3 → e < length s → getD s e 0 ≡ 58 → figureAt s at ≡ Value (twoDigits s at) (cursor f)
   unfolding figureAt
   figure-at at e f t z y h g = rw (two-at at e 58 t z g refl, tag-here 58 e f h g (omega arith))
 
@@ -65,14 +65,14 @@ module _ (s : List ℕ) where
         let d = one-digit 255 s (at + 2) (getD s (at + 2) 0) (getD s (at + 2 + 1) 0) (omega arith) refl (u .minute) refl (ap isDigit g) in
         rw (d, tag-here 58 (at + 2 + 1) (at + 4) (omega arith) g (omega arith))
 
-    second-is : digitsAt 255 s (at + 4) ≡ Value (valueOf s (at + 4)) (cursor (at + 6))
+    second-is : digitsAt 255 s (at + 4) ≡ Value (twoDigits s (at + 4)) (cursor (at + 6))
     second-is = two-at (at + 4) (at + 6) 47 (u .second) (omega arith) (u .slash) refl
 
     no-hour : hmsAt s (at + 2) ≡ NoClock
     unfolding hmsAt figureAt
     no-hour = rw (minute-is, second-is, tag-other 58 [] (at + 6) (omega arith) (λ e. omega (arith, u .slash)))
 
-    now-clock : spacedAt s (at + 1) ≡ Shows (Ms (getD s (at + 2) 0 - 48) (valueOf s (at + 4))) (cursor (at + 6))
+    now-clock : spacedAt s (at + 1) ≡ Shows (Ms (getD s (at + 2) 0 - 48) (twoDigits s (at + 4))) (cursor (at + 6))
     unfolding spacedAt clockAt msAt
     now-clock =
         let e : at + 1 + 1 ≡ at + 2 = omega arith in
@@ -81,14 +81,14 @@ module _ (s : List ℕ) where
 
   -- the total
   module _ (at : ℕ) (r : at + 9 ≤ length s) (u : UsualTotal s at) where
-    total-clock : spacedAt s at ≡ Shows (Hms (valueOf s at) (valueOf s (at + 3)) (valueOf s (at + 6))) (cursor (at + 8))
+    total-clock : spacedAt s at ≡ Shows (Hms (twoDigits s at) (twoDigits s (at + 3)) (twoDigits s (at + 6))) (cursor (at + 8))
     unfolding spacedAt clockAt hmsAt
     total-clock =
         rw (digit-here at (u .hour .tens), figure-at at (at + 2) (at + 3) (u .hour) refl refl (omega arith) (u .colon), figure-at (at + 3) (at + 5) (at + 6) (u .minute) (omega arith) (omega arith) (omega arith) (u .colon₂), two-at (at + 6) (at + 8) 41 (u .second) (omega arith) (u .closes) refl, here (at + 8) 41 (u .closes) refl)
 
 -- the whole
 pub usual-time : (s : List ℕ) (at : ℕ) (p₁ p₂ p₃ : ℕ) → Usual s at → p₁ ≡ at + 7 → p₂ ≡ at + 7 + 3 → p₃ ≡ at + 7 + 6
-    → timeAt s at ≡ timing (Timed (Ms (getD s (at + 2) 0 - 48) (valueOf s (at + 4))) (Hms (valueOf s p₁) (valueOf s p₂) (valueOf s p₃))) (cursor (at + 16))
+    → timeAt s at ≡ timing (Timed (Ms (getD s (at + 2) 0 - 48) (twoDigits s (at + 4))) (Hms (twoDigits s p₁) (twoDigits s p₂) (twoDigits s p₃))) (cursor (at + 16))
 unfolding timeAt clocksAt
 usual-time s at p₁ p₂ p₃ u e₁ e₂ e₃ =
     let r = u .room in

@@ -1,7 +1,7 @@
 -- What is read is fit: every figure of an answer is in its range, and every answer goes on from its place. One law for each step.
 -- So a line's entry is one that a block can hold, and its bytes are bytes.
 -- Assumes nothing.
-use Prim.Native.Nat.{ℕ, _*_, _+_, _/_, _%_, _≤_, _<_}
+use Prim.Native.Nat.{ℕ, _/_, _%_, _≤_, _<_}
 use native.Mathlib.Nat.{le-refl}
 use native.Mathlib.Omega.{arith}
 use mathlib.Core.Path.{_≡_, refl}
@@ -29,8 +29,8 @@ use Rattle.jkf.specs.declared.Origin.{Origin}
 use Rattle.jkf.specs.declared.Origin.the-variants.{From}
 use Rattle.jkf.specs.declared.Move.{Move}
 use Rattle.jkf.specs.declared.Entry.{Entry}
-use Rattle.jkf.specs.declared.Entry.the-variants.{Slot, Play, End}
-use Rattle.moves.specs.Moves.{squareAt, moveToAt, promoteAt, originAt, moveFromAt, moved, pieceAt, moveAt, whatAt, hmsAt, msAt, clockAt, spacedAt, clocksAt, timing, timeAt, colorOf, finished, moveLineAt}
+use Rattle.jkf.specs.declared.Entry.the-variants.{Moved, End}
+use Rattle.moves.specs.Moves.{squareAt, moveToAt, promoteAt, originAt, moveFromAt, moveEntry, kindToOriginAt, moveAt, whatAt, hmsAt, msAt, clockAt, spacedAt, clocksAt, timing, timeAt, colorOf, finished, moveLineAt}
 use Rattle.spell.specs.Words.{sameWord, promotes, declines, drops}
 use Rattle.moves.specs.Fits.{ClockFits, hmsFits, msFits, TimeFits, untimedFits, timedFits, TargetFits, sameFits, squareFits, OriginFits, fromFits, MoveFits, EntryFits, playFits, endFits}
 use Rattle.moves.specs.declared.Aim.{Aim}
@@ -119,8 +119,8 @@ move-from-fits s at =
     by-past (OnSource (Read OriginFits at)) (origin-fits s at) (tagAt drops s at)
     (λ c p. out (record { fit = fromFits {x = 0} {y = 0} (omega arith) (omega arith) (omega arith); past = tag-past drops s at c (omega arith) p }))
 
-pub piece-fits : (t : Target) → TargetFits t → (s : List ℕ) (b at : ℕ) → b ≤ at → OnWhat (Read EntryFits b) (pieceAt t s at)
-unfolding pieceAt hasNumber
+pub piece-fits : (t : Target) → TargetFits t → (s : List ℕ) (b at : ℕ) → b ≤ at → OnWhat (Read EntryFits b) (kindToOriginAt t s at)
+unfolding kindToOriginAt hasNumber
 piece-fits t f s b at g =
     by-spelled Q nothing (listed 15 kinds refl refl s at)
     (λ k c h. by-source Q nothing (move-from-fits s (promoteAt s (c .at) .next .at)) (λ o d i. is (seen k c o d h (promote-fits s (c .at)) i)))
@@ -129,7 +129,7 @@ piece-fits t f s b at g =
     Q = OnWhat (Read EntryFits b)
 
     seen : {m : Mark} (k : ℕ) (c : Cursor) (o : Origin) (d : Cursor) → Known 15 at k c × (1 ≤ k) → (m .promote ≤ 2) × (c .at ≤ m .next .at) → Read OriginFits (m .next .at) o d
-        → Read EntryFits b (moved t k (m .promote) o) d
+        → Read EntryFits b (moveEntry t k (m .promote) o) d
     seen k c o d (h, i) (u, v) w =
         let a = h .small in
         let p = h .past in
@@ -224,7 +224,7 @@ time-fits s at =
 
 finished-fits : (c : ℕ) (t : Time) (e : Entry) → c ≤ 1 → TimeFits t → EntryFits e → EntryFits (finished c t e)
 unfolding finished
-finished-fits c t (Play m) h f (playFits g) =
+finished-fits c t (Moved m) h f (playFits g) =
     playFits (record { side = h; some = g .some; kind = g .kind; mark = g .mark; target = g .target; origin = g .origin; time = f })
 finished-fits c t (End x u) h f (endFits g _) = endFits g f
 
@@ -271,11 +271,8 @@ line-fits s at = go (move-line-fits s at)
 
 -- ---- what a block asks
 
-pub no-slot : EntryFits Slot → ⊥
-no-slot = elim [ ]
-
-pub play-fits : (m : Move) → EntryFits (Play m) → MoveFits m
+pub play-fits : (m : Move) → EntryFits (Moved m) → MoveFits m
 play-fits m (playFits h) = h
 
-pub kind-fits : (m : Move) → EntryFits (Play m) → (m .color ≤ 1) × (1 ≤ m .piece) × (m .piece ≤ 14) × (m .promote ≤ 2)
+pub kind-fits : (m : Move) → EntryFits (Moved m) → (m .color ≤ 1) × (1 ≤ m .piece) × (m .piece ≤ 14) × (m .promote ≤ 2)
 kind-fits m f = let h = play-fits m f in (h .side, h .some, h .kind, h .mark)

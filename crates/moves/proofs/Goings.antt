@@ -15,7 +15,7 @@ use Rattle.text.specs.declared.Place.the-variants.{Past, Absent}
 use Rattle.text.proofs.Laws.{no-past, After, tail-from, break-after, line-end-after, tag-after, place-back}
 use Rattle.text.proofs.Answers.{by-past}
 use Rattle.jkf.specs.declared.Entry.{Entry}
-use Rattle.moves.specs.Moves.{moveLineAt, remarkFrom, keptAt, commentLineAt, beginsMove, skipLineAt}
+use Rattle.moves.specs.Moves.{moveLineAt, remarkFrom, keptAt, commentLineAt, beginsNoSkip, skipLineAt}
 use Rattle.moves.specs.declared.Remark.{Remark}
 use Rattle.moves.specs.declared.Remark.the-variants.{Stands}
 use Rattle.moves.specs.declared.MoveLine.the-variants.{Numbered}
@@ -36,7 +36,7 @@ character-from s at c =
 pub skip-goes : (s : List ℕ) (at : ℕ) (c : Cursor) → skipLineAt s at ≡ Past c → After at (length s) c
 unfolding skipLineAt
 skip-goes s at c =
-    by-pick (λ (r : Place). r ≡ Past c → After at (length s) c) (beginsMove s at) Absent (onPlace (characterAt s at) (λ d. lineEndAt s (d .at)) Absent)
+    by-pick (λ (r : Place). r ≡ Past c → After at (length s) c) (beginsNoSkip s at) Absent (onPlace (characterAt s at) (λ d. lineEndAt s (d .at)) Absent)
     (λ t q. no-past c q)
     (λ t q. let (d, p, r) = place-back (characterAt s at) (λ d. lineEndAt s (d .at)) c q in
     let h = character-from s at d p in

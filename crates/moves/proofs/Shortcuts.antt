@@ -28,9 +28,9 @@ use Rattle.jkf.specs.declared.Target.{Target}
 use Rattle.jkf.specs.declared.Target.the-variants.{Same, Square}
 use Rattle.jkf.specs.declared.Time.the-variants.{Untimed}
 use Rattle.jkf.specs.declared.Entry.{Entry}
-use Rattle.moves.specs.Moves.{colon, onClocked, onWhat, onMoveLine, timing, squareAt, moveToAt, pieceAt, moveAt, whatAt, figureAt, hmsAt, msAt, clockAt, spacedAt, clocksAt, timeAt, colorOf, finished, moveLineAt, keptAt, commentLineAt}
+use Rattle.moves.specs.Moves.{colon, onClocked, onWhat, onMoveLine, timing, squareAt, moveToAt, kindToOriginAt, moveAt, whatAt, figureAt, hmsAt, msAt, clockAt, spacedAt, clocksAt, timeAt, colorOf, finished, moveLineAt, keptAt, commentLineAt, moveLineEndAt, beginsComment}
 use Rattle.spell.specs.Words.{sameWord}
-use Rattle.moves.specs.Endings.{endingAt, moveLineEndAt, beginsComment}
+use Rattle.moves.specs.inner.Lines.{endingAt}
 use Rattle.moves.specs.declared.Aim.the-variants.{To, NoAim}
 use Rattle.moves.specs.declared.Clocked.{Clocked}
 use Rattle.moves.specs.declared.Clocked.the-variants.{Shows, NoClock}
@@ -70,7 +70,7 @@ aim-apart s at t c q = go (standsAt sameWord s at) refl q
     go false e q = square-apart s at t c q
 
 -- what has a target is a move
-pub what-move : (s : List ℕ) (at : ℕ) (t : Target) (c : Cursor) → moveToAt s at ≡ To t c → whatAt s at ≡ pieceAt t s (c .at)
+pub what-move : (s : List ℕ) (at : ℕ) (t : Target) (c : Cursor) → moveToAt s at ≡ To t c → whatAt s at ≡ kindToOriginAt t s (c .at)
 unfolding whatAt moveAt
 what-move s at t c q = rw (aim-apart s at t c q, q)
 

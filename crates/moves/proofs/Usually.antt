@@ -17,17 +17,18 @@ use Rattle.lists.proofs.Laws.{drop-step, pick-both}
 use Rattle.text.specs.Text.{cursor, onPlace, onNumber, prefixFrom, standsAt, tagAt, blanksAt, lineEndAt, digitsAt}
 use Rattle.text.specs.declared.Place.the-variants.{Past}
 use Rattle.text.proofs.Laws.{digit-bounds}
-use Rattle.spell.specs.Spell.{firstOf, keyOf, keyAt}
+use Rattle.spell.specs.Spell.{firstOf, codeOf}
+use Rattle.spell.specs.inner.Codes.{codeAt}
 use Rattle.spell.specs.Tables.{kinds}
 use Rattle.spell.specs.Slots.{numberIn, numeralSlots, kindSlots, promotedIn}
 use Rattle.spell.specs.declared.Spelled.the-variants.{As}
-use Rattle.spell.proofs.Keys.{key-of}
+use Rattle.spell.proofs.Codes.{key-of}
 use Rattle.spell.proofs.Lookups.{numeral-known, kind-known, file-known, promoted-known}
 use Rattle.jkf.specs.declared.Origin.the-variants.{From}
-use Rattle.moves.specs.Moves.{mark, squareAt, moveToAt, promoteAt, originAt, moveFromAt, pieceAt, whatAt, timeAt, colorOf, finished, moveLineAt}
+use Rattle.moves.specs.Moves.{mark, squareAt, moveToAt, promoteAt, originAt, moveFromAt, kindToOriginAt, whatAt, timeAt, colorOf, finished, moveLineAt}
 use Rattle.spell.specs.Words.{promotes}
-use Rattle.moves.specs.Endings.{playedLine}
-use Rattle.moves.specs.Usuals.{Two, valueOf, Usual, aimOf, kindOf, markOf, entryOf, Bracketed, Aimed, Named, UsualMove}
+use Rattle.moves.specs.inner.Lines.{playedLine}
+use Rattle.moves.specs.inner.Usuals.{Two, twoDigits, Usual, aimOf, kindOf, markOf, entryOf, Bracketed, UsualTarget, UsualKind, UsualMove}
 use Rattle.moves.specs.declared.Source.the-variants.{Out}
 use Rattle.moves.specs.declared.What.the-variants.{Is}
 use Rattle.moves.specs.declared.MoveLine.the-variants.{Numbered, NoLine}
@@ -59,13 +60,13 @@ module _ (s : List ℕ) where
       (eqb-true _ _ p, eqb-true _ _ q, eqb-true _ _ r)
 
   -- what is made of three bytes is made of the key at their place
-  pub by-key : (f : ℕ → ℕ) (at a b n : ℕ) → a ≡ at + 1 → b ≡ at + 2 → n ≡ f (keyOf (getD s at 0) (getD s a 0) (getD s b 0)) → n ≡ f (keyAt s at)
+  pub by-key : (f : ℕ → ℕ) (at a b n : ℕ) → a ≡ at + 1 → b ≡ at + 2 → n ≡ f (codeOf (getD s at 0) (getD s a 0) (getD s b 0)) → n ≡ f (codeAt s at)
   by-key f at a b n p q e = e ∙ ap f (sym (key-of s at a b p q))
 
   -- ---- the target
 
   pub same-aimed : (at : ℕ) → at + 6 ≤ length s → getD s at 0 ≡ 229 → getD s (at + 1) 0 ≡ 144 → getD s (at + 2) 0 ≡ 140
-      → getD s (at + 3) 0 ≡ 227 → getD s (at + 4) 0 ≡ 128 → getD s (at + 5) 0 ≡ 128 → Aimed s at
+      → getD s (at + 3) 0 ≡ 227 → getD s (at + 4) 0 ≡ 128 → getD s (at + 5) 0 ≡ 128 → UsualTarget s at
   unfolding moveToAt aimOf
   same-aimed at h a b c d e f =
       let p : at + 3 + 1 ≡ at + 4 = omega arith in
@@ -80,14 +81,14 @@ module _ (s : List ℕ) where
   -- ---- the kind, the mark and the origin
 
   -- what is a kind is not 成
-  alone : (at : ℕ) → at + 3 ≤ length s → (numberIn kindSlots 35 (keyAt s at) ≡ 0 → ⊥) → standsAt promotes s at ≡ false
+  alone : (at : ℕ) → at + 3 ≤ length s → (numberIn kindSlots 35 (codeAt s at) ≡ 0 → ⊥) → standsAt promotes s at ≡ false
   unfolding numberIn
   alone at h n = go (standsAt promotes s at) refl
     where
       go : (u : Bool) → standsAt promotes s at ≡ u → u ≡ false
       go true e =
           let (p, q, r) = stands-back 230 136 144 at h e in
-          let k : keyAt s at ≡ 15108240 = omega (arith, key-of s at (at + 1) (at + 2) refl refl) in
+          let k : codeAt s at ≡ 15108240 = omega (arith, key-of s at (at + 1) (at + 2) refl refl) in
           absurd (n (ap (numberIn kindSlots 35) k))
       go false e = refl
 
@@ -105,14 +106,14 @@ module _ (s : List ℕ) where
       let z : at + 1 + 1 ≡ at + 2 = omega arith in
       let d : Two s (at + 1) = record { tens = b .tens; ones = rw z (b .ones) } in
       let k = two-known s (at + 1) d in
-      let tens : valueOf s (at + 1) / 10 ≡ getD s (at + 1) 0 - 48 = omega arith in
-      let ones : valueOf s (at + 1) % 10 ≡ getD s (at + 1 + 1) 0 - 48 = omega arith in
+      let tens : twoDigits s (at + 1) / 10 ≡ getD s (at + 1) 0 - 48 = omega arith in
+      let ones : twoDigits s (at + 1) % 10 ≡ getD s (at + 1 + 1) 0 - 48 = omega arith in
       rw (e₁, e₂, e₃, tag-other s 230 (137 ∷ 147 ∷ []) at (omega arith) (λ z. omega arith), tag-here s 40 at (at + 1) (omega arith) o refl, two-at s (at + 1) (at + 3) 41 d (omega arith) (b .closes) refl, tag-here s 41 (at + 3) (at + 4) (omega arith) (b .closes) (omega arith), tens, ones)
 
 -- n is what the code makes of three bytes, and not 0
 module _ (s : List ℕ) (bytes : (i : ℕ) → getD s i 0 < 256) (at n : ℕ) (z : n ≡ 0 → ⊥) where
   pub square-aimed : at + 6 ≤ length s → getD s at 0 ≡ 239 → getD s (at + 1) 0 ≡ 188 → 145 ≤ getD s (at + 2) 0 → getD s (at + 2) 0 ≤ 153
-      → n ≡ numberIn numeralSlots 17 (keyAt s (at + 3)) → Aimed s at
+      → n ≡ numberIn numeralSlots 17 (codeAt s (at + 3)) → UsualTarget s at
   unfolding moveToAt squareAt aimOf
   square-aimed h a b l u e =
       let m : getD s at 0 ≡ 229 → ⊥ = λ k. omega arith in
@@ -123,10 +124,10 @@ module _ (s : List ℕ) (bytes : (i : ℕ) → getD s i 0 < 256) (at n : ℕ) (z
       }
 
   -- a kind of one character
-  kind-three : n ≡ numberIn kindSlots 35 (keyAt s (at + 6)) → firstOf kinds s (at + 6) ≡ As (numberIn kindSlots 35 (keyAt s (at + 6))) (cursor (at + 9))
+  kind-three : n ≡ numberIn kindSlots 35 (codeAt s (at + 6)) → firstOf kinds s (at + 6) ≡ As (numberIn kindSlots 35 (codeAt s (at + 6))) (cursor (at + 9))
   kind-three e = let p : at + 6 + 3 ≡ at + 9 = omega arith in rw p at (kind-known s (at + 6) bytes (λ k. z (e ∙ k)))
 
-  pub short-named : at + 13 ≤ length s → Bracketed s (at + 9) → n ≡ numberIn kindSlots 35 (keyAt s (at + 6)) → Named s at 13
+  pub short-named : at + 13 ≤ length s → Bracketed s (at + 9) → n ≡ numberIn kindSlots 35 (codeAt s (at + 6)) → UsualKind s at 13
   unfolding kindOf markOf
   short-named h b e =
       record {
@@ -138,7 +139,7 @@ module _ (s : List ℕ) (bytes : (i : ℕ) → getD s i 0 < 256) (at n : ℕ) (z
 
   -- with 成 after it
   pub marked-named : at + 16 ≤ length s → Bracketed s (at + 12) → standsAt promotes s (at + 6) ≡ false → standsAt promotes s (at + 9) ≡ true
-      → n ≡ numberIn kindSlots 35 (keyAt s (at + 6)) → Named s at 16
+      → n ≡ numberIn kindSlots 35 (codeAt s (at + 6)) → UsualKind s at 16
   unfolding kindOf markOf promoteAt tagAt
   marked-named h b p q e =
       let r : at + 9 + 3 ≡ at + 12 = omega arith in
@@ -150,7 +151,7 @@ module _ (s : List ℕ) (bytes : (i : ℕ) → getD s i 0 < 256) (at n : ℕ) (z
       }
 
   -- with 成 before it
-  pub long-named : at + 16 ≤ length s → Bracketed s (at + 12) → standsAt promotes s (at + 6) ≡ true → n ≡ promotedIn (keyAt s (at + 9)) → Named s at 16
+  pub long-named : at + 16 ≤ length s → Bracketed s (at + 12) → standsAt promotes s (at + 6) ≡ true → n ≡ promotedIn (codeAt s (at + 9)) → UsualKind s at 16
   unfolding kindOf markOf
   long-named h b p e =
       let (x, y, w) = stands-back s 230 136 144 (at + 6) (omega arith) p in
@@ -167,7 +168,7 @@ module _ (s : List ℕ) (bytes : (i : ℕ) → getD s i 0 < 256) (at n : ℕ) (z
 -- ---- the whole
 
 pub usual-what : (s : List ℕ) (at width : ℕ) → UsualMove s at width → whatAt s at ≡ Is (entryOf s at width) (cursor (at + width))
-unfolding pieceAt
+unfolding kindToOriginAt
 usual-what s at width u =
     let w = u .wide in
     let r = u .room in

@@ -6,7 +6,7 @@ use mathlib.Core.Path.{_≡_, refl, ap, subst}
 use mathlib.Core.List.{List, [], _∷_}
 use lib.ListN.{length, take, drop}
 use Rattle.text.specs.Text.{cursor, onPlace, tagAt, breakAt, tailAt}
-use Rattle.text.specs.Utf8.{sizeOf, wellFormed}
+use Rattle.text.specs.Utf8.{sizeOf, wellFormedBytes}
 use Rattle.text.specs.declared.Cursor.{Cursor}
 use Rattle.text.specs.declared.Place.{Place}
 use Rattle.text.specs.declared.Place.the-variants.{Past, Absent as NoPlace}
@@ -18,7 +18,7 @@ use Rattle.moves.specs.declared.Remark.the-variants.{Stands, NoRemark}
 
 -- the text between two places is well formed
 abbrev Well : List ℕ → Cursor → Cursor → Type 0
-Well s from to = wellFormed (take (to .at - from .at) (drop (from .at) s)) ≡ length (take (to .at - from .at) (drop (from .at) s))
+Well s from to = wellFormedBytes (take (to .at - from .at) (drop (from .at) s)) ≡ length (take (to .at - from .at) (drop (from .at) s))
 
 no-remark : {A : Type 0} (from to next : Cursor) → NoRemark ≡ Stands from to next → A
 no-remark from to next e = let z : _≡_ {A = ℕ} 0 1 = ap (λ (r : Remark). onRemark r (λ _ _ _. 1) 0) e in absurd (omega arith)
@@ -30,7 +30,7 @@ remark-same s {f} {t} {n} {from} {to} {next} e w =
     let q : t ≡ to = ap (λ (r : Remark). onRemark r (λ x y z. y) t) e in
     subst (Well s from) q (subst (λ (x : Cursor). Well s x t) p w)
 
-module _ (s : List ℕ) (w : wellFormed s ≡ length s) (from to next : Cursor) where
+module _ (s : List ℕ) (w : wellFormedBytes s ≡ length s) (from to next : Cursor) where
   -- from a boundary that is not past the tail's start
   from-well : (f : Cursor) (at : ℕ) → Boundary s (f .at) → f .at ≤ at → remarkFrom f s at ≡ Stands from to next → Well s from to
   unfolding remarkFrom
@@ -58,8 +58,8 @@ module _ (s : List ℕ) (w : wellFormed s ≡ length s) (from to next : Cursor) 
           from-well (cursor at) (c .at) here (omega (arith, tag-after (38 ∷ []) s at c (omega arith) p .past)) e
       go NoPlace p e = no-remark from to next e
 
-pub remark-well : (s : List ℕ) (at : ℕ) (from to next : Cursor) → wellFormed s ≡ length s → commentLineAt s at ≡ Stands from to next
-    → wellFormed (take (to .at - from .at) (drop (from .at) s)) ≡ length (take (to .at - from .at) (drop (from .at) s))
+pub remark-well : (s : List ℕ) (at : ℕ) (from to next : Cursor) → wellFormedBytes s ≡ length s → commentLineAt s at ≡ Stands from to next
+    → wellFormedBytes (take (to .at - from .at) (drop (from .at) s)) ≡ length (take (to .at - from .at) (drop (from .at) s))
 unfolding commentLineAt sizeOf
 remark-well s at from to next w = go (tagAt (42 ∷ []) s at) refl
   where

@@ -17,7 +17,7 @@ use Rattle.jkf.specs.declared.Origin.{Origin}
 use Rattle.jkf.specs.declared.Origin.the-variants.{From}
 use Rattle.jkf.specs.declared.Move.{Move}
 use Rattle.jkf.specs.declared.Entry.{Entry}
-use Rattle.jkf.specs.declared.Entry.the-variants.{Play, End}
+use Rattle.jkf.specs.declared.Entry.the-variants.{Moved, End}
 
 -- Each figure of a clock is up to 255.
 pub data ClockFits : Clock → Type 0 where
@@ -50,5 +50,5 @@ pub record MoveFits (m : Move) : Type 0 where
 
 -- A move, or a special that has a spelling of its own; never the slot.
 pub data EntryFits : Entry → Type 0 where
-  playFits : {m : Move} → MoveFits m → EntryFits (Play m)
+  playFits : {m : Move} → MoveFits m → EntryFits (Moved m)
   endFits : {x : Special} {t : Time} → hasNumber specials (specialNumber x) ≡ true → TimeFits t → EntryFits (End x t)

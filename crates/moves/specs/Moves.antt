@@ -10,7 +10,7 @@ use Rattle.text.specs.Text.{cursor, onPlace, onNumber, isDigit, standsAt, tagAt
 use Rattle.text.specs.Utf8.{characterAt}
 use Rattle.text.specs.declared.Cursor.{Cursor}
 use Rattle.text.specs.declared.Place.{Place}
-use Rattle.text.specs.declared.Place.the-variants.{Absent as NoPlace}
+use Rattle.text.specs.declared.Place.the-variants.{Absent as NoPlace, Past, Absent}
 use Rattle.text.specs.declared.Number.{Number}
 use Rattle.text.specs.declared.Number.the-variants.{Value, NoDigit}
 use Rattle.spell.specs.Words.{sameWord, promotes, declines, drops, black, white}
@@ -26,7 +26,7 @@ use Rattle.jkf.specs.declared.Target.the-variants.{Same, Square}
 use Rattle.jkf.specs.declared.Origin.{Origin}
 use Rattle.jkf.specs.declared.Origin.the-variants.{From}
 use Rattle.jkf.specs.declared.Entry.{Entry}
-use Rattle.jkf.specs.declared.Entry.the-variants.{Slot, Play, End}
+use Rattle.jkf.specs.declared.Entry.the-variants.{Slot, Moved, End}
 use Rattle.moves.specs.declared.Aim.{Aim}
 use Rattle.moves.specs.declared.Aim.the-variants.{To, NoAim}
 use Rattle.moves.specs.declared.Source.{Source}
@@ -101,19 +101,19 @@ unfoldable pub moveFromAt : List ℕ → ℕ → Source
 moveFromAt s at = onPlace (tagAt drops s at) (λ c. Out (From 0 0) c) (originAt s at)
 
 -- Of a colour that the line's number will say, and of a time that is still to be read.
-abbrev pub moved : Target → ℕ → ℕ → Origin → Entry
-moved to piece promote from = Play (record { color = 0; piece = piece; promote = promote; to = to; from = from; time = Untimed })
+abbrev pub moveEntry : Target → ℕ → ℕ → Origin → Entry
+moveEntry to piece promote from = Moved (record { color = 0; piece = piece; promote = promote; to = to; from = from; time = Untimed })
 
 -- The kind, the mark and the origin, after the target.
-unfoldable pub pieceAt : Target → List ℕ → ℕ → What
-pieceAt to s at =
+unfoldable pub kindToOriginAt : Target → List ℕ → ℕ → What
+kindToOriginAt to s at =
     onSpelled (firstOf kinds s at)
-    (λ k c. onSource (moveFromAt s (promoteAt s (c .at) .next .at)) (λ o d. Is (moved to k (promoteAt s (c .at) .promote) o) d) Nothing)
+    (λ k c. onSource (moveFromAt s (promoteAt s (c .at) .next .at)) (λ o d. Is (moveEntry to k (promoteAt s (c .at) .promote) o) d) Nothing)
     Nothing
 
 -- Target, kind, mark, origin.                                                                        (the Rust's move_move)
 unfoldable pub moveAt : List ℕ → ℕ → What
-moveAt s at = onAim (moveToAt s at) (λ t c. pieceAt t s (c .at)) Nothing
+moveAt s at = onAim (moveToAt s at) (λ t c. kindToOriginAt t s (c .at)) Nothing
 
 -- A special or a move.                                                                               (the Rust's move_special)
 unfoldable pub whatAt : List ℕ → ℕ → What
@@ -168,7 +168,7 @@ colorOf ply = 1 - ply % 2
 -- An entry with its colour and its time.
 unfoldable pub finished : ℕ → Time → Entry → Entry
 finished color t Slot = Slot
-finished color t (Play m) = Play (record { color = color; piece = m .piece; promote = m .promote; to = m .to; from = m .from; time = t })
+finished color t (Moved m) = Moved (record { color = color; piece = m .piece; promote = m .promote; to = m .to; from = m .from; time = t })
 finished color t (End x u) = End x t
 
 -- The number, the special or the move, and the time if it can be read, with blanks before each; then the rest of the line.  (the Rust's move_line)
@@ -181,6 +181,10 @@ moveLineAt s at =
     NoLine)
     NoLine)
     NoLine
+
+-- The place past a move line.
+unfoldable pub moveLineEndAt : List ℕ → ℕ → Place
+moveLineEndAt s at = onMoveLine (moveLineAt s at) (λ n e c. Past c) Absent
 
 -- ---- comments and skip lines
 
@@ -197,12 +201,16 @@ unfoldable pub commentLineAt : List ℕ → ℕ → Remark
 commentLineAt s at = onPlace (tagAt (42 ∷ []) s at) (λ c. remarkFrom c s (c .at)) (keptAt s at)
 
 -- What begins no skip line: a space, a digit, *, ▲ or △.                                             (01, Reading rules: skip line)
-unfoldable pub beginsMove : List ℕ → ℕ → Bool
-beginsMove s at =
+unfoldable pub beginsNoSkip : List ℕ → ℕ → Bool
+beginsNoSkip s at =
     pick (eqb (getD s at 0) 32)
     true
     (pick (eqb (getD s at 0) 42) true (pick (isDigit (getD s at 0)) true (pick (standsAt black s at) true (standsAt white s at))))
 
 -- Another character, tail, break. The character may be an LF.                                        (the Rust's not_move_line)
 unfoldable pub skipLineAt : List ℕ → ℕ → Place
-skipLineAt s at = pick (beginsMove s at) NoPlace (onPlace (characterAt s at) (λ c. lineEndAt s (c .at)) NoPlace)
+skipLineAt s at = pick (beginsNoSkip s at) NoPlace (onPlace (characterAt s at) (λ c. lineEndAt s (c .at)) NoPlace)
+
+-- A * or a &.
+unfoldable pub beginsComment : List ℕ → ℕ → Bool
+beginsComment s at = pick (eqb (getD s at 0) 42) true (eqb (getD s at 0) 38)

@@ -11,7 +11,7 @@ ghost use mathlib.Core.Bool.{true};
 ghost use Prim.Native.Nat.{_+_, _≤_};
 ghost use lib.ListN.{length};
 ghost use Rattle.moves.specs.Moves.{clockAt, spacedAt, clocksAt, timeAt, figureAt};
-ghost use Rattle.moves.specs.Usuals.{Two, valueOf, UsualNow, UsualTotal, Usual};
+ghost use Rattle.moves.specs.inner.Usuals.{Two, twoDigits, UsualNow, UsualTotal, Usual};
 
 // A number up to 255 and the colon after it.
 fn figure(c: Cursor, s: &[u8]) -> Number
@@ -102,10 +102,10 @@ fn two(s: &[u8], at: usize) -> bool
     text::is_digit(s[at + 1])
 }
 
-// Their number.
+// The number of two digits.
 fn value(s: &[u8], at: usize) -> u8
     requires { ⌜ Two (now s) at ⌝ }
-    ensures { λ r. ⌜ r ≡ valueOf (now (s .entry)) at ⌝ }
+    ensures { λ r. ⌜ r ≡ twoDigits (now (s .entry)) at ⌝ }
 {
     (s[at] - b'0') * 10 + (s[at + 1] - b'0')
 }

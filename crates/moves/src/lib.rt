@@ -20,9 +20,9 @@ use text::Place;
 ghost use mathlib.Core.Path.{_≡_};
 ghost use Prim.Native.Nat.{_+_};
 ghost use Rattle.text.specs.Text.{blanksAt};
-ghost use Rattle.moves.specs.Endings.{moveLineEndAt, playedLine};
-ghost use Rattle.moves.specs.Moves.{colorOf, finished, moveLineAt};
-ghost use Rattle.moves.specs.Usuals.{Usual, UsualMove};
+ghost use Rattle.moves.specs.Moves.{moveLineEndAt, colorOf, finished, moveLineAt};
+ghost use Rattle.moves.specs.inner.Lines.{playedLine};
+ghost use Rattle.moves.specs.inner.Usuals.{Usual, UsualMove};
 
 // Where a move goes, and the place past it.
 pub enum Aim {
@@ -78,10 +78,10 @@ fn finish(color: u8, time: Time, entry: Entry) -> Entry
 {
     match entry {
         Entry::Slot => Entry::Slot,
-        Entry::Play(m) => {
+        Entry::Moved(m) => {
             let to = m.to;
             let from = m.from;
-            Entry::Play(Move {
+            Entry::Moved(Move {
                 color,
                 piece: m.piece,
                 promote: m.promote,
@@ -116,7 +116,7 @@ fn any_line(ply: u64, from: Cursor, s: &[u8]) -> MoveLine
     MoveLine::Numbered(ply, finish(color(ply), taken, entry), end)
 }
 
-// The same where the move has the usual form, and so has the time, which stands at t.
+// A move line past its number, where the move has the usual form, and so has the time, which stands at t.
 fn usual_line(ply: u64, at: usize, width: usize, t: usize, s: &[u8]) -> MoveLine
     requires { ⌜ UsualMove (now s) at width × Usual (now s) t × (t ≡ blanksAt (now s) (at + width)) ⌝ }
     ensures { λ r. ⌜ r ≡ playedLine ply (now (s .entry)) at ⌝ }

@@ -17,10 +17,10 @@ ghost use mathlib.Core.Bool.{true};
 ghost use Prim.Native.Nat.{_+_, _≤_, _<_};
 ghost use lib.ListN.{length, getD};
 ghost use Rattle.text.specs.Text.{standsAt};
-ghost use Rattle.moves.specs.Moves.{squareAt, moveToAt, promoteAt, originAt, moveFromAt, pieceAt, whatAt, finished};
+ghost use Rattle.moves.specs.Moves.{squareAt, moveToAt, promoteAt, originAt, moveFromAt, kindToOriginAt, whatAt, finished};
 ghost use Rattle.spell.specs.Words.{promotes};
-ghost use Rattle.moves.specs.Endings.{endingAt};
-ghost use Rattle.moves.specs.Usuals.{Bracketed, Aimed, Named, UsualMove, aimOf, kindOf, markOf, entryOf};
+ghost use Rattle.moves.specs.inner.Lines.{endingAt};
+ghost use Rattle.moves.specs.inner.Usuals.{Bracketed, UsualTarget, UsualKind, UsualMove, aimOf, kindOf, markOf, entryOf};
 
 // A file and a rank.
 fn square(c: Cursor, s: &[u8]) -> Aim
@@ -98,7 +98,7 @@ fn move_from(c: Cursor, s: &[u8]) -> Source
 
 // The kind, the mark and the origin, after the target; the line's number will say the colour.
 fn piece(to: Target, c: Cursor, s: &[u8]) -> What
-    ensures { λ r. ⌜ r ≡ pieceAt to (now (s .entry)) (c .at) ⌝ }
+    ensures { λ r. ⌜ r ≡ kindToOriginAt to (now (s .entry)) (c .at) ⌝ }
 {
     let Spelled::As(kind, past) = spell::kind(c, s) else {
         return What::Nothing;
@@ -108,7 +108,7 @@ fn piece(to: Target, c: Cursor, s: &[u8]) -> What
         return What::Nothing;
     };
     What::Is(
-        Entry::Play(Move {
+        Entry::Moved(Move {
             color: 0,
             piece: kind,
             promote: mark.promote,
@@ -160,7 +160,7 @@ fn is_bracketed(s: &[u8], at: usize) -> bool
 // Whether the rest of 同 and a wide space stand at a place where 同 may begin.
 fn is_same(s: &[u8], at: usize) -> bool
     requires { ⌜ (at + 6 ≤ length (now s)) × (getD (now s) at 0 ≡ 229) ⌝ }
-    ensures { λ r. ⌜ (r ≡ true → Aimed (now (s .entry)) at) ⌝ }
+    ensures { λ r. ⌜ (r ≡ true → UsualTarget (now (s .entry)) at) ⌝ }
 {
     if s[at + 1] != 0x90 {
         return false;
@@ -180,7 +180,7 @@ fn is_same(s: &[u8], at: usize) -> bool
 // Whether a full-width digit and a numeral stand at a place.
 fn is_square(s: &[u8], at: usize) -> bool
     requires { ⌜ at + 6 ≤ length (now s) ⌝ }
-    ensures { λ r. ⌜ (r ≡ true → Aimed (now (s .entry)) at) ⌝ }
+    ensures { λ r. ⌜ (r ≡ true → UsualTarget (now (s .entry)) at) ⌝ }
 {
     if s[at] != 0xef {
         return false;
@@ -200,7 +200,7 @@ fn is_square(s: &[u8], at: usize) -> bool
 // Whether 同 with a wide space, or a square, stands at a place.
 fn is_target(s: &[u8], at: usize) -> bool
     requires { ⌜ at + 6 ≤ length (now s) ⌝ }
-    ensures { λ r. ⌜ (r ≡ true → Aimed (now (s .entry)) at) ⌝ }
+    ensures { λ r. ⌜ (r ≡ true → UsualTarget (now (s .entry)) at) ⌝ }
 {
     if s[at] == 0xe5 {
         return is_same(s, at);
@@ -225,7 +225,7 @@ fn is_promotion(s: &[u8], at: usize) -> bool
 // Whether a kind of one character and its origin stand after the target at a place.
 fn is_short(s: &[u8], at: usize) -> bool
     requires { ⌜ at + 13 ≤ length (now s) ⌝ }
-    ensures { λ r. ⌜ (r ≡ true → Named (now (s .entry)) at 13) ⌝ }
+    ensures { λ r. ⌜ (r ≡ true → UsualKind (now (s .entry)) at 13) ⌝ }
 {
     if !is_bracketed(s, at + 9) {
         return false;
@@ -236,7 +236,7 @@ fn is_short(s: &[u8], at: usize) -> bool
 // Whether 成 and a kind, or a kind and 成, and its origin do.
 fn is_long(s: &[u8], at: usize) -> bool
     requires { ⌜ at + 16 ≤ length (now s) ⌝ }
-    ensures { λ r. ⌜ (r ≡ true → Named (now (s .entry)) at 16) ⌝ }
+    ensures { λ r. ⌜ (r ≡ true → UsualKind (now (s .entry)) at 16) ⌝ }
 {
     if !is_bracketed(s, at + 12) {
         return false;
@@ -269,9 +269,9 @@ pub(crate) fn usual_width(s: &[u8], at: usize) -> usize
     if is_long(s, at) { 16 } else { 0 }
 }
 
-// Its target.
+// The target of a move in the usual form.
 fn usual_aim(s: &[u8], at: usize) -> Target
-    requires { ⌜ (at + 6 ≤ length (now s)) × Aimed (now s) at ⌝ }
+    requires { ⌜ (at + 6 ≤ length (now s)) × UsualTarget (now s) at ⌝ }
     ensures { λ r. ⌜ r ≡ aimOf (now (s .entry)) at ⌝ }
 {
     if s[at] == 0xe5 {
@@ -283,7 +283,7 @@ fn usual_aim(s: &[u8], at: usize) -> Target
     )
 }
 
-// Its kind.
+// The kind of a move in the usual form.
 fn usual_kind(s: &[u8], at: usize) -> u8
     requires { ⌜ at + 12 ≤ length (now s) ⌝ }
     ensures { λ r. ⌜ r ≡ kindOf (now (s .entry)) at ⌝ }
@@ -294,7 +294,7 @@ fn usual_kind(s: &[u8], at: usize) -> u8
     spell::kind_of(s[at + 6], s[at + 7], s[at + 8])
 }
 
-// Its mark.
+// The mark of a move in the usual form.
 fn usual_mark(s: &[u8], at: usize, width: usize) -> u8
     requires { ⌜ at + 9 ≤ length (now s) ⌝ }
     ensures { λ r. ⌜ r ≡ markOf (now (s .entry)) at width ⌝ }
@@ -310,7 +310,7 @@ pub(crate) fn usual(s: &[u8], at: usize, width: usize, color: u8, time: Time) ->
     requires { ⌜ UsualMove (now s) at width ⌝ }
     ensures { λ r. ⌜ r ≡ finished color time (entryOf (now (s .entry)) at width) ⌝ }
 {
-    Entry::Play(Move {
+    Entry::Moved(Move {
         color,
         piece: usual_kind(s, at),
         promote: usual_mark(s, at, width),

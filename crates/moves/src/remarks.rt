@@ -3,8 +3,7 @@ use crate::Remark;
 use text::Cursor;
 use text::Place;
 ghost use mathlib.Core.Path.{_≡_};
-ghost use Rattle.moves.specs.Endings.{beginsComment};
-ghost use Rattle.moves.specs.Moves.{remarkFrom, keptAt, commentLineAt, beginsMove, skipLineAt};
+ghost use Rattle.moves.specs.Moves.{beginsComment, remarkFrom, keptAt, commentLineAt, beginsNoSkip, skipLineAt};
 
 // Whether a comment begins at a place, so that most are not looked for.
 pub fn begins_comment(s: &[u8], at: usize) -> bool
@@ -51,8 +50,8 @@ pub fn comment_line(c: Cursor, s: &[u8]) -> Remark
 }
 
 // A space, a digit, *, ▲ or △: what begins no skip line.
-fn begins_move(s: &[u8], at: usize) -> bool
-    ensures { λ r. ⌜ r ≡ beginsMove (now (s .entry)) at ⌝ }
+fn begins_no_skip(s: &[u8], at: usize) -> bool
+    ensures { λ r. ⌜ r ≡ beginsNoSkip (now (s .entry)) at ⌝ }
 {
     let b = lent::peek(s, at);
     if b == b' ' {
@@ -74,7 +73,7 @@ fn begins_move(s: &[u8], at: usize) -> bool
 pub fn skip_line(c: Cursor, s: &[u8]) -> Place
     ensures { λ r. ⌜ r ≡ skipLineAt (now (s .entry)) (c .at) ⌝ }
 {
-    if begins_move(s, c.at) {
+    if begins_no_skip(s, c.at) {
         return Place::Absent;
     }
     let Place::Past(past) = c.character(s) else {

@@ -3,7 +3,7 @@
 use Prim.Native.Nat.{ℕ, zero, suc, _<_}
 use native.Mathlib.Nat.{not-suc-le-zero}
 use native.Mathlib.Omega.{arith}
-use mathlib.Core.List.{List, [], _∷_, _++_}
+use mathlib.Core.List.{List, [], _∷_, _++_, map}
 use lib.ListN.{length, getD}
 use Rattle.lists.specs.All.{All, none, next}
 use Rattle.lists.specs.Repeat.{Step, more, stop, ended, onStep, manyFrom}
@@ -13,6 +13,10 @@ use Rattle.block.specs.Encode.{concat}
 pub data OnStep {A : Type 0} (P : A → Type 0) : Step A → Type 0 where
   goes : {n : ℕ} {a : A} → P a → OnStep P (more n a)
   stops : OnStep P stop
+
+pub index-all : {A : Type 0} (P : A → Type 0) (d : A) (l : List A) → ((k : ℕ) → k < length l → P (getD l k d)) → All P l
+index-all P d [] h = none
+index-all P d (x ∷ l) h = next (h 0 (omega arith)) (index-all P d l (λ k b. h (suc k) (omega arith)))
 
 module _ {A : Type 0} {P : A → Type 0} where
   pub all-at : {l : List A} (d : A) → All P l → (k : ℕ) → k < length l → P (getD l k d)
@@ -43,3 +47,7 @@ module _ {A : Type 0} {P : A → Type 0} where
           → All P (onStep r (λ to a. let q = manyFrom item n to in ended (q .at) (a ∷ q .state)) (ended at []) .state)
       go (goes {n = to} p) ih = next p (ih to)
       go stops ih = none
+
+pub all-map : {A B : Type 0} {P : B → Type 0} (f : A → B) {l : List A} → All (λ x. P (f x)) l → All P (map f l)
+all-map f none = none
+all-map f (next p t) = next p (all-map f t)

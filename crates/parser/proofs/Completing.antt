@@ -5,7 +5,7 @@ use native.Mathlib.Omega.{arith}
 use mathlib.Core.Path.{_≡_, refl, sym, ap, ap₂, _∙_, subst}
 use mathlib.Core.List.{List, _++_}
 use lib.ListN.{length, drop, replicate}
-use Rattle.lent.specs.Regions.{puts}
+use Rattle.lent.specs.inner.Regions.{puts}
 use Rattle.text.specs.declared.Cursor.{Cursor}
 use Rattle.jkf.specs.Answers.{Outcome}
 use Rattle.jkf.specs.Attaching.{Hung, all, first, Play, attach, allHung}
@@ -15,8 +15,9 @@ use Rattle.jkf.specs.declared.Answer.the-variants.{Done, NoEntry}
 use Rattle.jkf.specs.Model.{Header, Line}
 use Rattle.block.specs.PositionBytes.{positionBytes}
 use Rattle.block.specs.Encode.{entriesOf, commentsOf, encodeFlat, encode}
-use Rattle.filling.specs.Filling.{atFront, unlessRefused, lengthOf, begun, opening, opened, putHeaders}
-use Rattle.filling.specs.Parts.{lineTexts, lineEnds, Headed, LinesFit}
+use Rattle.filling.specs.Filling.{atFront, unlessRefused, lengthOf, begun, opening, opened}
+use Rattle.filling.specs.inner.Parts.{putHeaders}
+use Rattle.filling.specs.inner.Parts.{lineTexts, lineEnds, Headed, LinesFit}
 use Rattle.filling.specs.declared.Sizes.{Sizes}
 use Rattle.filling.specs.declared.Walk.{Walk}
 use Rattle.filling.specs.declared.Opening.the-variants.{Begun, Refused}
@@ -24,10 +25,11 @@ use Rattle.filling.proofs.Growing.{headers-put}
 use Rattle.filling.proofs.Putting.{Opens, opens, refuses, unrefused}
 use Rattle.filling.proofs.Wholes.{front-size, front-rest, headers-fit, lines-fit, block-filled}
 use Rattle.plays.specs.Plays.{playsAt}
-use Rattle.parser.specs.Headers.{headersAt}
-use Rattle.parser.specs.Lines.{hanging}
+use Rattle.parser.specs.inner.Headers.{headersAt}
+use Rattle.parser.specs.inner.Lines.{hanging}
 use Rattle.parser.specs.Parse.{Parsed, parse, needed, recordOf}
-use Rattle.parser.specs.Read.{Prepared, parsedSizes, Opened, filledWith, storedOf}
+use Rattle.parser.specs.Read.{filledWith, readStored}
+use Rattle.parser.specs.inner.Stores.{Prepared, parsedSizes, Opened}
 use Rattle.parser.specs.declared.Hanging.{Hanging}
 use Rattle.parser.specs.declared.Hanging.the-variants.{AllHung, Lost}
 use Rattle.parser.proofs.Opening.{start-length}
@@ -163,8 +165,8 @@ module _ (s : List ℕ) {p : Position} (c : Cursor) (hs : List ℕ) (f : Prepare
 
   module _ (o : List ℕ) {z : Sizes} (sized : z ≡ parsedSizes (parse s)) {o₁ : List ℕ} (left : o₁ ≡ opened 1 z p o) where
     -- a refusal is the one that the block's length calls for
-    pub refused-so : {a : Answer} → Refused a ≡ opening z (length o) → (a ≡ storedOf (parse s) o .answer) × (o₁ ≡ storedOf (parse s) o .buffer)
-    unfolding storedOf
+    pub refused-so : {a : Answer} → Refused a ≡ opening z (length o) → (a ≡ readStored (parse s) o .answer) × (o₁ ≡ readStored (parse s) o .buffer)
+    unfolding readStored
     refused-so {a} e =
         subst (λ (n : ℕ). (a ≡ unlessRefused n o (filledWith (parse s) o) .answer) × (o₁ ≡ unlessRefused n o (filledWith (parse s) o) .buffer))
         (ap lengthOf sized ∙ needed-length f) (refuses 1 z p o e left (filledWith (parse s) o))
@@ -182,8 +184,8 @@ module _ (s : List ℕ) {p : Position} (c : Cursor) (hs : List ℕ) (f : Prepare
 
       -- what is filled into a block that is begun is what is stored
       pub stored-so : {a : Answer} {o₂ : List ℕ} → a ≡ filledWith (parse s) o₁ .answer → o₂ ≡ filledWith (parse s) o₁ .buffer
-          → (a ≡ storedOf (parse s) o .answer) × (o₂ ≡ storedOf (parse s) o .buffer)
-      unfolding storedOf
+          → (a ≡ readStored (parse s) o .answer) × (o₂ ≡ readStored (parse s) o .buffer)
+      unfolding readStored
       stored-so {a} {o₂} x y =
           let q = opens-so in
           let k = front-size 1 (parse s .position) hd ls position-long (q .short) o (q .room) o₁ (q .front) in

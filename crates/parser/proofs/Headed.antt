@@ -13,7 +13,8 @@ use Rattle.text.specs.declared.Cursor.{Cursor}
 use Rattle.text.proofs.Boundaries.{key-part}
 use Rattle.jkf.specs.Model.{Header}
 use Rattle.block.specs.Encode.{concat, headerText}
-use Rattle.filling.specs.Filling.{header, putHeader, putHeaders}
+use Rattle.filling.specs.Filling.{header, putHeader}
+use Rattle.filling.specs.inner.Parts.{putHeaders}
 use Rattle.filling.specs.declared.Walk.{Walk}
 use Rattle.filling.proofs.Texts.{keyed, one-header}
 use Rattle.filling.proofs.Growing.{header-size, Doing, doing-start, doing-step, doing-as, doing-done}
@@ -21,7 +22,7 @@ use Rattle.kakinoki.specs.Informations.{onKeyValue, textBetween, keyValueAt, he
 use Rattle.kakinoki.specs.declared.KeyValue.{KeyValue}
 use Rattle.kakinoki.specs.declared.KeyValue.the-variants.{Pair, NoPair}
 use Rattle.kakinoki.proofs.Lines.{pair-known}
-use Rattle.parser.specs.Headers.{isHeaderLine, HeaderLines, headersAt}
+use Rattle.parser.specs.inner.Headers.{isHeaderLine, HeaderLines, headersAt}
 
 -- ---- a header line
 

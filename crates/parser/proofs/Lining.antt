@@ -9,11 +9,13 @@ use lib.ListN.{length, take, drop, getD, length-drop, take-append-drop, List·ge
 use lib.Seq.{getD-take, getD-drop, take-suc, length-take-le, drop-drop, take-all}
 use Rattle.lists.specs.Repeat.{Ended}
 use Rattle.lent.specs.Bytes.{le16}
-use Rattle.lent.specs.Regions.{join, first as next, put, puts, Room, Filled}
+use Rattle.lent.specs.Stored.{put}
+use Rattle.lent.specs.inner.Regions.{join, first as next, puts, Room, Filled}
 use Rattle.lent.proofs.Regions.{room-front, filled-length, then-fill, then-room, as-texts, filled-at, join-nil, put-none, put-eq, length-put, room-at}
 use Rattle.text.specs.declared.Cursor.{Cursor}
 use Rattle.jkf.specs.Attaching.{near, hangs, onHang, all, first, hungFrom, Play, play, playOf, starts, counts, parentIn, attach, allHung}
-use Rattle.jkf.specs.Following.{startAt, countAt, parentAt, hangsBy, Linked}
+use Rattle.jkf.specs.Following.{startAt, countAt, parentAt, hangsBy}
+use Rattle.jkf.specs.inner.Linked.{Linked}
 use Rattle.jkf.specs.declared.Hang.{Hang}
 use Rattle.jkf.specs.declared.Hang.the-variants.{On, Nowhere}
 use Rattle.jkf.proofs.Nears.{near-same, near-before, hangs-followed}
@@ -26,13 +28,13 @@ use Rattle.block.proofs.RowPlaces.{line-wide}
 use Rattle.block.proofs.LineTables.{start-back, count-back, parent-back}
 use Rattle.block.proofs.Attached.{all-hang, start-bound, attach-length, attach-entries, attach-line, parent-first, parent-later}
 use Rattle.filling.specs.Filling.{putEntries, putLineRow}
-use Rattle.filling.specs.Parts.{entryTexts, lineTexts, entryEnds, lineEnds, EntriesFit, Entered, LinesFit, LineFits, Lined}
+use Rattle.filling.specs.inner.Parts.{entryTexts, lineTexts, entryEnds, lineEnds, EntriesFit, Entered, LinesFit, LineFits, Lined}
 use Rattle.filling.specs.declared.Walk.{Walk}
 use Rattle.filling.proofs.Texts.{lines-append, entries-both, comments-both, bytes-both}
 use Rattle.filling.proofs.Growing.{line, own-entries, line-fit, line-put}
 use Rattle.plays.specs.Plays.{noted, entriesAt, plyAt, skippedAt, skipsAt, variationsAt, slotAt, pastMain, mainAt, playsAt}
 use Rattle.plays.specs.declared.Reached.{Reached}
-use Rattle.parser.specs.Lines.{mainLine}
+use Rattle.parser.specs.inner.Lines.{mainLine}
 use Rattle.parser.proofs.Variations.{variation-past, variations-more, variations-none}
 use Rattle.parser.proofs.Mains.{entered-by}
 

@@ -12,12 +12,12 @@ use Rattle.text.specs.declared.Cursor.{Cursor}
 use Rattle.jkf.specs.declared.Entry.the-variants.{Slot}
 use Rattle.jkf.specs.Model.{Noted}
 use Rattle.filling.specs.Filling.{putNoted, putEntries, putLineRow}
-use Rattle.filling.specs.Parts.{EntriesFit, Entered, LineFits, Lined}
+use Rattle.filling.specs.inner.Parts.{EntriesFit, Entered, LineFits, Lined}
 use Rattle.filling.specs.declared.Walk.{Walk}
 use Rattle.filling.proofs.Growing.{noted-put, entries-front, entries-rest, entries-then, entries-put, line-fit, line-put}
 use Rattle.plays.specs.Plays.{noted, commentsAt, entriesAt, skippedAt, slotAt, pastMain, mainAt}
 use Rattle.plays.specs.declared.Reached.{Reached}
-use Rattle.parser.specs.Lines.{mainLine}
+use Rattle.parser.specs.inner.Lines.{mainLine}
 use Rattle.parser.proofs.Variations.{main-is, main-none}
 
 -- entries that are put, told by an equal walk and an equal buffer

@@ -28,8 +28,8 @@ use Rattle.moves.proofs.Smalls.{Bytes, each as also, bytes-from, bytes-join, by
 use Rattle.kakinoki.specs.Informations.{onHeld, onKeyValue, paddedEndAt, endsLine, presetLineAt, turnLineAt, emptyHand, handAt, heldAt, handLineAt, keyValueAt, headerAt, Said, ofPreset, ofTurn, ofHands, ofPair, information, keyedAt, handsOrKeyedAt, informationAt, isLine, saidOf, hashLinesAt, informationItem, informationsAt, untold, tell, tellAll}
 use Rattle.spell.specs.Words.{presetTag, turnTag, handsTag}
 use Rattle.kakinoki.specs.Boards.{noCells}
-use Rattle.kakinoki.specs.Starts.{named, either, addHands, merged, positionOf, firstBlock, diagram, secondBlock, secondPlace, startOf}
-use Rattle.kakinoki.specs.declared.HandLine.{HandLine}
+use Rattle.kakinoki.specs.Starts.{named, either, addHands, merged, positionOf, firstBlock, diagram, secondBlock, secondPlace, startRead}
+use Rattle.kakinoki.specs.declared.HandSaid.{HandSaid}
 use Rattle.kakinoki.specs.declared.Held.{Held}
 use Rattle.kakinoki.specs.declared.Held.the-variants.{By, Unreadable, NoHand}
 use Rattle.kakinoki.specs.declared.KeyValue.{KeyValue}
@@ -82,14 +82,14 @@ module _ (s : List ℕ) where
   held-small : (side at : ℕ) → Filled Byte 7 (heldAt side s at .counts)
   unfolding heldAt
   held-small side at =
-      by-place (λ (l : HandLine). Filled Byte 7 (l .counts)) no-counts (paddedEndAt s (handAt s at .next .at)) (λ e. hand-bytes s at)
+      by-place (λ (l : HandSaid). Filled Byte 7 (l .counts)) no-counts (paddedEndAt s (handAt s at .next .at)) (λ e. hand-bytes s at)
 
   hands-small : (at : ℕ) → Filled Byte 7 (handLineAt s at .counts)
   unfolding handLineAt
   hands-small at =
       by-spelled Q no-counts (first-known 2 sides refl s at) (λ side c k. by-place Q no-counts (tagAt handsTag s (c .at)) (λ d. held-small side (d .at)))
     where
-      Q : HandLine → Type 0
+      Q : HandSaid → Type 0
       Q l = Filled Byte 7 (l .counts)
 
   -- a line, whatever header entry it is
@@ -258,25 +258,25 @@ module _ (b : Board) (t : Told) (c : Filled Cell 81 (b .cells)) (f : Fine t) whe
   position-opens = by-pick Opens (b .there) _ _ (λ _. there-opens) (λ _. none-opens)
 
 module _ (s : List ℕ) where
-  start-opens : Opens (startOf s .position)
-  unfolding startOf
+  start-opens : Opens (startRead s .position)
+  unfolding startRead
   start-opens =
       let first : Told = tellAll untold (firstBlock s .state) in
       let second : Told = tellAll untold (secondBlock s .state) in
       position-opens (diagram s) (merged first second) (board-made s (firstBlock s .at))
       (merged-fine first second (block-fine s 0) (block-fine s (secondPlace s)))
 
-  pub start-cells : length (startOf s .position .cells) ≡ 81
+  pub start-cells : length (startRead s .position .cells) ≡ 81
   start-cells = start-opens .cells
 
-  pub start-hands : length (startOf s .position .hands) ≡ 14
+  pub start-hands : length (startRead s .position .hands) ≡ 14
   start-hands = start-opens .hands
 
-  pub start-length : length (positionBytes (startOf s .position)) ≡ 100
-  start-length = position-length (startOf s .position) start-cells start-hands
+  pub start-length : length (positionBytes (startRead s .position)) ≡ 100
+  start-length = position-length (startRead s .position) start-cells start-hands
 
-  pub start-fits : claim (fitsTest (startOf s .position))
+  pub start-fits : claim (fitsTest (startRead s .position))
   start-fits = start-opens .fits
 
-  pub start-bytes : Bytes (positionBytes (startOf s .position))
+  pub start-bytes : Bytes (positionBytes (startRead s .position))
   start-bytes = start-opens .bytes

@@ -9,12 +9,13 @@ use mathlib.Core.List.{List, [], _∷_, _++_}
 use lib.ListN.{length, getD, take, drop, replicate, length-append, length-replicate}
 use lib.Seq.{sets, sets-eq, take-at, take-append-le, length-take-le}
 use borrow.Author.Tests.{le-ltb}
-use Rattle.sorted.specs.Sorted.{kept, Leads, keptCount, keptBuffer}
+use Rattle.sorted.specs.Sorted.{kept, keptCount, keptBuffer}
+use Rattle.sorted.specs.inner.Orders.{Leads}
 use Rattle.kakinoki.specs.Informations.{low16}
-use Rattle.kakinoki.specs.Starts.{startOf, headerPlaces}
+use Rattle.kakinoki.specs.Starts.{startRead, headerPlaces}
 use Rattle.kakinoki.specs.declared.Start.{Start}
 use Rattle.kakinoki.proofs.Heads.{header-begins, headers-few}
-use Rattle.parser.specs.Read.{noPlaces, Prepared}
+use Rattle.parser.specs.inner.Stores.{noPlaces, Prepared}
 
 -- ---- numbers of 16 bits, and a list at a buffer's front
 
@@ -54,7 +55,7 @@ leads-then {l} {o} {r} q w =
 -- ---- what was read before the moves
 
 abbrev pub Begun : List ℕ → Start → List ℕ → Type 0
-Begun s start places = (length s ≤ 65535) × (start ≡ startOf s) × (places ≡ sets noPlaces 0 (low16 (headerPlaces s)))
+Begun s start places = (length s ≤ 65535) × (start ≡ startRead s) × (places ≡ sets noPlaces 0 (low16 (headerPlaces s)))
 
 module _ (s : List ℕ) (start : Start) (places : List ℕ) (b : Begun s start places) where
   places-few : length (headerPlaces s) ≤ 13107
@@ -64,7 +65,7 @@ module _ (s : List ℕ) (start : Start) (places : List ℕ) (b : Begun s start p
   places-low = low-same (headerPlaces s) (λ i n. omega (arith, header-begins s i n .inside, b .0))
 
   counted : length (headerPlaces s) ≡ start .headers
-  unfolding startOf
+  unfolding startRead
   counted = sym (ap (λ (x : Start). x .headers) (b .1))
 
   room : length (headerPlaces s) ≤ length noPlaces

@@ -15,8 +15,8 @@ use Rattle.block.specs.Encode.{concat, commentsOf, commentText}
 use Rattle.filling.proofs.Texts.{commented, written}
 use Rattle.plays.specs.Plays.{noted, entriesAt, plyAt, skippedAt, skipsAt, variationsAt, slotAt, pastMain, mainAt, playsAt}
 use Rattle.plays.specs.Counted.{remarksAt, extentAt}
-use Rattle.parser.specs.Lines.{mainExtents, extentsAt}
-use Rattle.plays.specs.Counted.{playEntries}
+use Rattle.parser.specs.inner.Lines.{mainExtents, extentsAt}
+use Rattle.plays.specs.inner.Entries.{playEntries}
 use Rattle.plays.specs.declared.Remarks.{Remarks}
 use Rattle.plays.specs.declared.Extent.{Extent}
 use Rattle.parser.specs.declared.Extents.{Extents}

@@ -1,6 +1,6 @@
 -- What is known before a block is stored: where the moves begin, which lines are header lines, and how long the block is.
 -- Assumes nothing.
-use Prim.Native.Nat.{ℕ, zero, suc, _+_, _*_, _≤_, _<_}
+use Prim.Native.Nat.{ℕ, suc, _+_, _*_, _≤_, _<_}
 use native.Mathlib.Omega.{arith}
 use mathlib.Core.Path.{_≡_, refl, sym, ap, _∙_, subst}
 use mathlib.Core.List.{List, [], _∷_, _++_, append-nil}
@@ -22,23 +22,24 @@ use Rattle.filling.specs.Filling.{lengthOf}
 use Rattle.filling.specs.declared.Sizes.{Sizes}
 use Rattle.filling.proofs.Texts.{keyed}
 use Rattle.filling.proofs.Putting.{small-enough, length-is}
-use Rattle.sorted.specs.Sorted.{byKey, enterAll, kept, All}
+use Rattle.sorted.specs.Sorted.{byKey, enterAll, kept}
 use Rattle.sorted.proofs.Merges.{enter-map}
 use Rattle.sorted.proofs.Kept.{kept-all, kept-length}
 use Rattle.kakinoki.specs.Informations.{onKeyValue, headerAt}
 use Rattle.kakinoki.specs.Boards.{noCells, noBoard, rowsFrom, ruledAt, boardAt}
 use Rattle.spell.specs.Words.{filesTag, ruleTag}
-use Rattle.kakinoki.specs.Starts.{firstBlock, diagram, secondPlace, headerPlaces, startOf}
+use Rattle.kakinoki.specs.Starts.{firstBlock, diagram, secondPlace, headerPlaces, startRead}
 use Rattle.kakinoki.specs.declared.Board.{Board}
 use Rattle.kakinoki.specs.declared.KeyValue.{KeyValue}
 use Rattle.kakinoki.proofs.Places.{block-within}
 use Rattle.kakinoki.proofs.Heads.{headers-said, header-begins, headers-few}
 use Rattle.plays.specs.Plays.{playsAt}
-use Rattle.parser.specs.Headers.{isHeaderLine, HeaderLines, headersAt}
-use Rattle.parser.specs.Lines.{extentsAt}
+use Rattle.parser.specs.inner.Headers.{isHeaderLine, HeaderLines, headersAt}
+use Rattle.parser.specs.inner.Lines.{extentsAt}
 use Rattle.parser.specs.Parse.{byHeader, headersOf, parse, needed}
-use Rattle.parser.specs.Read.{Prepared, parsedSizes}
+use Rattle.parser.specs.inner.Stores.{Prepared, parsedSizes}
 use Rattle.parser.specs.declared.Extents.{Extents}
+use Rattle.parser.proofs.Alls.{all-at, index-all}
 use Rattle.parser.proofs.Sizing.{sizes-small}
 use Rattle.parser.proofs.Headed.{entry-short}
 use Rattle.block.proofs.Attached.{attach-length, attach-entries}
@@ -64,23 +65,14 @@ board-within s at =
     none : Q noBoard
     none t = absurd (false≢true t)
 
-pub moves-within : (s : List ℕ) → startOf s .next .at ≤ length s
-unfolding startOf
+pub moves-within : (s : List ℕ) → startRead s .next .at ≤ length s
+unfolding startRead
 moves-within s =
     let a : firstBlock s .at ≤ length s = omega (arith, block-within s 0) in
     let b : secondPlace s ≤ length s = by-pick (λ (n : ℕ). n ≤ length s) (diagram s .there) (diagram s .next .at) (firstBlock s .at) (λ t. board-within s (firstBlock s .at) t) (λ t. a) in
     omega (arith, b, block-within s (secondPlace s))
 
 -- ---- header lines
-
-all-of : (P : ℕ → Type 0) (l : List ℕ) → ((i : ℕ) → i < length l → P (getD l i 0)) → All P l
-all-of P [] h = tt
-all-of P (x ∷ l) h = (h 0 (omega arith), all-of P l (λ i k. h (suc i) (omega arith)))
-
-each-of : (P : ℕ → Type 0) (l : List ℕ) → All P l → (i : ℕ) → i < length l → P (getD l i 0)
-each-of P [] a i h = absurd (omega arith)
-each-of P (x ∷ l) a zero h = a .0
-each-of P (x ∷ l) a (suc i) h = each-of P l (a .1) i (omega arith)
 
 pub header-lines : (s : List ℕ) → length s ≤ 65535 → HeaderLines s (kept s (headerPlaces s))
 header-lines s h =
@@ -89,9 +81,9 @@ header-lines s h =
       short = h;
       few = omega (arith, kept-length s (headerPlaces s), headers-few s);
       each =
-          each-of P (kept s (headerPlaces s))
+          all-at 0
           (kept-all s (headerPlaces s) P
-          (all-of P (headerPlaces s) (λ i k. ap (λ (x : KeyValue). onKeyValue x (λ from to next. true) false) (header-begins s i k .line .is))));
+          (index-all P 0 (headerPlaces s) (λ i k. ap (λ (x : KeyValue). onKeyValue x (λ from to next. true) false) (header-begins s i k .line .is))));
     }
 
 -- the record's header entries are those of the places by key
@@ -104,13 +96,13 @@ headers-are s = ap (enterAll byHeader []) (sym (headers-said s)) ∙ sym (enter-
 
 -- ---- how long the block is
 
-pub sizes-are : (s : List ℕ) (z : Extents) (hs : List ℕ) (n : ℕ) → z ≡ extentsAt s (startOf s .next .at) → hs ≡ kept s (headerPlaces s) → n ≡ length (headerText (headersAt s hs))
+pub sizes-are : (s : List ℕ) (z : Extents) (hs : List ℕ) (n : ℕ) → z ≡ extentsAt s (startRead s .next .at) → hs ≡ kept s (headerPlaces s) → n ≡ length (headerText (headersAt s hs))
     → _≡_ {A = Sizes}
     (record { headers = length hs; lines = z .lines; entries = z .entries; comments = z .comments; bytes = n + z .bytes })
     (parsedSizes (parse s))
 unfolding parse extentsAt
 sizes-are s z hs n e h t =
-    let ps = playsAt s (startOf s .next .at) .state in
+    let ps = playsAt s (startRead s .next .at) .state in
     let k : length hs ≡ length (headersOf s) = ap length h ∙ sym (length-map (kept s (headerPlaces s)) (headerAt s)) ∙ ap length (sym (headers-are s)) in
     let m : n ≡ length (headerText (headersOf s)) = t ∙ ap (λ (l : List ℕ). length (headerText (headersAt s l))) h ∙ ap (λ (l : List Header). length (headerText l)) (sym (headers-are s)) in
     let f = attach-entries ps in
@@ -158,7 +150,7 @@ bounds {s} {p} {at} {hs} z f e =
 pub needed-length : {s : List ℕ} {p : Position} {at : ℕ} {hs : List ℕ} → Prepared s p at hs → lengthOf (parsedSizes (parse s)) ≡ needed (parse s)
 unfolding needed
 needed-length {s} {p} {at} {hs} f =
-    let z = extentsAt s (startOf s .next .at) in
+    let z = extentsAt s (startRead s .next .at) in
     let b = bounds (extentsAt s at) f refl in
     let e = sizes-are s z hs (length (headerText (headersAt s hs))) refl (f .headers) refl in
     let q = ap (extentsAt s) (f .place) in

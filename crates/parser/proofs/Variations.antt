@@ -15,7 +15,7 @@ use Rattle.jkf.specs.Attaching.{Play, play}
 use Rattle.block.specs.Encode.{concat, commentsOf, commentText}
 use Rattle.block.proofs.Tabling.{concat-append}
 use Rattle.plays.specs.Plays.{entriesAt, plyAt, skippedAt, skipsAt, playItem, variationItem, variationsAt, pastMain}
-use Rattle.plays.specs.Counted.{playEntries}
+use Rattle.plays.specs.inner.Entries.{playEntries}
 use Rattle.plays.proofs.Items.{on-both, no-more, entries-max, entries-within, skips-from, skipped-from, skipped-within}
 use Rattle.plays.proofs.Weights.{weight, many-weighs, entries-short}
 

@@ -1,4 +1,3 @@
-pub mod Lines
-pub mod Headers
 pub mod Parse
 pub mod Read
+pub mod inner

@@ -9,7 +9,7 @@ use Rattle.jkf.specs.Attaching.{Play, attach}
 use Rattle.block.specs.Encode.{headerText, entriesOf, commentsOf, commentText, blockLength}
 use Rattle.sorted.specs.Sorted.{byBytes, enterAll}
 use Rattle.sorted.specs.declared.Order.{Order}
-use Rattle.kakinoki.specs.Starts.{startOf, headersSaid}
+use Rattle.kakinoki.specs.Starts.{startRead, headersSaid}
 use Rattle.plays.specs.Plays.{playsAt}
 
 pub record Parsed : Type 0 where
@@ -29,9 +29,9 @@ unfoldable pub parse : List ℕ → Parsed
 parse s =
     record {
       headers = headersOf s;
-      position = startOf s .position;
-      plays = playsAt s (startOf s .next .at) .state;
-      taken = playsAt s (startOf s .next .at) .at;
+      position = startRead s .position;
+      plays = playsAt s (startRead s .next .at) .state;
+      taken = playsAt s (startRead s .next .at) .at;
     }
 
 -- The record: each line hangs where the attaching rule says.

@@ -7,7 +7,7 @@ ghost use Prim.Native.Nat.{_≤_};
 ghost use lib.ListN.{length};
 ghost use Rattle.plays.specs.Plays.{pastMain};
 ghost use Rattle.plays.specs.Counted.{extentAt};
-ghost use Rattle.parser.specs.Lines.{mainExtents, extentsAt};
+ghost use Rattle.parser.specs.inner.Lines.{mainExtents, extentsAt};
 
 // Past the skip line that may end a line of play; the same place where there is no such line.
 fn past_line(c: Cursor, line: Extent, s: &[u8]) -> Cursor

@@ -8,11 +8,11 @@ ghost use mathlib.Core.Path.{_≡_};
 ghost use mathlib.Core.List.{[], _∷_};
 ghost use lib.Dec.{eqb};
 ghost use Rattle.lists.specs.Pick.{pick};
-ghost use Rattle.lent.specs.Regions.{puts};
+ghost use Rattle.lent.specs.inner.Regions.{puts};
 ghost use Rattle.jkf.specs.Attaching.{all, attach, allHung};
-ghost use Rattle.filling.specs.Parts.{lineTexts, lineEnds, LinesFit, LineFits, Lined};
+ghost use Rattle.filling.specs.inner.Parts.{lineTexts, lineEnds, LinesFit, LineFits, Lined};
 ghost use Rattle.plays.specs.Plays.{skippedAt, slotAt, pastMain, playsAt};
-ghost use Rattle.parser.specs.Lines.{mainLine, hanging};
+ghost use Rattle.parser.specs.inner.Lines.{mainLine, hanging};
 
 // Past the skip line that may end a line of play; the same place where no entry was filled in.
 fn past_entries(before: Reached, after: Reached, s: &[u8]) -> Cursor
@@ -61,7 +61,7 @@ pub(crate) fn fill_lines(s: &[u8], c: Cursor, w: Walk, out: &mut [u8]) -> Hangin
             return Hanging::AllHung(next);
         }
         let start = plays::ply(at, s);
-        let Hang::On(parent, _) = jkf::attach(&out[table..], k, start) else {
+        let Hang::On(parent, _) = jkf::hang_of(&out[table..], k, start) else {
             return Hanging::Lost(k as u64, start);
         };
         let count = v.entries - walk.entries;

@@ -9,8 +9,9 @@ ghost use mathlib.Core.List.{[], _∷_};
 ghost use lib.ListN.{length};
 ghost use Rattle.block.specs.Encode.{headerText};
 ghost use Rattle.kakinoki.specs.Informations.{headerAt};
-ghost use Rattle.filling.specs.Filling.{putHeader, putHeaders};
-ghost use Rattle.parser.specs.Headers.{isHeaderLine, HeaderLines, headersAt};
+ghost use Rattle.filling.specs.Filling.{putHeader};
+ghost use Rattle.filling.specs.inner.Parts.{putHeaders};
+ghost use Rattle.parser.specs.inner.Headers.{isHeaderLine, HeaderLines, headersAt};
 
 // A place as a number to reckon with.
 fn wide(at: u16) -> usize

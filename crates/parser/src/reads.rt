@@ -8,15 +8,16 @@ ghost use Prim.Native.Nat.{_≤_};
 ghost use lib.ListN.{length};
 ghost use lib.Seq.{sets};
 ghost use Rattle.kakinoki.specs.Informations.{low16};
-ghost use Rattle.kakinoki.specs.Starts.{startOf, headerPlaces};
+ghost use Rattle.kakinoki.specs.Starts.{startRead, headerPlaces};
 ghost use Rattle.parser.specs.Parse.{parse};
-ghost use Rattle.parser.specs.Read.{noPlaces, storedOf, startedOf, readOf};
+ghost use Rattle.parser.specs.Read.{readStored, startedOf, readOf};
+ghost use Rattle.parser.specs.inner.Stores.{noPlaces};
 
 // What stands before the moves was read without a fault: its header lines are sorted by key.
 fn read_start(s: &[u8], start: Start, places: &[u16], out: &mut [u8]) -> Answer
-    requires { ⌜ (length (now s) ≤ 65535) × (start ≡ startOf (now s)) × (now places ≡ sets noPlaces 0 (low16 (headerPlaces (now s)))) ⌝ }
-    ensures { λ r. ⌜ r ≡ storedOf (parse (now (s .entry))) (now (out .entry)) .answer ⌝ }
-    ensures { λ r. ⌜ now (out .exit) ≡ storedOf (parse (now (s .entry))) (now (out .entry)) .buffer ⌝ }
+    requires { ⌜ (length (now s) ≤ 65535) × (start ≡ startRead (now s)) × (now places ≡ sets noPlaces 0 (low16 (headerPlaces (now s)))) ⌝ }
+    ensures { λ r. ⌜ r ≡ readStored (parse (now (s .entry))) (now (out .entry)) .answer ⌝ }
+    ensures { λ r. ⌜ now (out .exit) ≡ readStored (parse (now (s .entry))) (now (out .entry)) .buffer ⌝ }
 {
     let mut sorted = [0u16; 13107];
     let n = start.headers;

@@ -13,7 +13,8 @@ use text::Cursor;
 ghost use mathlib.Core.Path.{_≡_};
 ghost use lib.ListN.{length, replicate};
 ghost use Rattle.parser.specs.Parse.{parse};
-ghost use Rattle.parser.specs.Read.{Prepared, Opened, storedOf, filledWith};
+ghost use Rattle.parser.specs.Read.{readStored, filledWith};
+ghost use Rattle.parser.specs.inner.Stores.{Prepared, Opened};
 
 // The whole buffer set to zero.
 fn clear(out: &mut [u8])
@@ -49,8 +50,8 @@ pub(crate) fn store(
     out: &mut [u8],
 ) -> Answer
     requires { ⌜ Prepared (now s) position (c .at) (now headers) ⌝ }
-    ensures { λ r. ⌜ r ≡ storedOf (parse (now (s .entry))) (now (out .entry)) .answer ⌝ }
-    ensures { λ r. ⌜ now (out .exit) ≡ storedOf (parse (now (s .entry))) (now (out .entry)) .buffer ⌝ }
+    ensures { λ r. ⌜ r ≡ readStored (parse (now (s .entry))) (now (out .entry)) .answer ⌝ }
+    ensures { λ r. ⌜ now (out .exit) ≡ readStored (parse (now (s .entry))) (now (out .entry)) .buffer ⌝ }
 {
     let all = count_lines(c, s);
     let sizes = Sizes {

@@ -1,6 +1,6 @@
 -- Comments and entries of a text are filled in one by one: what is still to do from here comes to what was to do at first.
 -- Assumes nothing.
-use Prim.Native.Nat.{ℕ, _-_}
+use Prim.Native.Nat.{ℕ}
 use mathlib.Core.Path.{_≡_, refl, sym, ap, _∙_}
 use mathlib.Core.List.{List, _∷_}
 use Rattle.lists.specs.Repeat.{Ended}
@@ -10,7 +10,7 @@ use Rattle.jkf.specs.Model.{Noted}
 use Rattle.moves.specs.Moves.{moveLineAt, commentLineAt}
 use Rattle.moves.specs.declared.Remark.the-variants.{Stands, NoRemark}
 use Rattle.moves.specs.declared.MoveLine.the-variants.{Numbered, NoLine}
-use Rattle.filling.specs.Filling.{putComment, putNoted, putEntry, putComments, putAll}
+use Rattle.filling.specs.Filling.{putComment, putNoted, putComments, putAll}
 use Rattle.filling.specs.declared.Walk.{Walk}
 use Rattle.filling.proofs.Growing.{comment-size, noted-size, Doing, doing-start, doing-step, doing-as, doing-done}
 use Rattle.plays.specs.Plays.{noted, commentsAt, entriesAt}
@@ -71,11 +71,3 @@ module _ {s : List ℕ} {at₀ at : ℕ} {w₀ w : Walk} {o₀ o : List ℕ} (i 
       let n = entries-none s at q in
       let d = doing-done (doing-as (ap (λ (x : Ended (List Noted)). x .state) n) (i .doing)) in
       (d .0, (d .1, sym (ap (λ (x : Ended (List Noted)). x .at) n) ∙ i .end))
-
--- ---- one entry with its comments
-
-pub noted-done : (e : Entry) (cs : List (List ℕ)) (w : Walk) (o : List ℕ) {v r : Walk} {o₁ o₂ : List ℕ} {at end : ℕ} → v ≡ putComments cs w o .walk → o₁ ≡ putComments cs w o .buffer
-    → r ≡ putEntry e (w .noted) (v .noted - w .noted) v o₁ .walk → o₂ ≡ putEntry e (w .noted) (v .noted - w .noted) v o₁ .buffer
-    → at ≡ end → (r ≡ putNoted (noted e cs) w o .walk) × ((o₂ ≡ putNoted (noted e cs) w o .buffer) × (at ≡ end))
-unfolding putNoted
-noted-done e cs w o {v} {r} {o₁} {o₂} a b c d f = (c ∙ rw (a, b), (d ∙ rw (a, b), f))

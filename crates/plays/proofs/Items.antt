@@ -87,10 +87,6 @@ module _ (s : List ℕ) where
   unfolding entriesAt entryItem
   entries-none at q = many-stop (entryItem s) (length s) at (rw q)
 
-  pub entries-from : (at : ℕ) → at ≤ entriesAt s at .at
-  unfolding entriesAt
-  entries-from at = many-from (entryItem s) (length s) entry-goes (length s) at
-
   pub entries-max : (at : ℕ) → entriesAt s at .at ≤ max at (length s)
   unfolding entriesAt
   entries-max at = many-within (entryItem s) (length s) entry-goes (length s) at

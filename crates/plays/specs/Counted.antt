@@ -4,9 +4,7 @@ use Prim.Native.Nat.{ℕ}
 use mathlib.Core.List.{List}
 use lib.ListN.{length}
 use Rattle.text.specs.Text.{cursor}
-use Rattle.jkf.specs.Attaching.{Play}
-use Rattle.jkf.specs.Model.{Noted}
-use Rattle.block.specs.Encode.{concat, commentsOf, commentText}
+use Rattle.block.specs.Encode.{commentsOf, commentText}
 use Rattle.plays.specs.Plays.{commentsAt, entriesAt}
 use Rattle.plays.specs.declared.Remarks.{Remarks}
 use Rattle.plays.specs.declared.Extent.{Extent}
@@ -29,7 +27,3 @@ extentAt s at =
       bytes = length (commentText (commentsOf (entriesAt s at .state)));
       next = cursor (entriesAt s at .at);
     }
-
--- All entries of lines of play.
-abbrev pub playEntries : List Play → List Noted
-playEntries = concat (λ p. p .entries)

@@ -1,2 +1,3 @@
 pub mod Plays
 pub mod Counted
+pub mod inner

@@ -19,7 +19,8 @@ use Rattle.moves.specs.declared.Remark.{Remark}
 use Rattle.moves.specs.declared.Remark.the-variants.{Stands, NoRemark}
 use Rattle.moves.proofs.Goings.{move-goes, remark-goes, skip-goes}
 use Rattle.reader.specs.TextLines.{skipAt, textLineAt}
-use Rattle.reader.specs.LinesPassed.{countLine, countStep, noneAt, passedOver, withLine, WithinPlace}
+use Rattle.reader.specs.LinesPassed.{countLine, countStep, noneAt, passedOver}
+use Rattle.reader.specs.inner.Steps.{withLine, WithinPlace}
 use Rattle.reader.specs.declared.TextLine.{TextLine}
 use Rattle.reader.specs.declared.TextLine.the-variants.{Played, Remarked, Skipped, Nothing}
 use Rattle.reader.specs.declared.PassedLines.{PassedLines}

@@ -1,2 +1,3 @@
 pub mod TextLines
 pub mod LinesPassed
+pub mod inner

@@ -1,10 +1,10 @@
 -- Move lines, comments and skip lines from a place on, counted.                                     (01, Reading rules: move line, skip line)
 -- Assumes nothing: these are definitions.
-use Prim.Native.Nat.{ℕ, _+_, _≤_}
+use Prim.Native.Nat.{ℕ, _+_}
 use mathlib.Core.List.{List}
 use lib.ListN.{length, getD}
 use Rattle.lists.specs.Pick.{pick}
-use Rattle.lists.specs.Repeat.{Step, more, stop, onStep, repeatFrom}
+use Rattle.lists.specs.Repeat.{Step, more, stop, repeatFrom}
 use Rattle.text.specs.Text.{isText}
 use Rattle.reader.specs.TextLines.{textLineAt}
 use Rattle.reader.specs.declared.TextLine.{TextLine}
@@ -12,8 +12,6 @@ use Rattle.reader.specs.declared.TextLine.the-variants.{Played, Remarked
 use Rattle.reader.specs.declared.FirstSkip.{FirstSkip}
 use Rattle.reader.specs.declared.FirstSkip.the-variants.{At, NoSkip}
 use Rattle.reader.specs.declared.PassedLines.{PassedLines}
-use Rattle.reader.specs.declared.Advance.{Advance}
-use Rattle.reader.specs.declared.Advance.the-variants.{Further, NoFurther}
 
 -- The first skip line that begins with neither an LF nor a CR, with one more at a place: the one found before, or else this one, if it is such.
 unfoldable pub firstAt : FirstSkip → List ℕ → ℕ → FirstSkip
@@ -30,7 +28,7 @@ countLine s at p (Skipped next) =
     more (next .at) (record { moves = p .moves; comments = p .comments; skips = p .skips + 1; first = firstAt (p .first) s at; end = next .at })
 countLine s at p Nothing = stop
 
--- The same with the line that stands at the place.
+-- One line more, the one that stands at the place.
 abbrev pub countStep : List ℕ → ℕ → PassedLines → Step PassedLines
 countStep s at p = countLine s at p (textLineAt s at)
 
@@ -41,13 +39,3 @@ noneAt at = record { moves = 0; comments = 0; skips = 0; first = NoSkip; end = a
 -- All lines that stand one after the other from a place on.
 unfoldable pub passedOver : List ℕ → ℕ → PassedLines
 passedOver s at = repeatFrom (countStep s) (length s) at (noneAt at) .state
-
--- One step of it, from the end of a count on.
-unfoldable pub withLine : List ℕ → PassedLines → Advance
-withLine s p = onStep (countStep s (p .end) p) (λ next q. Further q) NoFurther
-
--- Each line has a byte or more, so that no number of lines is above the place past them.
-pub record WithinPlace (p : PassedLines) : Type 0 where
-  pub moves : p .moves ≤ p .end
-  pub comments : p .comments ≤ p .end
-  pub skips : p .skips ≤ p .end

@@ -7,7 +7,8 @@ use text::Cursor;
 use text::Place;
 ghost use mathlib.Core.Path.{_≡_};
 ghost use Rattle.reader.specs.TextLines.{skipAt, textLineAt, placePast, readerAt};
-ghost use Rattle.reader.specs.LinesPassed.{WithinPlace, firstAt, withLine, passedOver};
+ghost use Rattle.reader.specs.LinesPassed.{firstAt, passedOver};
+ghost use Rattle.reader.specs.inner.Steps.{WithinPlace, withLine};
 
 // A move line: its number, its entry and the place past it. A comment: where its text begins and ends, and the place past its line.
 // A skip line: the place past it. Or nothing of these.

@@ -16,7 +16,7 @@ fn put_line(out: &mut [u8], ply: u64, after: u64, e: Entry) -> usize
     ensures { λ r. ⌜ r ≤ length (now (out .entry)) ⌝ }
 {
     let n = put_three(out, 1, ply, after);
-    let end = block::put_entry(out, n, e, 0, 0);
+    let end = block::put_entry_row(out, n, e, 0, 0);
     if end <= out.len() { end } else { 0 }
 }
 

@@ -70,18 +70,18 @@ unfoldable pub rowText : ℕ → ℕ → ℕ → ℕ → List ℕ
 rowText k start moves parent = fields lineTag k startTag start ++ lastFields movesTag moves parentTag parent
 
 -- Line k of a block.
-unfoldable pub lineText : List ℕ → ℕ → List ℕ
-lineText b k = rowText k (startOf b k) (entryCount b k) (parentOf b k)
+unfoldable pub rowOf : List ℕ → ℕ → List ℕ
+rowOf b k = rowText k (startOf b k) (entryCount b k) (parentOf b k)
 
 -- The lines of a block before line n, one after the other.
-unfoldable pub linesText : List ℕ → ℕ → List ℕ
-linesText b n = concat (λ t. t) (run (lineText b) 0 n)
+unfoldable pub rowsText : List ℕ → ℕ → List ℕ
+rowsText b n = concat (λ t. t) (run (rowOf b) 0 n)
 
 -- ---- the whole
 
 -- The listing of a block that was read from so many bytes.
 unfoldable pub listingText : ℕ → List ℕ → List ℕ
-listingText taken b = readText taken (length b) ++ linesText b (linesIn b)
+listingText taken b = readText taken (length b) ++ rowsText b (linesIn b)
 
 -- The room that is asked for: 53 bytes for what reading answers, with two numbers of 20 digits, and 48 for each line, with four of 5.
 abbrev pub listingRoom : List ℕ → ℕ

@@ -7,7 +7,7 @@ ghost use mathlib.Core.Path.{_≡_};
 ghost use Prim.Native.Nat.{_+_, _*_, _≤_, _<_};
 ghost use lib.ListN.{length, take, drop, getD};
 ghost use Rattle.lent.specs.Bytes.{Wrote};
-ghost use Rattle.shown.specs.Listing.{lineText, linesText, listed};
+ghost use Rattle.shown.specs.Listing.{rowOf, rowsText, listed};
 
 // The first n bytes of a slice, or all where there are fewer.
 pub fn front(s: &[u8], n: usize) -> &[u8]
@@ -32,7 +32,7 @@ pub fn text_at(table: &[u8], at: usize) -> &[u8]
 // Line k of a block, for which there is room: each of its numbers has at most 5 digits.
 fn put_line(out: &mut [u8], b: &[u8], k: u16) -> usize
     requires { ⌜ 48 ≤ length (now out) ⌝ }
-    ensures { λ r. ⌜ Wrote (lineText (now (b .entry)) k) (now (out .entry)) (now (out .exit)) r × (r ≤ 48) ⌝ }
+    ensures { λ r. ⌜ Wrote (rowOf (now (b .entry)) k) (now (out .entry)) (now (out .exit)) r × (r ≤ 48) ⌝ }
 {
     let start = block::start_of(b, k) as u64;
     let moves = block::entry_count(b, k) as u64;
@@ -43,7 +43,7 @@ fn put_line(out: &mut [u8], b: &[u8], k: u16) -> usize
 // The first lines of a block.
 fn put_lines(out: &mut [u8], b: &[u8], count: usize) -> usize
     requires { ⌜ (count < 65536) × (48 * count ≤ length (now out)) ⌝ }
-    ensures { λ r. ⌜ Wrote (linesText (now (b .entry)) count) (now (out .entry)) (now (out .exit)) r ⌝ }
+    ensures { λ r. ⌜ Wrote (rowsText (now (b .entry)) count) (now (out .entry)) (now (out .exit)) r ⌝ }
 {
     let mut n = 0;
     let mut k = 0;

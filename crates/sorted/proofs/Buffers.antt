@@ -12,7 +12,8 @@ use borrow.Rule.Slice.PartMut.{putMid}
 use Rattle.lists.proofs.Laws.{drop-step}
 use Rattle.sorted.specs.declared.Order.{Order}
 use Rattle.sorted.specs.declared.Order.the-variants.{Less, Equal, Greater}
-use Rattle.sorted.specs.Sorted.{byKey, enter, enterAll, kept, merge, Leads, keptCount, keptBuffer}
+use Rattle.sorted.specs.Sorted.{byKey, enter, enterAll, kept, keptCount, keptBuffer}
+use Rattle.sorted.specs.inner.Orders.{merge, Leads}
 use Rattle.sorted.proofs.Merges.{merge-nil, less, equal, greater}
 use Rattle.sorted.proofs.Kept.{kept-halves, kept-length}
 

@@ -15,8 +15,9 @@ use Rattle.lists.specs.Pick.{pick}
 use Rattle.lists.proofs.Laws.{drop-step, pick-both}
 use Rattle.text.specs.Text.{isText, prefixFrom, standsAt, wideColon, endsKey, keyFrom, keyAt}
 use Rattle.sorted.specs.declared.Order.the-variants.{Less, Equal, Greater}
-use Rattle.sorted.specs.Heads.{isPlain, headOf, digits, fourAt, Four}
-use Rattle.sorted.specs.Sorted.{byBytes, All}
+use Rattle.sorted.specs.inner.Heads.{isPlain, headOf, leadDigits, fourAt, Four}
+use Rattle.lists.specs.All.{All, none, next}
+use Rattle.sorted.specs.Sorted.{byBytes}
 use Rattle.sorted.proofs.Orders.{flip, bytes-flip, is-less, is-equal, is-greater}
 
 -- ---- whether a key ends at a place
@@ -128,37 +129,41 @@ is-four s at w x y z h p q r t e f g k =
     let b = key-next s (at + 1) (at + 2) (omega arith) (omega arith) q in
     let c = key-next s (at + 2) (at + 3) (omega arith) (omega arith) r in
     let d = key-next s (at + 3) (at + 4) (omega arith) (omega arith) t in
-    record { parts = rw (a, b, c, d); value = omega arith; bytes = (omega arith, (omega arith, (omega arith, (omega arith, tt)))) }
+    let w₁ : getD s at 0 < 256 = omega arith in
+    let x₁ : getD s (at + 1) 0 < 256 = omega arith in
+    let y₁ : getD s (at + 2) 0 < 256 = omega arith in
+    let z₁ : getD s (at + 3) 0 < 256 = omega arith in
+    record { parts = rw (a, b, c, d); value = omega arith; bytes = next w₁ (next x₁ (next y₁ (next z₁ none))) }
 
 -- ---- bytes as the digits of a number
 
 -- of two lists that are as long, the one whose number is less comes first, whatever follows them,
-digits-less : (l m k n : List ℕ) (v w : ℕ) → length l ≡ length m → All (λ b. b < 256) l → All (λ b. b < 256) m → digits v l < digits w m
+digits-less : (l m k n : List ℕ) (v w : ℕ) → length l ≡ length m → All (λ b. b < 256) l → All (λ b. b < 256) m → leadDigits v l < leadDigits w m
     → (v < w) ⊎ ((v ≡ w) × (byBytes (l ++ k) (m ++ n) ≡ Less))
 unfolding byBytes
 digits-less [] [] k n v w e f g h = inl h
 digits-less [] (b ∷ m) k n v w e f g h = absurd (omega arith)
 digits-less (a ∷ l) [] k n v w e f g h = absurd (omega arith)
-digits-less (a ∷ l) (b ∷ m) k n v w e f g h = go (digits-less l m k n (v * 256 + a) (w * 256 + b) (omega arith) (f .1) (g .1) h) (decLt v w)
+digits-less (a ∷ l) (b ∷ m) k n v w e (next f₀ f) (next g₀ g) h = go (digits-less l m k n (v * 256 + a) (w * 256 + b) (omega arith) f g h) (decLt v w)
   where
     Goal : Type 0
     Goal = (v < w) ⊎ ((v ≡ w) × (byBytes (a ∷ l ++ k) (b ∷ m ++ n) ≡ Less))
 
     go : (v * 256 + a < w * 256 + b) ⊎ ((v * 256 + a ≡ w * 256 + b) × (byBytes (l ++ k) (m ++ n) ≡ Less)) → Dec (v < w) → Goal
     go t (yes u) = inl u
-    go (inl t) (no u) = inr (omega (arith, f .0, g .0), rw (is-less a b (omega (arith, f .0, g .0))))
-    go (inr t) (no u) = inr (omega (arith, f .0, g .0, t .0), rw (is-equal a b (omega (arith, f .0, g .0, t .0))) (t .1))
+    go (inl t) (no u) = inr (omega (arith, f₀, g₀), rw (is-less a b (omega (arith, f₀, g₀))))
+    go (inr t) (no u) = inr (omega (arith, f₀, g₀, t .0), rw (is-equal a b (omega (arith, f₀, g₀, t .0))) (t .1))
 
 -- and where the numbers are equal, what follows them decides
-digits-same : (l m k n : List ℕ) (v w : ℕ) → length l ≡ length m → All (λ b. b < 256) l → All (λ b. b < 256) m → digits v l ≡ digits w m
+digits-same : (l m k n : List ℕ) (v w : ℕ) → length l ≡ length m → All (λ b. b < 256) l → All (λ b. b < 256) m → leadDigits v l ≡ leadDigits w m
     → (v ≡ w) × (byBytes (l ++ k) (m ++ n) ≡ byBytes k n)
 unfolding byBytes
 digits-same [] [] k n v w e f g h = (h, refl)
 digits-same [] (b ∷ m) k n v w e f g h = absurd (omega arith)
 digits-same (a ∷ l) [] k n v w e f g h = absurd (omega arith)
-digits-same (a ∷ l) (b ∷ m) k n v w e f g h =
-    let t = digits-same l m k n (v * 256 + a) (w * 256 + b) (omega arith) (f .1) (g .1) h in
-    (omega (arith, f .0, g .0, t .0), rw (is-equal a b (omega (arith, f .0, g .0, t .0))) (t .1))
+digits-same (a ∷ l) (b ∷ m) k n v w e (next f₀ f) (next g₀ g) h =
+    let t = digits-same l m k n (v * 256 + a) (w * 256 + b) (omega arith) f g h in
+    (omega (arith, f₀, g₀, t .0), rw (is-equal a b (omega (arith, f₀, g₀, t .0))) (t .1))
 
 -- two keys that begin with four bytes compare as the numbers of these,
 module _ {s : List ℕ} {i j x y : ℕ} (f : Four s i x) (g : Four s j y) where

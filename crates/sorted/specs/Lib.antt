@@ -1,2 +1,2 @@
 pub mod Sorted
-pub mod Heads
+pub mod inner

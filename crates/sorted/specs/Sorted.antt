@@ -1,9 +1,8 @@
 -- Header lines in the order of their keys, of equal keys the last.                                   (01, Reading rules; The block: header entry)
 -- Assumes nothing: these are definitions.
-use Prim.Native.Nat.{ℕ, _-_, _≤_}
-use mathlib.Core.Path.{_≡_}
+use Prim.Native.Nat.{ℕ, _-_}
 use mathlib.Core.List.{List, [], _∷_, _++_}
-use lib.ListN.{length, take, replicate}
+use lib.ListN.{length, replicate}
 use lib.Dec.{ltb}
 use Rattle.lists.specs.Pick.{pick}
 use Rattle.text.specs.Text.{keyAt}
@@ -52,17 +51,7 @@ unfoldable pub into : {A : Type 0} → (A → A → Order) → A → (List A →
 into o x f [] = x ∷ f []
 into o x f (y ∷ ys) = onOrder (o x y) (x ∷ f (y ∷ ys)) (y ∷ f ys) (y ∷ into o x f ys)
 
-unfoldable pub merge : {A : Type 0} → (A → A → Order) → List A → List A → List A
-merge o [] ys = ys
-merge o (x ∷ xs) ys = into o x (merge o xs) ys
-
 -- ---- in a buffer
-
--- The first n of a buffer are l.
-pub record Leads (l after : List ℕ) (n : ℕ) : Type 0 where
-  pub count : n ≡ length l
-  pub front : take n after ≡ l
-  pub fits : n ≤ length after
 
 -- At most as many lines as a text of 65,535 bytes can have, and a buffer that has room for them all; or else the other.
 abbrev pub ifRoom : {A : Type 0} → List ℕ → List ℕ → A → A → A
@@ -74,14 +63,3 @@ keptCount s ps o = ifRoom ps o (length (kept s ps)) 0
 -- The kept places, and zeros behind them.
 unfoldable pub keptBuffer : List ℕ → List ℕ → List ℕ → List ℕ
 keptBuffer s ps o = ifRoom ps o (kept s ps ++ replicate (length o - length (kept s ps)) 0) o
-
--- ---- what is known of it
-
--- Each of a list.
-abbrev pub All : {A : Type 0} → (A → Type 0) → List A → Type 0
-All P [] = Unit {0}
-All P (x ∷ l) = P x × All P l
-
-abbrev pub Ascending : {A : Type 0} → (A → A → Order) → List A → Type 0
-Ascending o [] = Unit {0}
-Ascending o (x ∷ l) = All (λ y. o x y ≡ Less) l × Ascending o l

@@ -4,8 +4,9 @@ ghost use Prim.Native.Nat.{_+_, _-_, _≤_, _<_, max};
 ghost use mathlib.Core.List.{_++_};
 ghost use lib.ListN.{length, take, drop, replicate};
 ghost use Rattle.text.specs.Text.{keyAt};
-ghost use Rattle.sorted.specs.Heads.{isPlain, headOf, Four};
-ghost use Rattle.sorted.specs.Sorted.{byBytes, byKey, merge, kept, keptCount, keptBuffer, Leads};
+ghost use Rattle.sorted.specs.inner.Heads.{isPlain, headOf, Four};
+ghost use Rattle.sorted.specs.Sorted.{byBytes, byKey, kept, keptCount, keptBuffer};
+ghost use Rattle.sorted.specs.inner.Orders.{merge, Leads};
 ghost use mathlib.Core.Bool.{true};
 
 // How one key stands to another.

@@ -17,7 +17,7 @@ use Rattle.text.proofs.Answers.{by-place}
 use Rattle.text.proofs.Ends.{tag-end}
 use Rattle.spell.specs.Tables.{Spelling, numerals}
 use Rattle.spell.specs.Spell.{firstOf, spelled, hasNumber}
-use Rattle.spell.specs.Count.{ten, tensAt, countAt, tensText, countText}
+use Rattle.spell.specs.Count.{ten, tensAt, handCountAt, tensText, countText}
 use Rattle.spell.specs.declared.Spelled.{Spelled}
 use Rattle.spell.specs.declared.Spelled.the-variants.{As, Not}
 use Rattle.spell.proofs.Written.{stands-here, first-fails, numeral-reads}
@@ -129,14 +129,14 @@ tens-fail : (s : List ℕ) (at n e : ℕ) → firstOf numerals s at ≡ As n (cu
 unfolding tensAt
 tens-fail s at n e h k = rw (h, k)
 
-pub count-reads : (n : ℕ) → 0 < n → n ≤ 99 → Reads countAt (λ e. As n (cursor e)) (countText n) Over
-unfolding countAt
+pub count-reads : (n : ℕ) → 0 < n → n ≤ 99 → Reads handCountAt (λ e. As n (cursor e)) (countText n) Over
+unfolding handCountAt
 count-reads n h k = record {
   run = λ s at r st c. go (ltb n 10) (ltb (n % 10) 1) refl refl s at r (rw (count-parts n k) at st) c;
 }
   where
     go : (u v : Bool) → ltb n 10 ≡ u → ltb (n % 10) 1 ≡ v → (s : List ℕ) (at : ℕ) (r : List ℕ)
-        → Stands s at (tensText (n / 10) ++ spelled numerals (n % 10) ++ r) → Over r → Came (countAt s at) (λ e. As n (cursor e)) s r
+        → Stands s at (tensText (n / 10) ++ spelled numerals (n % 10) ++ r) → Over r → Came (handCountAt s at) (λ e. As n (cursor e)) s r
     go true v u w s at r st c =
         let l : n < 10 = ltb-true n 10 u in
         let z : n % 10 ≡ n = omega arith in
@@ -160,6 +160,6 @@ count-reads n h k = record {
 
 -- ---- past the end
 
-pub count-end : (s : List ℕ) (at : ℕ) → length s ≤ at → countAt s at ≡ Not
-unfolding countAt tensAt
+pub count-end : (s : List ℕ) (at : ℕ) → length s ≤ at → handCountAt s at ≡ Not
+unfolding handCountAt tensAt
 count-end s at h = let e = first-end 10 numerals refl s at h in rw (e, tag-end s at h ten (omega arith))

@@ -1,5 +1,5 @@
 pub mod Search
-pub mod Keys
+pub mod Codes
 pub mod Written
 pub mod Lookups
 pub mod Answers

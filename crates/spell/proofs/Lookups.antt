@@ -1,4 +1,4 @@
--- A character of three bytes is found at once by the slot of its key.
+-- A character of three bytes is found at once by the slot of its code.
 -- Assumes nothing.
 use Prim.Native.Nat.{ℕ, zero, suc, _+_, _-_, _/_, _%_, _≤_, _<_}
 use native.Mathlib.Omega.{arith}
@@ -14,16 +14,17 @@ use Rattle.text.specs.Text.{cursor, prefixFrom, standsAt}
 use Rattle.text.specs.declared.Cursor.{Cursor}
 use Rattle.text.proofs.Laws.{stands-fits}
 use Rattle.spell.specs.Tables.{Spelling, kinds, numerals, files}
-use Rattle.spell.specs.Spell.{firstOf, allBytes, bytesOf, key, keyAt}
+use Rattle.spell.specs.Spell.{firstOf, code}
+use Rattle.spell.specs.inner.Codes.{allBytes, bytesOf, codeAt}
 use Rattle.spell.specs.Slots.{look, numberIn, numeralSlots, kindSlots, promotedIn}
 use Rattle.spell.specs.declared.Spelled.{Spelled}
 use Rattle.spell.specs.declared.Spelled.the-variants.{As, Not}
-use Rattle.spell.proofs.Keys.{Near, near, key-of, key-at, key-stands, stands-key}
+use Rattle.spell.proofs.Codes.{Near, near, key-of, key-at, key-stands, stands-key}
 use Rattle.spell.proofs.Written.{holds, found}
 
--- ---- what stands at a place has its key
+-- ---- what stands at a place has its code
 
-prefix-key : (t l : List ℕ) → 3 ≤ length t → prefixFrom t l ≡ true → key l ≡ key t
+prefix-key : (t l : List ℕ) → 3 ≤ length t → prefixFrom t l ≡ true → code l ≡ code t
 unfolding prefixFrom
 prefix-key [] l h e = absurd (omega arith)
 prefix-key (a ∷ []) l h e = absurd (omega arith)
@@ -40,7 +41,7 @@ prefix-key (a ∷ b ∷ c ∷ t) (x ∷ y ∷ z ∷ l) h e =
     let (r, _) = pick-both (eqb z c) (prefixFrom t l) e₂ in
     omega (arith, eqb-true x a p, eqb-true y b q, eqb-true z c r)
 
-stands-has : (t s : List ℕ) (at : ℕ) → 3 ≤ length t → standsAt t s at ≡ true → keyAt s at ≡ key t
+stands-has : (t s : List ℕ) (at : ℕ) → 3 ≤ length t → standsAt t s at ≡ true → codeAt s at ≡ code t
 unfolding standsAt
 stands-has t s at h e = sym (key-at s at) ∙ prefix-key t (drop at s) h e
 
@@ -66,24 +67,24 @@ short-first (e ∷ es) h s at k = go (standsAt (e .bytes) s at) refl (short-firs
 
 abbrev apartFrom : ℕ → List Spelling → Bool
 apartFrom x [] = true
-apartFrom x (e ∷ es) = pick (eqb x (key (e .bytes))) false (apartFrom x es)
+apartFrom x (e ∷ es) = pick (eqb x (code (e .bytes))) false (apartFrom x es)
 
 abbrev pub apart : List Spelling → List Spelling → Bool
 apart [] fs = true
-apart (e ∷ es) fs = pick (apartFrom (key (e .bytes)) fs) (apart es fs) false
+apart (e ∷ es) fs = pick (apartFrom (code (e .bytes)) fs) (apart es fs) false
 
-not-apart : (x : ℕ) (fs : List Spelling) → wide fs ≡ true → apartFrom x fs ≡ true → (s : List ℕ) (at : ℕ) → keyAt s at ≡ x → firstOf fs s at ≡ Not
+not-apart : (x : ℕ) (fs : List Spelling) → wide fs ≡ true → apartFrom x fs ≡ true → (s : List ℕ) (at : ℕ) → codeAt s at ≡ x → firstOf fs s at ≡ Not
 unfolding firstOf
 not-apart x [] w h s at k = refl
-not-apart x (f ∷ fs) w h s at k = go (λ a. not-apart x fs (v .1) a s at k) (standsAt (f .bytes) s at) refl (eqb x (key (f .bytes))) refl h
+not-apart x (f ∷ fs) w h s at k = go (λ a. not-apart x fs (v .1) a s at k) (standsAt (f .bytes) s at) refl (eqb x (code (f .bytes))) refl h
   where
     v : (3 ≤ length (f .bytes)) × (wide fs ≡ true)
     v = let (p, q) = pick-both (leb 3 (length (f .bytes))) (wide fs) w in (leb-true _ _ p, q)
 
-    go : (apartFrom x fs ≡ true → firstOf fs s at ≡ Not) → (u : Bool) → standsAt (f .bytes) s at ≡ u → (t : Bool) → eqb x (key (f .bytes)) ≡ t → pick t false (apartFrom x fs) ≡ true
+    go : (apartFrom x fs ≡ true → firstOf fs s at ≡ Not) → (u : Bool) → standsAt (f .bytes) s at ≡ u → (t : Bool) → eqb x (code (f .bytes)) ≡ t → pick t false (apartFrom x fs) ≡ true
         → pick u (As (f .number) (cursor (at + length (f .bytes)))) (firstOf fs s at) ≡ Not
     go ih u e true q a = absurd (false≢true a)
-    go ih true e false q a = absurd (eqb-false x (key (f .bytes)) q (sym k ∙ stands-has (f .bytes) s at (v .0) e))
+    go ih true e false q a = absurd (eqb-false x (code (f .bytes)) q (sym k ∙ stands-has (f .bytes) s at (v .0) e))
     go ih false e false q a = ih a
 
 -- where a spelling of the first stands, none of the second does
@@ -95,21 +96,21 @@ apart-first (e ∷ es) fs w v h s at n c q = go (λ r. apart-first es fs (w₁ .
     w₁ : (3 ≤ length (e .bytes)) × (wide es ≡ true)
     w₁ = let (p, r) = pick-both (leb 3 (length (e .bytes))) (wide es) w in (leb-true _ _ p, r)
 
-    h₁ : (apartFrom (key (e .bytes)) fs ≡ true) × (apart es fs ≡ true)
-    h₁ = pick-both (apartFrom (key (e .bytes)) fs) (apart es fs) h
+    h₁ : (apartFrom (code (e .bytes)) fs ≡ true) × (apart es fs ≡ true)
+    h₁ = pick-both (apartFrom (code (e .bytes)) fs) (apart es fs) h
 
     go : (firstOf es s at ≡ As n c → firstOf fs s at ≡ Not) → (u : Bool) → standsAt (e .bytes) s at ≡ u
         → pick u (As (e .number) (cursor (at + length (e .bytes)))) (firstOf es s at) ≡ As n c → firstOf fs s at ≡ Not
-    go ih true t r = not-apart (key (e .bytes)) fs v (h₁ .0) s at (stands-has (e .bytes) s at (w₁ .0) t)
+    go ih true t r = not-apart (code (e .bytes)) fs v (h₁ .0) s at (stands-has (e .bytes) s at (w₁ .0) t)
     go ih false t r = ih r
 
 -- ---- characters of three bytes by their keys
 
--- the number of the first spelling of three bytes with a key; 0 where there is none
+-- the number of the first spelling of three bytes with a code; 0 where there is none
 abbrev pub numberOf : List Spelling → ℕ → ℕ
 numberOf [] x = 0
 numberOf (e ∷ es) x =
-    let r = numberOf es x in pick (eqb (length (e .bytes)) 3) (pick (eqb x (key (e .bytes))) (e .number) r) r
+    let r = numberOf es x in pick (eqb (length (e .bytes)) 3) (pick (eqb x (code (e .bytes))) (e .number) r) r
 
 -- the spellings of more bytes
 abbrev pub longer : List Spelling → List Spelling
@@ -122,25 +123,25 @@ keyed all [] = true
 keyed all (e ∷ es) =
     pick (eqb (length (e .bytes)) 3)
     (pick (allBytes (e .bytes)) (pick (ltb 0 (e .number)) (keyed all es) false) false)
-    (pick (leb 3 (length (e .bytes))) (pick (eqb (numberOf all (key (e .bytes))) 0) (keyed all es) false) false)
+    (pick (leb 3 (length (e .bytes))) (pick (eqb (numberOf all (code (e .bytes))) 0) (keyed all es) false) false)
 
 module _ (all : List Spelling) (s : List ℕ) (at : ℕ) (near : Near (drop at s)) where
-  -- a number that is found by the key is found in the table
-  first-three : (es : List Spelling) → keyed all es ≡ true → (n : ℕ) → 0 < n → numberOf all (keyAt s at) ≡ n → numberOf es (keyAt s at) ≡ n
+  -- a number that is found by the code is found in the table
+  first-three : (es : List Spelling) → keyed all es ≡ true → (n : ℕ) → 0 < n → numberOf all (codeAt s at) ≡ n → numberOf es (codeAt s at) ≡ n
       → firstOf es s at ≡ As n (cursor (at + 3))
   unfolding firstOf
   first-three [] h n p a q = absurd (omega arith)
   first-three (e ∷ es) h n p a q = go (λ k r. first-three es k n p a r) (eqb (length (e .bytes)) 3) refl h q
     where
       Rest : Type 0
-      Rest = keyed all es ≡ true → numberOf es (keyAt s at) ≡ n → firstOf es s at ≡ As n (cursor (at + 3))
+      Rest = keyed all es ≡ true → numberOf es (codeAt s at) ≡ n → firstOf es s at ≡ As n (cursor (at + 3))
 
-      here : Rest → length (e .bytes) ≡ 3 → (u : Bool) → standsAt (e .bytes) s at ≡ u → pick u (e .number) (numberOf es (keyAt s at)) ≡ n → keyed all es ≡ true
+      here : Rest → length (e .bytes) ≡ 3 → (u : Bool) → standsAt (e .bytes) s at ≡ u → pick u (e .number) (numberOf es (codeAt s at)) ≡ n → keyed all es ≡ true
           → pick u (As (e .number) (cursor (at + length (e .bytes)))) (firstOf es s at) ≡ As n (cursor (at + 3))
       here ih z true t q k = ap (λ (m : ℕ). As m (cursor (at + length (e .bytes)))) q ∙ ap (λ (m : ℕ). As n (cursor (at + m))) z
       here ih z false t q k = ih k q
 
-      there : Rest → 3 ≤ length (e .bytes) → numberOf all (key (e .bytes)) ≡ 0 → (u : Bool) → standsAt (e .bytes) s at ≡ u → numberOf es (keyAt s at) ≡ n → keyed all es ≡ true
+      there : Rest → 3 ≤ length (e .bytes) → numberOf all (code (e .bytes)) ≡ 0 → (u : Bool) → standsAt (e .bytes) s at ≡ u → numberOf es (codeAt s at) ≡ n → keyed all es ≡ true
           → pick u (As (e .number) (cursor (at + length (e .bytes)))) (firstOf es s at) ≡ As n (cursor (at + 3))
       there ih w z true t q k =
           let y : n ≡ 0 = sym a ∙ ap (numberOf all) (stands-has (e .bytes) s at w t) ∙ z in
@@ -149,51 +150,51 @@ module _ (all : List Spelling) (s : List ℕ) (at : ℕ) (near : Near (drop at s
 
       go : Rest → (u : Bool) → eqb (length (e .bytes)) 3 ≡ u
           → pick u (pick (allBytes (e .bytes)) (pick (ltb 0 (e .number)) (keyed all es) false) false)
-          (pick (leb 3 (length (e .bytes))) (pick (eqb (numberOf all (key (e .bytes))) 0) (keyed all es) false) false) ≡ true
-          → pick u (pick (eqb (keyAt s at) (key (e .bytes))) (e .number) (numberOf es (keyAt s at))) (numberOf es (keyAt s at)) ≡ n
+          (pick (leb 3 (length (e .bytes))) (pick (eqb (numberOf all (code (e .bytes))) 0) (keyed all es) false) false) ≡ true
+          → pick u (pick (eqb (codeAt s at) (code (e .bytes))) (e .number) (numberOf es (codeAt s at))) (numberOf es (codeAt s at)) ≡ n
           → pick (standsAt (e .bytes) s at) (As (e .number) (cursor (at + length (e .bytes)))) (firstOf es s at) ≡ As n (cursor (at + 3))
       go ih true z h q =
           let (b, h₁) = pick-both (allBytes (e .bytes)) _ h in
           let (_, k) = pick-both (ltb 0 (e .number)) (keyed all es) h₁ in
           let z₁ = eqb-true (length (e .bytes)) 3 z in
-          here ih z₁ (standsAt (e .bytes) s at) refl (ap (λ (u : Bool). pick u (e .number) (numberOf es (keyAt s at))) (stands-key (e .bytes) s at z₁ b near) ∙ q) k
+          here ih z₁ (standsAt (e .bytes) s at) refl (ap (λ (u : Bool). pick u (e .number) (numberOf es (codeAt s at))) (stands-key (e .bytes) s at z₁ b near) ∙ q) k
       go ih false z h q =
           let (w, h₁) = pick-both (leb 3 (length (e .bytes))) _ h in
-          let (m, k) = pick-both (eqb (numberOf all (key (e .bytes))) 0) (keyed all es) h₁ in
+          let (m, k) = pick-both (eqb (numberOf all (code (e .bytes))) 0) (keyed all es) h₁ in
           there ih (leb-true _ _ w) (eqb-true _ _ m) (standsAt (e .bytes) s at) refl q k
 
   -- where none is, the longer ones are left
-  first-longer : (es : List Spelling) → keyed all es ≡ true → numberOf es (keyAt s at) ≡ 0 → firstOf es s at ≡ firstOf (longer es) s at
+  first-longer : (es : List Spelling) → keyed all es ≡ true → numberOf es (codeAt s at) ≡ 0 → firstOf es s at ≡ firstOf (longer es) s at
   unfolding firstOf
   first-longer [] h q = refl
   first-longer (e ∷ es) h q = go (λ k r. first-longer es k r) (eqb (length (e .bytes)) 3) refl h q
     where
       Rest : Type 0
-      Rest = keyed all es ≡ true → numberOf es (keyAt s at) ≡ 0 → firstOf es s at ≡ firstOf (longer es) s at
+      Rest = keyed all es ≡ true → numberOf es (codeAt s at) ≡ 0 → firstOf es s at ≡ firstOf (longer es) s at
 
-      here : Rest → 0 < e .number → (u : Bool) → pick u (e .number) (numberOf es (keyAt s at)) ≡ 0 → keyed all es ≡ true
+      here : Rest → 0 < e .number → (u : Bool) → pick u (e .number) (numberOf es (codeAt s at)) ≡ 0 → keyed all es ≡ true
           → pick u (As (e .number) (cursor (at + length (e .bytes)))) (firstOf es s at) ≡ firstOf (longer es) s at
       here ih p true q k = absurd (omega arith)
       here ih p false q k = ih k q
 
       go : Rest → (u : Bool) → eqb (length (e .bytes)) 3 ≡ u
           → pick u (pick (allBytes (e .bytes)) (pick (ltb 0 (e .number)) (keyed all es) false) false)
-          (pick (leb 3 (length (e .bytes))) (pick (eqb (numberOf all (key (e .bytes))) 0) (keyed all es) false) false) ≡ true
-          → pick u (pick (eqb (keyAt s at) (key (e .bytes))) (e .number) (numberOf es (keyAt s at))) (numberOf es (keyAt s at)) ≡ 0
+          (pick (leb 3 (length (e .bytes))) (pick (eqb (numberOf all (code (e .bytes))) 0) (keyed all es) false) false) ≡ true
+          → pick u (pick (eqb (codeAt s at) (code (e .bytes))) (e .number) (numberOf es (codeAt s at))) (numberOf es (codeAt s at)) ≡ 0
           → pick (standsAt (e .bytes) s at) (As (e .number) (cursor (at + length (e .bytes)))) (firstOf es s at) ≡ firstOf (pick u (longer es) (e ∷ longer es)) s at
       go ih true z h q =
           let (b, h₁) = pick-both (allBytes (e .bytes)) _ h in
           let (p, k) = pick-both (ltb 0 (e .number)) (keyed all es) h₁ in
           let z₁ = eqb-true (length (e .bytes)) 3 z in
-          here ih (ltb-true _ _ p) (standsAt (e .bytes) s at) (ap (λ (u : Bool). pick u (e .number) (numberOf es (keyAt s at))) (stands-key (e .bytes) s at z₁ b near) ∙ q) k
+          here ih (ltb-true _ _ p) (standsAt (e .bytes) s at) (ap (λ (u : Bool). pick u (e .number) (numberOf es (codeAt s at))) (stands-key (e .bytes) s at z₁ b near) ∙ q) k
       go ih false z h q =
           let (w, h₁) = pick-both (leb 3 (length (e .bytes))) _ h in
-          let (m, k) = pick-both (eqb (numberOf all (key (e .bytes))) 0) (keyed all es) h₁ in
+          let (m, k) = pick-both (eqb (numberOf all (code (e .bytes))) 0) (keyed all es) h₁ in
           ap (λ (r : Spelled). pick (standsAt (e .bytes) s at) (As (e .number) (cursor (at + length (e .bytes)))) r) (ih k q)
 
 -- ---- slots
 
--- every slot has a key and its number
+-- every slot has a code and its number
 abbrev pub sound : List Spelling → List (ℕ × ℕ) → Bool
 sound all [] = true
 sound all ((k, v) ∷ l) = pick (eqb (numberOf all (v / 16)) (v % 16)) (pick (ltb 0 (v % 16)) (sound all l) false) false
@@ -213,61 +214,61 @@ sound-look all ((k, v) ∷ l) t h x p q = go (λ t₂ r. sound-look all l t₂ h
         let (_, t₂) = pick-both (ltb 0 (v % 16)) (sound all l) t₁ in
         ih t₂ q
 
--- and every key of three bytes is in its slot
+-- and every code of three bytes is in its slot
 abbrev pub complete : List (ℕ × ℕ) → ℕ → List Spelling → Bool
 complete l m [] = true
 complete l m (e ∷ es) =
-    pick (eqb (length (e .bytes)) 3) (pick (eqb (look l (key (e .bytes) % m) / 16) (key (e .bytes))) (complete l m es) false) (complete l m es)
+    pick (eqb (length (e .bytes)) 3) (pick (eqb (look l (code (e .bytes) % m) / 16) (code (e .bytes))) (complete l m es) false) (complete l m es)
 
 complete-look : (l : List (ℕ × ℕ)) (m : ℕ) (es : List Spelling) → complete l m es ≡ true → (x : ℕ) → (look l (x % m) / 16 ≡ x → ⊥) → numberOf es x ≡ 0
 complete-look l m [] t x q = refl
-complete-look l m (e ∷ es) t x q = go (λ k. complete-look l m es k x q) (eqb (length (e .bytes)) 3) t (eqb x (key (e .bytes))) refl
+complete-look l m (e ∷ es) t x q = go (λ k. complete-look l m es k x q) (eqb (length (e .bytes)) 3) t (eqb x (code (e .bytes))) refl
   where
-    go : (complete l m es ≡ true → numberOf es x ≡ 0) → (u : Bool) → pick u (pick (eqb (look l (key (e .bytes) % m) / 16) (key (e .bytes))) (complete l m es) false) (complete l m es) ≡ true
-        → (v : Bool) → eqb x (key (e .bytes)) ≡ v → pick u (pick v (e .number) (numberOf es x)) (numberOf es x) ≡ 0
+    go : (complete l m es ≡ true → numberOf es x ≡ 0) → (u : Bool) → pick u (pick (eqb (look l (code (e .bytes) % m) / 16) (code (e .bytes))) (complete l m es) false) (complete l m es) ≡ true
+        → (v : Bool) → eqb x (code (e .bytes)) ≡ v → pick u (pick v (e .number) (numberOf es x)) (numberOf es x) ≡ 0
     go ih true t true w =
-        let (r, _) = pick-both (eqb (look l (key (e .bytes) % m) / 16) (key (e .bytes))) (complete l m es) t in
-        let y : x ≡ key (e .bytes) = eqb-true x (key (e .bytes)) w in
+        let (r, _) = pick-both (eqb (look l (code (e .bytes) % m) / 16) (code (e .bytes))) (complete l m es) t in
+        let y : x ≡ code (e .bytes) = eqb-true x (code (e .bytes)) w in
         absurd (q (ap (λ (k : ℕ). look l (k % m) / 16) y ∙ eqb-true _ _ r ∙ sym y))
     go ih true t false w =
-        let (_, k) = pick-both (eqb (look l (key (e .bytes) % m) / 16) (key (e .bytes))) (complete l m es) t in
+        let (_, k) = pick-both (eqb (look l (code (e .bytes) % m) / 16) (code (e .bytes))) (complete l m es) t in
         ih k
     go ih false t v w = ih t
 
--- a key is below 2^24
-pub key-small : (s : List ℕ) (at : ℕ) → Near (drop at s) → keyAt s at < 16777216
+-- a code is below 2^24
+pub key-small : (s : List ℕ) (at : ℕ) → Near (drop at s) → codeAt s at < 16777216
 key-small s at n = let a = n .first in let b = n .second in let c = n .third in omega (arith, key-at s at)
 
--- n is what the code found by the key at a place
+-- n is what was found by the code at a place
 module _ (es : List Spelling) (l : List (ℕ × ℕ)) (m : ℕ) (k : keyed es es ≡ true) (t : sound es l ≡ true) (u : complete l m es ≡ true)
-    (s : List ℕ) (at : ℕ) (near : Near (drop at s)) (n : ℕ) (e : n ≡ numberIn l m (keyAt s at)) where
+    (s : List ℕ) (at : ℕ) (near : Near (drop at s)) (n : ℕ) (e : n ≡ numberIn l m (codeAt s at)) where
   -- what stands in the slot
   abbrev held : ℕ
-  held = look l (keyAt s at % m)
+  held = look l (codeAt s at % m)
 
-  held-known : held / 16 ≡ keyAt s at → (numberOf es (keyAt s at) ≡ held % 16) × (0 < held % 16)
-  held-known = sound-look es l t (keyAt s at % m) (keyAt s at) (key-small s at near)
+  held-known : held / 16 ≡ codeAt s at → (numberOf es (codeAt s at) ≡ held % 16) × (0 < held % 16)
+  held-known = sound-look es l t (codeAt s at % m) (codeAt s at) (key-small s at near)
 
   -- it has a number
   pub slot-first : (n ≡ 0 → ⊥) → firstOf es s at ≡ As n (cursor (at + 3))
   unfolding numberIn
-  slot-first q = go (eqb (held / 16) (keyAt s at)) refl e
+  slot-first q = go (eqb (held / 16) (codeAt s at)) refl e
     where
-      go : (v : Bool) → eqb (held / 16) (keyAt s at) ≡ v → n ≡ pick v (held % 16) 0 → firstOf es s at ≡ As n (cursor (at + 3))
+      go : (v : Bool) → eqb (held / 16) (codeAt s at) ≡ v → n ≡ pick v (held % 16) 0 → firstOf es s at ≡ As n (cursor (at + 3))
       go true w z =
           let (o, p) = held-known (eqb-true _ _ w) in
-          let o₁ : numberOf es (keyAt s at) ≡ n = o ∙ sym z in
+          let o₁ : numberOf es (codeAt s at) ≡ n = o ∙ sym z in
           first-three es s at near es k n (omega arith) o₁ o₁
       go false w z = absurd (q z)
 
   -- it has none
   pub slot-longer : n ≡ 0 → firstOf es s at ≡ firstOf (longer es) s at
   unfolding numberIn
-  slot-longer q = go (eqb (held / 16) (keyAt s at)) refl e
+  slot-longer q = go (eqb (held / 16) (codeAt s at)) refl e
     where
-      go : (v : Bool) → eqb (held / 16) (keyAt s at) ≡ v → n ≡ pick v (held % 16) 0 → firstOf es s at ≡ firstOf (longer es) s at
+      go : (v : Bool) → eqb (held / 16) (codeAt s at) ≡ v → n ≡ pick v (held % 16) 0 → firstOf es s at ≡ firstOf (longer es) s at
       go true w z = let (_, p) = held-known (eqb-true _ _ w) in absurd (omega arith)
-      go false w z = first-longer es s at near es k (complete-look l m es u (keyAt s at) (eqb-false _ _ w))
+      go false w z = first-longer es s at near es k (complete-look l m es u (codeAt s at) (eqb-false _ _ w))
 
   -- nor is any longer
   pub slot-not : longer es ≡ [] → n ≡ 0 → firstOf es s at ≡ Not
@@ -299,12 +300,12 @@ file-number (suc (suc (suc (suc (suc (suc (suc (suc (suc d))))))))) h = absurd (
 file-none : (x : ℕ) → (15711377 ≤ x → x ≤ 15711385 → ⊥) → numberOf files x ≡ 0
 file-none x h = rw (ne-eqb x 15711377 (λ e. h (omega arith) (omega arith)), ne-eqb x 15711378 (λ e. h (omega arith) (omega arith)), ne-eqb x 15711379 (λ e. h (omega arith) (omega arith)), ne-eqb x 15711380 (λ e. h (omega arith) (omega arith)), ne-eqb x 15711381 (λ e. h (omega arith) (omega arith)), ne-eqb x 15711382 (λ e. h (omega arith) (omega arith)), ne-eqb x 15711383 (λ e. h (omega arith) (omega arith)), ne-eqb x 15711384 (λ e. h (omega arith) (omega arith)), ne-eqb x 15711385 (λ e. h (omega arith) (omega arith)))
 
-module _ (s : List ℕ) (at : ℕ) (near : Near (drop at s)) (x : ℕ) (e : x ≡ keyAt s at) where
+module _ (s : List ℕ) (at : ℕ) (near : Near (drop at s)) (x : ℕ) (e : x ≡ codeAt s at) where
   pub file-first : 15711377 ≤ x → x ≤ 15711385 → firstOf files s at ≡ As (x - 15711376) (cursor (at + 3))
   file-first l u =
       let y : 15711377 + (x - 15711377) ≡ x = omega arith in
       let z : x - 15711377 + 1 ≡ x - 15711376 = omega arith in
-      let n : numberOf files (keyAt s at) ≡ x - 15711376 = ap (numberOf files) (sym (y ∙ e)) ∙ file-number (x - 15711377) (omega arith) ∙ z in
+      let n : numberOf files (codeAt s at) ≡ x - 15711376 = ap (numberOf files) (sym (y ∙ e)) ∙ file-number (x - 15711377) (omega arith) ∙ z in
       first-three files s at near files refl (x - 15711376) (omega arith) n n
 
   pub file-not : (15711377 ≤ x → x ≤ 15711385 → ⊥) → firstOf files s at ≡ Not
@@ -360,25 +361,25 @@ promoted-is x h q = go (eqb (row / 16) x) (ltb (row % 16) 2) (ltb 4 (row % 16)) 
 -- ---- what is known of three bytes of a slice
 
 module _ (s : List ℕ) (at : ℕ) (bytes : (i : ℕ) → getD s i 0 < 256) where
-  pub numeral-known : (numberIn numeralSlots 17 (keyAt s at) ≡ 0 → ⊥) → firstOf numerals s at ≡ As (numberIn numeralSlots 17 (keyAt s at)) (cursor (at + 3))
+  pub numeral-known : (numberIn numeralSlots 17 (codeAt s at) ≡ 0 → ⊥) → firstOf numerals s at ≡ As (numberIn numeralSlots 17 (codeAt s at)) (cursor (at + 3))
   numeral-known q = slot-first numerals numeralSlots 17 refl refl refl s at (near s at bytes) _ refl q
 
-  pub kind-known : (numberIn kindSlots 35 (keyAt s at) ≡ 0 → ⊥) → firstOf kinds s at ≡ As (numberIn kindSlots 35 (keyAt s at)) (cursor (at + 3))
+  pub kind-known : (numberIn kindSlots 35 (codeAt s at) ≡ 0 → ⊥) → firstOf kinds s at ≡ As (numberIn kindSlots 35 (codeAt s at)) (cursor (at + 3))
   kind-known q = slot-first kinds kindSlots 35 refl refl refl s at (near s at bytes) _ refl q
 
   pub file-known : getD s at 0 ≡ 239 → getD s (at + 1) 0 ≡ 188 → 145 ≤ getD s (at + 2) 0 → getD s (at + 2) 0 ≤ 153
       → firstOf files s at ≡ As (getD s (at + 2) 0 - 144) (cursor (at + 3))
   file-known a b l u =
       let x = key-of s at (at + 1) (at + 2) refl refl in
-      let z : keyAt s at - 15711376 ≡ getD s (at + 2) 0 - 144 = omega arith in
-      file-first s at (near s at bytes) (keyAt s at) refl (omega arith) (omega arith) ∙ ap (λ (n : ℕ). As n (cursor (at + 3))) z
+      let z : codeAt s at - 15711376 ≡ getD s (at + 2) 0 - 144 = omega arith in
+      file-first s at (near s at bytes) (codeAt s at) refl (omega arith) (omega arith) ∙ ap (λ (n : ℕ). As n (cursor (at + 3))) z
 
   -- 成 and three bytes more
-  pub promoted-known : getD s at 0 ≡ 230 → getD s (at + 1) 0 ≡ 136 → getD s (at + 2) 0 ≡ 144 → at + 6 ≤ length s → (promotedIn (keyAt s (at + 3)) ≡ 0 → ⊥)
-      → firstOf kinds s at ≡ As (promotedIn (keyAt s (at + 3))) (cursor (at + 6))
+  pub promoted-known : getD s at 0 ≡ 230 → getD s (at + 1) 0 ≡ 136 → getD s (at + 2) 0 ≡ 144 → at + 6 ≤ length s → (promotedIn (codeAt s (at + 3)) ≡ 0 → ⊥)
+      → firstOf kinds s at ≡ As (promotedIn (codeAt s (at + 3))) (cursor (at + 6))
   promoted-known a b c h q =
-      let x : ℕ = keyAt s (at + 3) in
-      let k : keyAt s at ≡ 15108240 = omega (arith, key-of s at (at + 1) (at + 2) refl refl) in
+      let x : ℕ = codeAt s (at + 3) in
+      let k : codeAt s at ≡ 15108240 = omega (arith, key-of s at (at + 1) (at + 2) refl refl) in
       let st : drop at s ≡ 230 ∷ 136 ∷ 144 ∷ bytesOf x ++ drop (at + 3 + 3) s =
       key-stands s at bytes (omega arith) ∙ ap (λ (y : ℕ). bytesOf y ++ drop (at + 3) s) k ∙ ap (λ (l : List ℕ). 230 ∷ 136 ∷ 144 ∷ l) (key-stands s (at + 3) bytes (omega arith)) in
       found kinds (promotedIn x) (230 ∷ 136 ∷ 144 ∷ bytesOf x) refl (promoted-is x (key-small s (at + 3) (near s (at + 3) bytes)) q) (drop (at + 3 + 3) s) (record { rest = st; within = omega arith })

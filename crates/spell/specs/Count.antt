@@ -22,8 +22,8 @@ tensAt s at =
     (onPlace (tagAt ten s at) (λ e. As 10 e) Not)
 
 -- The count: tens and ones, or either alone.                                                         (01, Reading rules: hands)
-unfoldable pub countAt : List ℕ → ℕ → Spelled
-countAt s at =
+unfoldable pub handCountAt : List ℕ → ℕ → Spelled
+handCountAt s at =
     onSpelled (tensAt s at)
     (λ t c. onSpelled (firstOf numerals s (c .at)) (λ d e. As (t + d) e) (As t c))
     (firstOf numerals s at)

@@ -3,3 +3,4 @@ pub mod Spell
 pub mod Slots
 pub mod Count
 pub mod Words
+pub mod inner

@@ -4,7 +4,6 @@ use Prim.Native.Nat.{ℕ, _+_, _/_, _%_}
 use mathlib.Core.List.{List, [], _∷_}
 use lib.Dec.{eqb, ltb}
 use Rattle.lists.specs.Pick.{pick}
-use Rattle.spell.specs.Tables.{Spelling, spelling}
 
 -- What stands in slot h; where nothing does, a number that is larger than any key.
 abbrev pub look : List (ℕ × ℕ) → ℕ → ℕ
@@ -51,10 +50,3 @@ kindSlots =
 -- The kind that 成 and the character of a key make, 0 where they make none: 香, 桂 and 銀 are 2 to 4, and promoted 10 to 12.
 unfoldable pub promotedIn : ℕ → ℕ
 promotedIn x = let k = numberIn kindSlots 35 x in pick (ltb k 2) 0 (pick (ltb 4 k) 0 (k + 8))
-
--- The kinds of two characters: 成香 成桂 成銀.
-abbrev pub promotedKinds : List Spelling
-promotedKinds =
-    spelling 10 (230 ∷ 136 ∷ 144 ∷ 233 ∷ 166 ∷ 153 ∷ []) ∷
-    spelling 11 (230 ∷ 136 ∷ 144 ∷ 230 ∷ 161 ∷ 130 ∷ []) ∷
-    spelling 12 (230 ∷ 136 ∷ 144 ∷ 233 ∷ 138 ∷ 128 ∷ []) ∷ []

@@ -9,7 +9,8 @@ ghost use lib.ListN.{length};
 ghost use Rattle.lent.specs.Bytes.{Wrote, fitting};
 ghost use Rattle.spell.specs.Tables.{Spelling, numerals, files};
 ghost use Rattle.spell.specs.Slots.{look, numberIn, numeralSlots};
-ghost use Rattle.spell.specs.Spell.{Digits, IsDigits, key, keyOf, keyAt, firstOf, spelled};
+ghost use Rattle.spell.specs.Spell.{code, codeOf, firstOf, spelled};
+ghost use Rattle.spell.specs.inner.Codes.{Digits, IsDigits, codeAt};
 
 // 一 to 九
 const NUMERALS: [u32; 9] = [
@@ -54,22 +55,22 @@ pub(crate) fn is_short(s: &[u8], at: usize) -> bool
 }
 
 // Three bytes as one number.
-pub(crate) fn key(a: u8, b: u8, c: u8) -> u32
-    ensures { λ r. ⌜ r ≡ keyOf a b c ⌝ }
+pub(crate) fn code(a: u8, b: u8, c: u8) -> u32
+    ensures { λ r. ⌜ r ≡ codeOf a b c ⌝ }
 {
     wide32(a) * 65536 + wide32(b) * 256 + wide32(c)
 }
 
 // The three bytes at a place as one number.
-pub(crate) fn key_at(s: &[u8], at: usize) -> u32
+pub(crate) fn code_at(s: &[u8], at: usize) -> u32
     requires { ⌜ at + 3 ≤ length (now s) ⌝ }
-    ensures { λ r. ⌜ r ≡ keyAt (now (s .entry)) at ⌝ }
+    ensures { λ r. ⌜ r ≡ codeAt (now (s .entry)) at ⌝ }
 {
-    key(s[at], s[at + 1], s[at + 2])
+    code(s[at], s[at + 1], s[at + 2])
 }
 
-// The numerals in 17 slots: in the slot of a key, which is its remainder, the key and then its number in the last four bits.
-// No key is as large as what stands in an empty slot.
+// The numerals in 17 slots: in the slot of a code, which is its remainder, the code and then its number in the last four bits.
+// No code is as large as what stands in an empty slot.
 fn numeral_row(h: u32) -> u32
     ensures { λ r. ⌜ r ≡ look numeralSlots h ⌝ }
 {
@@ -89,9 +90,9 @@ fn numeral_row(h: u32) -> u32
 
 // The number of the numeral that three bytes are; 0 where they are none.
 pub fn numeral_of(a: u8, b: u8, c: u8) -> u8
-    ensures { λ r. ⌜ r ≡ numberIn numeralSlots 17 (keyOf a b c) ⌝ }
+    ensures { λ r. ⌜ r ≡ numberIn numeralSlots 17 (codeOf a b c) ⌝ }
 {
-    let x = key(a, b, c);
+    let x = code(a, b, c);
     let row = numeral_row(x % 17);
     if row / 16 != x {
         return 0;
@@ -122,7 +123,7 @@ pub fn file(c: Cursor, s: &[u8]) -> Spelled
     if is_short(s, at) {
         return Spelled::Not;
     }
-    let x = key_at(s, at);
+    let x = code_at(s, at);
     if x < 0xefbc91 {
         return Spelled::Not;
     }
@@ -133,8 +134,8 @@ pub fn file(c: Cursor, s: &[u8]) -> Spelled
 }
 
 // The three bytes of a numeral as one number; 0 where there is none.
-pub fn numeral_key(n: u8) -> u32
-    ensures { λ r. ⌜ r ≡ key (spelled numerals n) ⌝ }
+pub fn numeral_code(n: u8) -> u32
+    ensures { λ r. ⌜ r ≡ code (spelled numerals n) ⌝ }
 {
     match n {
         1 => 0xe4b880,
@@ -150,18 +151,18 @@ pub fn numeral_key(n: u8) -> u32
     }
 }
 
-fn put_digit(out: &mut [u8], n: u8, keys: &[u32]) -> usize
-    requires { ⌜ IsDigits (now keys) ⌝ }
-    ensures { λ r. ⌜ ((es : List Spelling) → Digits es (now (keys .entry)) → Wrote (fitting (spelled es n) (now (out .entry))) (now (out .entry)) (now (out .exit)) r) ⌝ }
+fn put_digit(out: &mut [u8], n: u8, codes: &[u32]) -> usize
+    requires { ⌜ IsDigits (now codes) ⌝ }
+    ensures { λ r. ⌜ ((es : List Spelling) → Digits es (now (codes .entry)) → Wrote (fitting (spelled es n) (now (out .entry))) (now (out .entry)) (now (out .exit)) r) ⌝ }
 {
     let i = lent::wide(n);
     if i < 1 {
         return 0;
     }
-    if keys.len() < i {
+    if codes.len() < i {
         return 0;
     }
-    let x = keys[i - 1];
+    let x = codes[i - 1];
     lent::put_bytes(
         out,
         &[

@@ -9,7 +9,7 @@ ghost use Prim.Native.Nat.{_≤_};
 ghost use lib.ListN.{length};
 ghost use Rattle.lent.specs.Bytes.{Wrote, fitting};
 ghost use Rattle.text.specs.Text.{onPlace, tagAt};
-ghost use Rattle.spell.specs.Count.{ten, tensAt, countAt, tensText, countText};
+ghost use Rattle.spell.specs.Count.{ten, tensAt, handCountAt, tensText, countText};
 
 // A value past 十, or that 十 does not stand here.
 fn past_ten(c: Cursor, s: &[u8], value: u8) -> Spelled
@@ -33,7 +33,7 @@ fn tens(c: Cursor, s: &[u8]) -> Spelled
 
 // The count that stands at a place.   (the Rust's kansuji)
 pub fn count(c: Cursor, s: &[u8]) -> Spelled
-    ensures { λ r. ⌜ r ≡ countAt (now (s .entry)) (c .at) ⌝ }
+    ensures { λ r. ⌜ r ≡ handCountAt (now (s .entry)) (c .at) ⌝ }
 {
     let Spelled::As(t, past) = tens(c, s) else {
         return numeral(c, s);

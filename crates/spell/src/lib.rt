@@ -4,7 +4,7 @@ mod kansuji;
 
 pub use digits::file;
 pub use digits::numeral;
-pub use digits::numeral_key;
+pub use digits::numeral_code;
 pub use digits::numeral_of;
 pub use digits::put_file;
 pub use digits::put_numeral;
@@ -15,8 +15,10 @@ ghost use mathlib.Core.Path.{_≡_};
 ghost use mathlib.Core.List.{List};
 ghost use Rattle.lent.specs.Bytes.{Wrote, fitting};
 ghost use Rattle.spell.specs.Tables.{Spelling, moveKinds, kinds, specials, writtenSpecials, presets, sides};
-ghost use Rattle.spell.specs.Slots.{look, numberIn, kindSlots, promotedIn, promotedKinds};
-ghost use Rattle.spell.specs.Spell.{Rows, IsTable, key, keyOf, firstOf, spelled};
+ghost use Rattle.spell.specs.Slots.{look, numberIn, kindSlots, promotedIn};
+ghost use Rattle.spell.specs.inner.Kinds.{promotedKinds};
+ghost use Rattle.spell.specs.Spell.{code, codeOf, firstOf, spelled};
+ghost use Rattle.spell.specs.inner.Codes.{Rows, IsTable};
 
 // What a table has at a place: its number and the place past it.
 pub enum Spelled {
@@ -87,9 +89,9 @@ fn kind_row(h: u32) -> u32
 
 // The kind that three bytes are, 1 to 14; 0 where they are none.
 pub fn kind_of(a: u8, b: u8, c: u8) -> u8
-    ensures { λ r. ⌜ r ≡ numberIn kindSlots 35 (keyOf a b c) ⌝ }
+    ensures { λ r. ⌜ r ≡ numberIn kindSlots 35 (codeOf a b c) ⌝ }
 {
-    let x = digits::key(a, b, c);
+    let x = digits::code(a, b, c);
     let row = kind_row(x % 35);
     if row / 16 != x {
         return 0;
@@ -99,7 +101,7 @@ pub fn kind_of(a: u8, b: u8, c: u8) -> u8
 
 // The kind that 成 and three bytes make, 10 to 12; 0 where they make none.
 pub fn promoted_of(a: u8, b: u8, c: u8) -> u8
-    ensures { λ r. ⌜ r ≡ promotedIn (keyOf a b c) ⌝ }
+    ensures { λ r. ⌜ r ≡ promotedIn (codeOf a b c) ⌝ }
 {
     let k = kind_of(a, b, c);
     if k < 2 {
@@ -177,8 +179,8 @@ fn put_spelled(out: &mut [u8], n: u8, table: &[u8], w: usize) -> usize
 }
 
 // The first three bytes of a kind, as a move is written, as one number; 0 where there is none.
-pub fn kind_key(n: u8) -> u32
-    ensures { λ r. ⌜ r ≡ key (spelled moveKinds n) ⌝ }
+pub fn kind_code(n: u8) -> u32
+    ensures { λ r. ⌜ r ≡ code (spelled moveKinds n) ⌝ }
 {
     match n {
         1 => 0xe6ada9,

@@ -14,7 +14,7 @@ use borrow.Author.Tests.{ltb-true, ltb-false, lt-ltb, le-ltb, eqb-true, eqb-fals
 use Rattle.lists.specs.Pick.{pick}
 use Rattle.lists.proofs.Laws.{by-pick, pick-none, in-list}
 use Rattle.text.specs.Text.{cursor, pastAll, standsAt, tagAt, breakAt, tailAt, wideColon, endsKey, keyFrom, keyAt}
-use Rattle.text.specs.Utf8.{sizeOf, lowestOf, highestOf, secondOf, isNext, charWidth, wellFormed}
+use Rattle.text.specs.Utf8.{sizeOf, lowestOf, highestOf, secondOf, isNext, charWidth, wellFormedBytes}
 use Rattle.text.specs.declared.Cursor.{Cursor}
 use Rattle.text.specs.declared.Place.{Place}
 use Rattle.text.specs.declared.Place.the-variants.{Past, Absent}
@@ -230,7 +230,7 @@ reach {s} x b (suc k) at h l w = go (decLt at x) (reach x b k)
         ih (at + t .n) (omega (arith, t .character .some)) (next-ends x t b m) (t .whole)
     go (no m) ih = let e : at ≡ x = omega arith in subst (Whole s) e w
 
-whole-at : {s : List ℕ} {x : ℕ} → wellFormed s ≡ length s → Boundary s x → Whole s x
+whole-at : {s : List ℕ} {x : ℕ} → wellFormedBytes s ≡ length s → Boundary s x → Whole s x
 whole-at {s} {x} w b = reach x b x 0 (omega arith) (omega arith) w
 
 -- and what lies between two characters is a boundary
@@ -296,26 +296,26 @@ module _ (s : List ℕ) (a e : ℕ) (l : e ≤ length s) (h : a ≤ e) where
           let q : a + i + t .n ≡ a + (i + t .n) = omega arith in
           on .same ∙ ih (i + t .n) (omega arith) (omega arith) (subst (Whole s) q (t .whole))
 
-pub part-well : (s : List ℕ) (a e : ℕ) → wellFormed s ≡ length s → Boundary s a → Boundary s e → a ≤ e → e ≤ length s
-    → wellFormed (take (e - a) (drop a s)) ≡ length (take (e - a) (drop a s))
+pub part-well : (s : List ℕ) (a e : ℕ) → wellFormedBytes s ≡ length s → Boundary s a → Boundary s e → a ≤ e → e ≤ length s
+    → wellFormedBytes (take (e - a) (drop a s)) ≡ length (take (e - a) (drop a s))
 unfolding part
 part-well s a e w b c h l = let q : a ≡ a + 0 = omega arith in part-whole s a e l h c (e - a) 0 (omega arith) (omega arith) (subst (Whole s) q (whole-at w b))
 
 -- ---- boundaries that readers make
 
-pub boundary-start : (s : List ℕ) → wellFormed s ≡ length s → Boundary s 0
+pub boundary-start : (s : List ℕ) → wellFormedBytes s ≡ length s → Boundary s 0
 boundary-start s w = boundary-of w (omega arith)
 
 pub boundary-ascii : (s : List ℕ) (at : ℕ) → at < length s → getD s at 0 < 128 → Boundary s at
 boundary-ascii s at h k = atFirst h (ascii-first (getD s at 0) k)
 
 -- past the character at a boundary
-pub boundary-past : (s : List ℕ) (at : ℕ) → wellFormed s ≡ length s → Boundary s at → at < length s → Boundary s (at + sizeOf (getD s at 0))
+pub boundary-past : (s : List ℕ) (at : ℕ) → wellFormedBytes s ≡ length s → Boundary s at → at < length s → Boundary s (at + sizeOf (getD s at 0))
 boundary-past s at w b h =
     let t = next (whole-at w b) h in
     subst (λ (n : ℕ). Boundary s (at + n)) (sym (t .character .size)) (boundary-of (t .whole) (t .within))
 
-pub boundary-after : (s : List ℕ) (at : ℕ) → wellFormed s ≡ length s → at < length s → getD s at 0 < 128 → Boundary s (at + 1)
+pub boundary-after : (s : List ℕ) (at : ℕ) → wellFormedBytes s ≡ length s → at < length s → getD s at 0 < 128 → Boundary s (at + 1)
 boundary-after s at w h k =
     subst (λ (n : ℕ). Boundary s (at + n)) (ascii-size (getD s at 0) k) (boundary-past s at w (boundary-ascii s at h k) h)
 
@@ -348,7 +348,7 @@ before-break s at c e =
     let a = break-after s at c e in
     boundary-ascii s at (omega (arith, a .past, a .within)) (breaks s at c e .first)
 
-pub boundary-break : (s : List ℕ) (at : ℕ) (c : Cursor) → wellFormed s ≡ length s → breakAt s at ≡ Past c → Boundary s at × Boundary s (c .at)
+pub boundary-break : (s : List ℕ) (at : ℕ) (c : Cursor) → wellFormedBytes s ≡ length s → breakAt s at ≡ Past c → Boundary s at × Boundary s (c .at)
 boundary-break s at c w e =
     let b = breaks s at c e in
     let i = b .last in
@@ -367,7 +367,7 @@ stands-first b t s at h e = go (eqb (getD s at 0) b) refl
     go true p = eqb-true (getD s at 0) b p
     go false p = absurd (true≢false (sym e ∙ stands-off (b ∷ t) s 0 at (omega arith) h (eqb-false (getD s at 0) b p)))
 
-pub boundary-tag : (b : ℕ) (t s : List ℕ) (at : ℕ) (c : Cursor) → wellFormed s ≡ length s → sizeOf b ≡ length (b ∷ t) → tagAt (b ∷ t) s at ≡ Past c
+pub boundary-tag : (b : ℕ) (t s : List ℕ) (at : ℕ) (c : Cursor) → wellFormedBytes s ≡ length s → sizeOf b ≡ length (b ∷ t) → tagAt (b ∷ t) s at ≡ Past c
     → Boundary s at × Boundary s (c .at)
 boundary-tag b t s at c w n e =
     let a = tag-after (b ∷ t) s at c (omega arith) e in
@@ -378,7 +378,7 @@ boundary-tag b t s at c w n e =
     (here, subst (Boundary s) (ap (λ (m : ℕ). at + m) (ap sizeOf first ∙ n) ∙ sym end) (boundary-past s at w here h))
 
 -- ：, three bytes
-pub boundary-colon : (s : List ℕ) (at : ℕ) (c : Cursor) → wellFormed s ≡ length s → tagAt wideColon s at ≡ Past c → Boundary s at × Boundary s (c .at)
+pub boundary-colon : (s : List ℕ) (at : ℕ) (c : Cursor) → wellFormedBytes s ≡ length s → tagAt wideColon s at ≡ Past c → Boundary s at × Boundary s (c .at)
 unfolding sizeOf
 boundary-colon s at c w e = boundary-tag 239 (188 ∷ 154 ∷ []) s at c w refl e
 
@@ -398,12 +398,12 @@ pub key-part : (s : List ℕ) (at : ℕ) → keyAt s at ≡ take (length (keyAt 
 unfolding keyAt
 key-part s at = key-front (drop at s)
 
-pub key-well : (s : List ℕ) (at : ℕ) (c : Cursor) → wellFormed s ≡ length s → Boundary s at → tagAt wideColon s (at + length (keyAt s at)) ≡ Past c
-    → wellFormed (keyAt s at) ≡ length (keyAt s at)
+pub key-well : (s : List ℕ) (at : ℕ) (c : Cursor) → wellFormedBytes s ≡ length s → Boundary s at → tagAt wideColon s (at + length (keyAt s at)) ≡ Past c
+    → wellFormedBytes (keyAt s at) ≡ length (keyAt s at)
 key-well s at c w b e =
     let n = length (keyAt s at) in
     let a = tag-after wideColon s (at + n) c (omega arith) e in
     let (colon, _) = boundary-colon s (at + n) c w e in
     let q : at + n - at ≡ n = omega arith in
-    subst (λ (l : List ℕ). wellFormed l ≡ length l) (ap (λ (m : ℕ). take m (drop at s)) q ∙ sym (key-part s at))
+    subst (λ (l : List ℕ). wellFormedBytes l ≡ length l) (ap (λ (m : ℕ). take m (drop at s)) q ∙ sym (key-part s at))
     (part-well s at (at + n) w b colon (omega arith) (omega (arith, a .past, a .within)))

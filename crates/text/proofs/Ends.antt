@@ -7,7 +7,7 @@ use mathlib.Core.List.{List}
 use mathlib.Core.Bool.{false}
 use lib.ListN.{length, getD, List·getD-eq-default}
 use borrow.Author.Tests.{eq-eqb, le-ltb}
-use Rattle.text.specs.Text.{cursor, isText, isDigit, isBlank, standsAt, tagAt, blanksAt, padWidth, paddingAt, wideSpace, breakAt, tailAt, lineEndAt, digitsAt}
+use Rattle.text.specs.Text.{cursor, isText, isDigit, isBlank, standsAt, tagAt, blanksAt, padWidth, paddingAt, wideSpace, breakAt, tailAt, digitsAt}
 use Rattle.text.specs.Utf8.{charWidth, characterAt}
 use Rattle.text.specs.declared.Place.the-variants.{Past, Absent}
 use Rattle.text.specs.declared.Number.the-variants.{NoDigit}
@@ -36,10 +36,6 @@ module _ (s : List ℕ) (at : ℕ) (h : length s ≤ at) where
   pub tail-end : tailAt s at ≡ Past (cursor at)
   unfolding tailAt
   tail-end = rw (span-end isText s at h, no-first)
-
-  pub line-end-end : lineEndAt s at ≡ Absent
-  unfolding lineEndAt
-  line-end-end = rw (tail-end, break-end)
 
   pub blanks-end : blanksAt s at ≡ at
   blanks-end = span-end isBlank s at h

@@ -55,11 +55,6 @@ module _ (f : ℕ → Bool) where
       go true h = omega arith
       go false h = omega arith
 
-  -- ends in the text
-  pub span-le : (s : List ℕ) (at : ℕ) → spanAt f s at ≤ max at (length s)
-  unfolding spanAt
-  span-le s at = omega (arith, span-from-le (drop at s) at, length-drop at s)
-
   -- where 0 is not of the class, a byte that is not of it, or none, ends the span
   pub span-stop : (s : List ℕ) (at : ℕ) → f 0 ≡ false → f (getD s at 0) ≡ false → spanAt f s at ≡ at
   unfolding spanAt spanFrom

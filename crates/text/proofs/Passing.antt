@@ -7,7 +7,7 @@ use mathlib.Core.Path.{_≡_, refl, sym, ap, subst, _∙_}
 use mathlib.Core.List.{List}
 use lib.ListN.{length, getD}
 use borrow.Author.Tests.{lt-ltb, le-ltb, ne-eqb}
-use Rattle.text.specs.Runs.{Run, Count}
+use Rattle.text.specs.inner.Runs.{Run, Count}
 use Rattle.text.specs.Text.{isText, textAt, pastAll}
 use Rattle.text.specs.Utf8.{sizeOf, lowestOf, highestOf, secondOf, isNext, Three, charWidth}
 use Rattle.text.proofs.Laws.{span-on}

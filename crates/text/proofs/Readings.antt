@@ -8,7 +8,7 @@ use mathlib.Core.Bool.{true, false}
 use lib.ListN.{length, getD}
 use borrow.Author.Tests.{eq-eqb, ne-eqb, le-leb, lt-leb}
 use Rattle.text.specs.Text.{cursor, isDigit, spanAt, numberAt, digitsAt}
-use Rattle.text.specs.Runs.{Reading}
+use Rattle.text.specs.inner.Runs.{Reading}
 use Rattle.text.specs.declared.Number.the-variants.{Value, NoDigit, TooLarge}
 use Rattle.lists.proofs.Laws.{class-in}
 use Rattle.text.proofs.Laws.{digit-bounds, span-ge, span-go, span-stop, number-on, number-stop, number-ge}

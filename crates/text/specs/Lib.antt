@@ -1,3 +1,3 @@
 pub mod Text
 pub mod Utf8
-pub mod Runs
+pub mod inner

@@ -45,7 +45,7 @@ unfoldable pub spanFrom : (ℕ → Bool) → List ℕ → ℕ → ℕ
 spanFrom f [] at = at
 spanFrom f (b ∷ l) at = let r = spanFrom f l (at + 1) in pick (f b) r at
 
--- The same at a place of the whole text.
+-- Past the bytes of a class at a place of a text.
 unfoldable pub spanAt : (ℕ → Bool) → List ℕ → ℕ → ℕ
 spanAt f s at = spanFrom f (drop at s) at
 

@@ -19,7 +19,7 @@ sizeOf b = pick (ltb b 128) 1 (pick (ltb b 194) 0 (pick (ltb b 224) 2 (pick (ltb
 unfoldable pub lowestOf : ℕ → ℕ
 lowestOf b = pick (eqb b 224) 160 (pick (eqb b 240) 144 128)
 
--- And below this one: after ED a higher one would be a surrogate, after F4 a number above U+10FFFF.
+-- The second byte is below this one: after ED a higher one would be a surrogate, after F4 a number above U+10FFFF.
 unfoldable pub highestOf : ℕ → ℕ
 highestOf b = pick (eqb b 237) 160 (pick (eqb b 244) 144 192)
 
@@ -31,8 +31,8 @@ unfoldable pub isNext : ℕ → Bool
 isNext d = pick (ltb d 128) false (ltb d 192)
 
 -- The width of a character of n bytes that starts at a place; 0 where it is not one.
-abbrev pub widthOf : ℕ → List ℕ → ℕ → ℕ
-widthOf n s at =
+abbrev pub sizeIfFormed : ℕ → List ℕ → ℕ → ℕ
+sizeIfFormed n s at =
     pick (ltb n 2)
     n
     (pick (secondOf (getD s at 0) (getD s (at + 1) 0))
@@ -42,11 +42,11 @@ widthOf n s at =
     0)
 
 unfoldable pub charWidth : List ℕ → ℕ → ℕ
-charWidth s at = pick (ltb at (length s)) (widthOf (sizeOf (getD s at 0)) s at) 0
+charWidth s at = pick (ltb at (length s)) (sizeIfFormed (sizeOf (getD s at 0)) s at) 0
 
 -- How many bytes are well formed before the first fault.                                           (01, Numbers of refusal: 2)
-abbrev pub wellFormed : List ℕ → ℕ
-wellFormed s = pastAll charWidth s 0
+abbrev pub wellFormedBytes : List ℕ → ℕ
+wellFormedBytes s = pastAll charWidth s 0
 
 -- Past one character.                                                                              (01, Reading rules: skip line)
 unfoldable pub characterAt : List ℕ → ℕ → Place

@@ -8,7 +8,7 @@ ghost use Rattle.text.specs.Utf8.{characterAt};
 ghost use Prim.Native.Nat.{_+_, _≤_};
 ghost use lib.ListN.{length};
 ghost use mathlib.Core.Bool.{true};
-ghost use Rattle.text.specs.Runs.{Run, Count, Reading};
+ghost use Rattle.text.specs.inner.Runs.{Run, Count, Reading};
 ghost use Rattle.text.specs.Text.{isBlank, isText, isDigit, blanksAt, textAt, padWidth, paddingAt, standsAt, tagAt, breakAt, tailAt, lineEndAt, digitsAt};
 
 pub struct Cursor {

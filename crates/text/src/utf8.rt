@@ -3,9 +3,9 @@ ghost use mathlib.Core.Path.{_≡_};
 ghost use mathlib.Core.Bool.{true};
 ghost use Prim.Native.Nat.{_+_, _≤_, _<_};
 ghost use lib.ListN.{length};
-ghost use Rattle.text.specs.Runs.{Run, Count};
+ghost use Rattle.text.specs.inner.Runs.{Run, Count};
 ghost use Rattle.text.specs.Text.{pastAll};
-ghost use Rattle.text.specs.Utf8.{sizeOf, lowestOf, highestOf, secondOf, isNext, Three, charWidth, wellFormed};
+ghost use Rattle.text.specs.Utf8.{sizeOf, lowestOf, highestOf, secondOf, isNext, Three, charWidth, wellFormedBytes};
 
 // How many bytes a character that starts with b has; 0 where none does.
 fn size(b: u8) -> usize
@@ -290,7 +290,7 @@ fn characters(s: &[u8], at: usize) -> usize
 
 // How many bytes are well formed before the first fault.   (the Rust takes a &str)
 pub fn well_formed(s: &[u8]) -> usize
-    ensures { λ r. ⌜ r ≡ wellFormed (now (s .entry)) ⌝ }
+    ensures { λ r. ⌜ r ≡ wellFormedBytes (now (s .entry)) ⌝ }
 {
     let mut at = 0;
     loop {

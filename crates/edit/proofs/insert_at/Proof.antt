@@ -12,7 +12,7 @@ use borrow.Author.Needs.{needs}
 use Rattle.jkf.proofs.Answering.{told}
 use Rattle.block.specs.Decode.{linesIn, decode}
 use Rattle.edit.specs.Edit.{variationOf}
-use Rattle.edit.specs.Splicing.{linesAfter, AllRowed}
+use Rattle.edit.specs.inner.Splicing.{linesAfter, AllRowed}
 use Rattle.edit.proofs.Texts.{variation-says}
 use Rattle.edit.proofs.Afresh.{rows-within, rows-are, put-long, put-asks, put-rowed, put-changed}
 use Rattle.edit.proofs.Outcomes.{parent-changes, none-changes}

@@ -10,8 +10,8 @@ use denote.Ref.{now}
 use Rattle.jkf.proofs.Answering.{told}
 use Rattle.jkf.specs.Model.{Record}
 use Rattle.block.specs.Encode.{encode}
-use Rattle.edit.specs.Splicing.{linesAfter, AllRowed}
-use Rattle.edit.specs.Outcomes.{storedOf}
+use Rattle.edit.specs.inner.Splicing.{linesAfter, AllRowed}
+use Rattle.edit.specs.Outcomes.{editStored}
 use Rattle.edit.proofs.Afresh.{rows-within, rows-are, cut-long, cut-record, cut-asks, cut-rowed}
 use borrow.Author.Needs.{needs}
 use Rattle.edit.proofs.remove_from.Statement.{statement}
@@ -83,7 +83,7 @@ returns : tie.Need-returns
 returns c =
     let m = c .before .before .before .before .before .before in
     let e = m .before .before .removed-from .ensures .0 in
-    told (ap₂ (λ (r : Record) (n : ℕ). storedOf (encode r) n (now (m .before .before .before .before .before .args .out))) (cut-record (B m) (K m) e) (sym e)) (c .before .before .store-without .ensures)
+    told (ap₂ (λ (r : Record) (n : ℕ). editStored (encode r) n (now (m .before .before .before .before .before .args .out))) (cut-record (B m) (K m) e) (sym e)) (c .before .before .store-without .ensures)
 
 pub remove-from-spec : {M : Type 1} → statement M
 remove-from-spec =

@@ -21,11 +21,11 @@ use Rattle.parser.specs.Parse.{parse, recordOf}
 use Rattle.plays.specs.Plays.{plyAt}
 use Rattle.parser.specs.Read.{readOf}
 use Rattle.converter.specs.Show.{recordText, onObstacle, handsObstacle, linesObstacle, text, refused, showLines, show, leftOut}
-use Rattle.converter.specs.Writing.{filledWith, shownOf, writeOf}
+use Rattle.converter.specs.Writing.{textStored, shownOf, writeOf}
 use Rattle.converter.specs.declared.Obstacle.{Obstacle}
 use Rattle.converter.specs.declared.Obstacle.the-variants.{At, Clear}
 use Rattle.edit.specs.Edit.{playsIn, placeOf, variationOf}
-use Rattle.edit.specs.Splicing.{relined}
+use Rattle.edit.specs.inner.Splicing.{relined}
 use Rattle.edit.specs.Outcomes.{putInOf, cutOf}
 use Rattle.laws.specs.Blocks.{Bytes}
 use Rattle.laws.specs.Back.{OnceRead, read, put, cut, readInto, ReadsBack}
@@ -80,8 +80,8 @@ module _ (o : List ℕ) (n l : ℕ) where
   abbrev Says : Record → Outcome → Type 0
   Says r x = x .answer ≡ Done n l → Wrote r n (x .buffer)
 
-  filled-says : (r : Record) → handsObstacle (r .position) ≡ Clear → Says r (filledWith (recordText r) (leftOut (r .lines)) o)
-  unfolding filledWith figures
+  filled-says : (r : Record) → handsObstacle (r .position) ≡ Clear → Says r (textStored (recordText r) (leftOut (r .lines)) o)
+  unfolding textStored figures
   filled-says r c =
       by-pick (Says r) (ltb (length o) (length (recordText r))) _ _ (λ _ e. not-done (BufferShort (length (recordText r))) n l (omega arith) e)
       (λ _ e. let q : length (recordText r) ≡ n = ap (λ (x : Answer). figures x .first) e in

@@ -23,7 +23,7 @@ use Rattle.block.specs.Sound.{isCell}
 use Rattle.block.proofs.Tabling.{run-all}
 use Rattle.kakinoki.specs.Boards.{board, noCells, whiteAt, cellAt, cellsFrom, rowEndAt, rowAt, rowsFrom, boardAt}
 use Rattle.spell.specs.Words.{filesTag, ruleTag, emptyTag}
-use Rattle.converter.specs.Diagrams.{cellText, cellsText, rowText, rowsText, boardText}
+use Rattle.converter.specs.Diagrams.{cellText, cellsText, boardRow, boardRows, boardText}
 use Rattle.laws.proofs.Back.Leaves.{tag-fails, byte-fails, break-reads}
 
 -- ---- a cell
@@ -83,14 +83,14 @@ lastCells c rank (suc n) = cellText (getD c (9 * n + rank) 0) ++ lastCells c ran
 
 unfoldable lastRows : List ℕ → ℕ → ℕ → List ℕ
 lastRows c rank zero = []
-lastRows c rank (suc n) = rowText c rank ++ lastRows c (rank + 1) n
+lastRows c rank (suc n) = boardRow c rank ++ lastRows c (rank + 1) n
 
 cells-text : (c : List ℕ) (rank : ℕ) → cellsText c rank ≡ lastCells c rank 9
 unfolding cellsText concat run lastCells
 cells-text c rank = refl
 
-rows-text : (c : List ℕ) → rowsText c ≡ lastRows c 0 9
-unfolding rowsText concat run lastRows
+rows-text : (c : List ℕ) → boardRows c ≡ lastRows c 0 9
+unfolding boardRows concat run lastRows
 rows-text c = refl
 
 row-parts : (a b r : List ℕ) → (((124 ∷ []) ++ a) ++ (((124 ∷ []) ++ b) ++ (10 ∷ []))) ++ r ≡ 124 ∷ (a ++ (124 ∷ (b ++ (10 ∷ r))))
@@ -118,9 +118,9 @@ module _ (c : List ℕ) (cells : (k : ℕ) → isCell (getD c k 0) ≡ true) whe
   unfolding hasNumber
   numeral-has n h = range-at (hasNumber numerals) 9 1 (n + 1) refl (omega arith) (omega arith)
 
-  row-came : (rank : ℕ) → rank ≤ 8 → (made : List ℕ) {s : List ℕ} {at : ℕ} (r : List ℕ) → Stands s at (rowText c rank ++ r)
+  row-came : (rank : ℕ) → rank ≤ 8 → (made : List ℕ) {s : List ℕ} {at : ℕ} (r : List ℕ) → Stands s at (boardRow c rank ++ r)
       → Came (rowAt s rank at made) (λ e. board true (fillRow c rank 9 made) (cursor e)) s r
-  unfolding rowAt rowEndAt rowText
+  unfolding rowAt rowEndAt boardRow
   row-came rank h made {s} {at} r st =
       let st′ : Stands s at (124 ∷ (lastCells c rank 9 ++ (124 ∷ (spelled numerals (rank + 1) ++ (10 ∷ r))))) =
       stands-same (row-parts (lastCells c rank 9) (spelled numerals (rank + 1)) r) (rw (cells-text c rank) at st) in

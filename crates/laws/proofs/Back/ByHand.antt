@@ -13,7 +13,7 @@ use Rattle.lent.specs.Bytes.{bytes16}
 use Rattle.lists.specs.Pick.{pick}
 use Rattle.lists.specs.Test.{claim}
 use Rattle.lists.proofs.Laws.{pick-both}
-use Rattle.block.specs.EntryBytes.{clockBytes, timeBytes, headBytes, entryBytes}
+use Rattle.block.specs.EntryBytes.{clockBytes, timeBytes, entryHead, entryBytes}
 use Rattle.jkf.specs.Entries.{timeOf}
 use Rattle.jkf.specs.declared.Answer.the-variants.{Done}
 use Rattle.jkf.specs.declared.Clock.{Clock}
@@ -23,7 +23,7 @@ use Rattle.jkf.specs.declared.Time.the-variants.{Untimed, Timed}
 use Rattle.jkf.specs.declared.Target.{Target}
 use Rattle.jkf.specs.declared.Target.the-variants.{Same, Square}
 use Rattle.jkf.specs.declared.Entry.{Entry}
-use Rattle.jkf.specs.declared.Entry.the-variants.{Slot, Play as Moved, End}
+use Rattle.jkf.specs.declared.Entry.the-variants.{Slot, Moved, End}
 use Rattle.jkf.specs.Model.{Noted, Line, Record}
 use Rattle.block.specs.Decode.{decode}
 use Rattle.block.specs.Sound.{Sound, kindTest}
@@ -92,7 +92,7 @@ time-fits (Timed now total) h = timedFits (clock-fits now (front (clockBytes now
 
 row-time : (e : Entry) (f n : ℕ) → AllBytes (entryBytes e f n) → TimeFits (timeOf e)
 unfolding entryBytes
-row-time e f n h = time-fits (timeOf e) (behind (headBytes e) (timeBytes (timeOf e)) (front (headBytes e ++ timeBytes (timeOf e)) (0 ∷ []) (front _ (bytes16 f) (front _ (bytes16 n) h))))
+row-time e f n h = time-fits (timeOf e) (behind (entryHead e) (timeBytes (timeOf e)) (front (entryHead e ++ timeBytes (timeOf e)) (0 ∷ []) (front _ (bytes16 f) (front _ (bytes16 n) h))))
 
 target-fits : (t : Target) → targetFits t ≡ true → TargetFits t
 target-fits Same h = sameFits

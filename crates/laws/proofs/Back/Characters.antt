@@ -15,7 +15,7 @@ use Rattle.lists.proofs.Laws.{by-pick, pick-both, pick-none}
 use Rattle.lists.proofs.Stand.{Stands, stands-past, byte-0, byte-1}
 use Rattle.text.specs.Text.{pastAll}
 use Rattle.text.proofs.Boundaries.{no-character}
-use Rattle.text.specs.Utf8.{sizeOf, lowestOf, highestOf, secondOf, isNext, charWidth, wellFormed}
+use Rattle.text.specs.Utf8.{sizeOf, lowestOf, highestOf, secondOf, isNext, charWidth, wellFormedBytes}
 use Rattle.text.proofs.Widths.{past-stop, past-more, char-within}
 use Rattle.spell.specs.Tables.{Spelling}
 use Rattle.spell.specs.Spell.{spelled}
@@ -66,7 +66,7 @@ chars-past (three {a} {b} {c} {t} p q r h) {s} {at} st =
 chars-past (four {a} {b} {c} {d} {t} p q r w h) {s} {at} st =
     on (a ∷ b ∷ c ∷ d ∷ []) t (omega arith) st (width-is (b ∷ c ∷ d ∷ t) st ∙ rw (p, q, r, w)) (chars-past h (stands-past (a ∷ b ∷ c ∷ d ∷ []) t s at st))
 
-pub chars-well : {t : List ℕ} → Chars t → wellFormed t ≡ length t
+pub chars-well : {t : List ℕ} → Chars t → wellFormedBytes t ≡ length t
 chars-well {t} h = chars-past h (record { rest = refl; within = omega arith })
 
 -- ---- well-formed UTF-8 is characters
@@ -148,7 +148,7 @@ chars-of zero [] h s at st w = empty
 chars-of zero (a ∷ l) h s at st w = absurd (omega arith)
 chars-of (suc n) t h s at st w = chars-step n t (chars-of n) h s at st w
 
-pub well-chars : (t : List ℕ) → wellFormed t ≡ length t → Chars t
+pub well-chars : (t : List ℕ) → wellFormedBytes t ≡ length t → Chars t
 well-chars t w = chars-of (length t) t (omega arith) t 0 (record { rest = refl; within = omega arith }) w
 
 -- ---- ASCII, and the spellings of a table
@@ -164,13 +164,13 @@ ascii-chars (b ∷ t) h = let (p, q) = pick-both (ltb b 128) (everyByte (λ b. l
 -- a test that antt computes
 abbrev pub wells : List Spelling → Bool
 wells [] = true
-wells (e ∷ es) = pick (eqb (wellFormed (e .bytes)) (length (e .bytes))) (wells es) false
+wells (e ∷ es) = pick (eqb (wellFormedBytes (e .bytes)) (length (e .bytes))) (wells es) false
 
 pub spelled-chars : (es : List Spelling) → wells es ≡ true → (n : ℕ) → Chars (spelled es n)
 unfolding spelled
 spelled-chars [] h n = empty
 spelled-chars (e ∷ es) h n =
-    let (p, q) = pick-both (eqb (wellFormed (e .bytes)) (length (e .bytes))) (wells es) h in
+    let (p, q) = pick-both (eqb (wellFormedBytes (e .bytes)) (length (e .bytes))) (wells es) h in
     by-pick Chars (eqb (e .number) n) (e .bytes) (spelled es n) (λ _. well-chars (e .bytes) (eqb-true _ _ p)) (λ _. spelled-chars es q n)
 
 -- ---- every byte of it is one

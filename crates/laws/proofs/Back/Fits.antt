@@ -25,7 +25,8 @@ use Rattle.block.specs.Sound.{before, isCell, fitsTest}
 use Rattle.block.specs.Formed.{headerOf, lineOf, headerFits, lineFits, Formed}
 use Rattle.block.proofs.Hanging.{hang-first, hang-says}
 use Rattle.kakinoki.specs.Boards.{noCells}
-use Rattle.sorted.specs.Sorted.{onOrder, compared, byBytes, All as Alls, Ascending}
+use Rattle.sorted.specs.Sorted.{onOrder, compared, byBytes}
+use Rattle.sorted.specs.inner.Orders.{Ascending}
 use Rattle.sorted.specs.declared.Order.{Order}
 use Rattle.sorted.specs.declared.Order.the-variants.{Less, Equal, Greater}
 use Rattle.sorted.proofs.Orders.{Chain, bytes-chain}
@@ -35,6 +36,7 @@ use Rattle.lists.proofs.Laws.{by-pick}
 use Rattle.converter.specs.Show.{shown, handObstacle, handsObstacle}
 use Rattle.converter.specs.declared.Obstacle.the-variants.{At, Clear}
 use Rattle.edit.specs.Edit.{playsIn}
+use Rattle.parser.proofs.Alls.{index-all}
 use Rattle.laws.proofs.Decoded.{formed-fits}
 use Rattle.laws.proofs.Fields.{fits}
 use Rattle.laws.specs.Sayable.{NotedSayable, SlotSayable, PlaysSayable, Sayable, Colored, end, then, ColorsFollow}
@@ -147,27 +149,23 @@ less-less x y z p q = go (byHeader x y) (byHeader y z) (byHeader x z) p q (bytes
     go : (a b c : Order) → a ≡ Less → b ≡ Less → Chain a b c → c ≡ Less
     go a b c p q h = subst (λ (b : Order). Chain Less b c) q (subst (λ (a : Order). Chain a b c) p h)
 
-less-all : (x y : Header) (hs : List Header) → byHeader x y ≡ Less → Alls (λ z. byHeader y z ≡ Less) hs → Alls (λ z. byHeader x z ≡ Less) hs
-less-all x y [] p h = tt
-less-all x y (z ∷ hs) p h = (less-less x y z p (h .0), less-all x y hs p (h .1))
+less-all : (x y : Header) (hs : List Header) → byHeader x y ≡ Less → All (λ z. byHeader y z ≡ Less) hs → All (λ z. byHeader x z ≡ Less) hs
+less-all x y [] p none = none
+less-all x y (z ∷ hs) p (next a h) = next (less-less x y z p a) (less-all x y hs p h)
 
 ascend : (hs : List Header) → ((k : ℕ) → suc k < length hs → before (headerOf hs k .key) (headerOf hs (suc k) .key) ≡ true) → Ascending byHeader hs
 ascend [] h = tt
-ascend (x ∷ []) h = (tt, tt)
+ascend (x ∷ []) h = (none, tt)
 ascend (x ∷ y ∷ hs) h =
     let up = ascend (y ∷ hs) (λ k l. h (suc k) (omega arith)) in
     let e : byHeader x y ≡ Less = before-less (x .key) (y .key) (h 0 (omega arith)) in
-    ((e, less-all x y hs e (up .0)), up)
+    (next e (less-all x y hs e (up .0)), up)
 
 headers-ascend : (hs : List Header) → claim (each (length hs) (headerFits hs)) → Ascending byHeader hs
 headers-ascend hs f = ascend hs (λ k l. let m : k < length hs = omega arith in let w : k + 1 < length hs = omega arith in
     subst (λ (j : ℕ). before (headerOf hs k .key) (headerOf hs j .key) ≡ true) (add-one k) (rw (lt-ltb (k + 1) (length hs) w) at (f k m .1 .1)))
 
 -- ---- lines
-
-pub index-all : {A : Type 0} (P : A → Type 0) (d : A) (l : List A) → ((k : ℕ) → k < length l → P (getD l k d)) → All P l
-index-all P d [] h = none
-index-all P d (x ∷ l) h = next (h 0 (omega arith)) (index-all P d l (λ k b. h (suc k) (omega arith)))
 
 entries-long : (ls : List Line) (k : ℕ) → k < length ls → length (lineOf ls k .entries) ≤ length (entriesOf ls)
 unfolding concat

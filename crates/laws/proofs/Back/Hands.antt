@@ -18,7 +18,7 @@ use Rattle.text.proofs.Widths.{past-stop, past-more, pad-within}
 use Rattle.text.specs.declared.Place.the-variants.{Absent}
 use Rattle.spell.specs.Tables.{kinds, numerals}
 use Rattle.spell.specs.Spell.{firstOf, spelled, hasNumber}
-use Rattle.spell.specs.Count.{ten, tensAt, countAt, countText}
+use Rattle.spell.specs.Count.{ten, tensAt, handCountAt, countText}
 use Rattle.spell.specs.declared.Spelled.the-variants.{As, Not}
 use Rattle.spell.proofs.Written.{stands-here, first-fails, board-kind-reads}
 use Rattle.spell.proofs.Counts.{tag-reads, Over, count-reads}
@@ -85,8 +85,8 @@ kind-has n h k = range-at (hasNumber kinds) 7 1 n refl h (omega arith)
 over-space : (r : List ℕ) → Over (wideSpace ++ r)
 over-space r = record { numeral = λ s at st. first-fails numerals wideSpace refl r st; tens = λ s at st. tag-fails ten wideSpace refl r st }
 
-count-none : {s : List ℕ} {at : ℕ} {r : List ℕ} → Over r → Stands s at r → countAt s at ≡ Not
-unfolding countAt tensAt
+count-none : {s : List ℕ} {at : ℕ} {r : List ℕ} → Over r → Stands s at r → handCountAt s at ≡ Not
+unfolding handCountAt tensAt
 count-none {s} {at} o st = rw (o .numeral s at st, o .tens s at st)
 
 -- a kind that is held once or more, before what begins no padding

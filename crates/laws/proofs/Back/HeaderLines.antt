@@ -22,10 +22,10 @@ use Rattle.spell.specs.declared.Spelled.{Spelled}
 use Rattle.spell.specs.declared.Spelled.the-variants.{As, Not}
 use Rattle.spell.proofs.Counts.{tag-reads}
 use Rattle.jkf.specs.Model.{Header}
-use Rattle.kakinoki.specs.Informations.{hashLinesAt, paddedEndAt, endsLine, presetLineAt, turnLineAt, emptyHand, heldAt, handLine, handLineAt, valueAt, keyValueAt, headerAt, ofPair, keyedAt, handsOrKeyedAt, informationAt, informationItem}
+use Rattle.kakinoki.specs.Informations.{hashLinesAt, paddedEndAt, endsLine, presetLineAt, turnLineAt, emptyHand, heldAt, handSaid, handLineAt, valueAt, keyValueAt, headerAt, ofPair, keyedAt, handsOrKeyedAt, informationAt, informationItem}
 use Rattle.spell.specs.Words.{turnTag, handsTag}
 use Rattle.kakinoki.specs.declared.Held.the-variants.{NoHand}
-use Rattle.kakinoki.specs.declared.HandLine.{HandLine}
+use Rattle.kakinoki.specs.declared.HandSaid.{HandSaid}
 use Rattle.converter.specs.Headers.{headerLine}
 use Rattle.laws.specs.Sayable.{everyByte, OneLine, beginsHand, HeaderSayable}
 use Rattle.laws.proofs.Back.Leaves.{all-append, tail-reads, break-reads}
@@ -179,19 +179,19 @@ prefix-after (c ∷ a) b w = rw (eq-eqb c c refl) (prefix-after a b w)
 
 module _ (u : List ℕ) {x : List ℕ} (b : Break x) {s : List ℕ} {at : ℕ} (st : Stands s at (u ++ x)) where
   hand-fails : (es : List Spelling) → plain es ≡ true → beginsHand es u ≡ false
-      → onSpelled (firstOf es s at) (λ side c. onPlace (tagAt handsTag s (c .at)) (λ d. heldAt side s (d .at)) (handLine NoHand emptyHand)) (handLine NoHand emptyHand) ≡ handLine NoHand emptyHand
+      → onSpelled (firstOf es s at) (λ side c. onPlace (tagAt handsTag s (c .at)) (λ d. heldAt side s (d .at)) (handSaid NoHand emptyHand)) (handSaid NoHand emptyHand) ≡ handSaid NoHand emptyHand
   unfolding firstOf tagAt
   hand-fails [] h n = refl
   hand-fails (e ∷ es) h n =
       let (p, q) = pick-both (everyByte isText (e .bytes)) (plain es) h in
       go (prefixFrom (e .bytes) u) refl (prefixFrom (e .bytes ++ handsTag) u) refl n p (hand-fails es q)
     where
-      Held : Spelled → HandLine
-      Held r = onSpelled r (λ side c. onPlace (tagAt handsTag s (c .at)) (λ d. heldAt side s (d .at)) (handLine NoHand emptyHand)) (handLine NoHand emptyHand)
+      Held : Spelled → HandSaid
+      Held r = onSpelled r (λ side c. onPlace (tagAt handsTag s (c .at)) (λ d. heldAt side s (d .at)) (handSaid NoHand emptyHand)) (handSaid NoHand emptyHand)
 
       go : (t : Bool) → prefixFrom (e .bytes) u ≡ t → (y : Bool) → prefixFrom (e .bytes ++ handsTag) u ≡ y → pick y true (beginsHand es u) ≡ false → OneLine (e .bytes)
-          → (beginsHand es u ≡ false → Held (firstOf es s at) ≡ handLine NoHand emptyHand)
-          → Held (pick (standsAt (e .bytes) s at) (As (e .number) (cursor (at + length (e .bytes)))) (firstOf es s at)) ≡ handLine NoHand emptyHand
+          → (beginsHand es u ≡ false → Held (firstOf es s at) ≡ handSaid NoHand emptyHand)
+          → Held (pick (standsAt (e .bytes) s at) (As (e .number) (cursor (at + length (e .bytes)))) (firstOf es s at)) ≡ handSaid NoHand emptyHand
       go true f true g n p ih = absurd (true≢false n)
       go true f false g n p ih =
           let (w, q) = prefix-split (e .bytes) u f in
@@ -201,7 +201,7 @@ module _ (u : List ℕ) {x : List ℕ} (b : Break x) {s : List ℕ} {at : ℕ} (
       go false f true g n p ih = absurd (true≢false n)
       go false f false g n p ih = rw (stands-local (e .bytes) u b p st, f) (ih n)
 
-  pub no-hand : beginsHand sides u ≡ false → handLineAt s at ≡ handLine NoHand emptyHand
+  pub no-hand : beginsHand sides u ≡ false → handLineAt s at ≡ handSaid NoHand emptyHand
   unfolding handLineAt
   no-hand n = hand-fails sides refl n
 
@@ -235,7 +235,7 @@ header-item h f = record { run = λ s at r st c. go s at r st }
         let z₁ : hashLinesAt s at ≡ at = hash-none st₁ (ap (λ (b : ℕ). eqb b 35) (first-byte (h .key) _ (f .some)) ∙ f .noHash) in
         let z₂ : presetLineAt s at ≡ Not = preset-alike body o (lf {r = []}) (lf {r = r}) (stands-seam [] (headerLine h)) st₂ (f .noPreset) in
         let z₃ : turnLineAt s at ≡ Not = no-turn (h .key) (h .value ++ (10 ∷ r)) (key-text (h .key) (f .key)) st₁ in
-        let z₄ : handLineAt s at ≡ handLine NoHand emptyHand = no-hand body lf st₂ (f .noHand) in
+        let z₄ : handLineAt s at ≡ handSaid NoHand emptyHand = no-hand body lf st₂ (f .noHand) in
         let k₁ : keyFrom (drop at s) ≡ h .key = ap keyFrom (st₁ .rest) ∙ key-from (h .key) (h .value ++ (10 ∷ r)) (f .key) in
         let ne : eqb (length (h .key)) 0 ≡ false = ne-eqb (length (h .key)) 0 (λ e. let g = f .some in omega arith) in
         let l₁ : Stands s n (wideColon ++ (h .value ++ (10 ∷ r))) = stands-past (h .key) _ s at st₁ in

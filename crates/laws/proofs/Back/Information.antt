@@ -20,7 +20,7 @@ use Rattle.spell.proofs.Counts.{tag-reads}
 use Rattle.kakinoki.specs.Informations.{hashLineAt, hashLinesAt, paddedEndAt, presetLineAt, turnLineAt, heldAt, handLineAt, ofPreset, ofTurn, ofHands, handsOrKeyedAt, informationAt, informationItem}
 use Rattle.spell.specs.Words.{presetTag, turnTag, handsTag}
 use Rattle.kakinoki.proofs.Lines.{hash-stop}
-use Rattle.converter.specs.Diagrams.{presetLine, held, allHeld, orNone, handLine as handText}
+use Rattle.converter.specs.Diagrams.{presetLine, held, allHeld, orNone, handLineText}
 use Rattle.laws.proofs.Back.Leaves.{tag-fails, byte-fails, break-reads}
 use Rattle.laws.proofs.Back.Hands.{padding-none, countsOf, hand-came}
 
@@ -78,8 +78,8 @@ side-begins black r = refl
 side-begins white r = refl
 
 pub hands-item : (hands : List ℕ) {side : ℕ} → Side side → ((k : ℕ) → 1 ≤ k → k ≤ 7 → held hands side k ≤ 99)
-    → Reads informationItem (λ e. more e (ofHands side (countsOf hands side))) (handText hands side) Any
-unfolding informationItem informationAt presetLineAt turnLineAt handsOrKeyedAt handLineAt heldAt paddedEndAt handText
+    → Reads informationItem (λ e. more e (ofHands side (countsOf hands side))) (handLineText hands side) Any
+unfolding informationItem informationAt presetLineAt turnLineAt handsOrKeyedAt handLineAt heldAt paddedEndAt handLineText
 hands-item hands {side} d few = record {
   run = λ s at r st c.
       let st′ = simp append-assoc at st in

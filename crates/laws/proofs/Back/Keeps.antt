@@ -15,7 +15,7 @@ use Rattle.jkf.specs.Model.{Record}
 use Rattle.jkf.specs.Attaching.{Play, starts, counts}
 use Rattle.parser.specs.Parse.{parse, recordOf}
 use Rattle.edit.specs.Edit.{playsIn, Edited, edited, refused, isVariation, variationOf, isPlyOf, carries, putIn, Changed, none, line, changedFrom, onChanged, insertAt, insertOn, insert, remove}
-use Rattle.edit.specs.Splicing.{relined, without}
+use Rattle.edit.specs.inner.Splicing.{relined, without}
 use Rattle.edit.proofs.Sounds.{plays-back}
 use Rattle.laws.proofs.Firsts.{led-take, led-drop, led-append}
 use Rattle.laws.specs.Sayable.{NotedSayable, PlaysSayable, Sayable}

@@ -9,6 +9,7 @@ use mathlib.Core.Bool.{Bool, true, false, true≢false, false≢true}
 use lib.ListN.{length}
 use lib.Dec.{eqb}
 use borrow.Author.Tests.{eqb-true, ne-eqb}
+use Rattle.lists.specs.All.{All, none, next}
 use Rattle.lists.specs.Pick.{pick}
 use Rattle.lists.proofs.Laws.{by-pick, range-at}
 use Rattle.jkf.specs.Model.{Header}
@@ -17,11 +18,12 @@ use Rattle.block.specs.Decode.{run}
 use Rattle.block.specs.Sound.{same}
 use Rattle.sorted.specs.declared.Order.{Order}
 use Rattle.sorted.specs.declared.Order.the-variants.{Less, Greater}
-use Rattle.sorted.specs.Sorted.{enter, enterAll, into, merge, All, Ascending}
+use Rattle.sorted.specs.Sorted.{enter, enterAll, into}
+use Rattle.sorted.specs.inner.Orders.{merge, Ascending}
 use Rattle.sorted.proofs.Orders.{Chain, flip, bytes-chain, bytes-flip}
 use Rattle.sorted.proofs.Merges.{enterAll-halves}
 use Rattle.parser.specs.Parse.{byHeader}
-use Rattle.converter.specs.Headers.{leadingKeys, numberFrom, leadingNumber, numbered, range}
+use Rattle.converter.specs.Headers.{leadingKeys, numberAmong, leadingNumber, numbered, range}
 
 -- ---- parts of an ascending list
 
@@ -30,8 +32,8 @@ keep p [] = []
 keep p (x ∷ l) = pick (p x) (x ∷ keep p l) (keep p l)
 
 keep-all : {A : Type 0} (P : A → Type 0) (p : A → Bool) (l : List A) → All P l → All P (keep p l)
-keep-all P p [] h = tt
-keep-all {A} P p (x ∷ l) h = by-pick (λ (k : List A). All P k) (p x) (x ∷ keep p l) (keep p l) (λ _. (h .0, keep-all P p l (h .1))) (λ _. keep-all P p l (h .1))
+keep-all P p [] none = none
+keep-all {A} P p (x ∷ l) (next a h) = by-pick (λ (k : List A). All P k) (p x) (x ∷ keep p l) (keep p l) (λ _. next a (keep-all P p l h)) (λ _. keep-all P p l h)
 
 keep-same : {A : Type 0} (p q : A → Bool) (l : List A) → ((x : A) → p x ≡ q x) → keep p l ≡ keep q l
 keep-same p q [] h = refl
@@ -49,12 +51,12 @@ module _ {A : Type 0} (o : A → A → Order) (flips : (x y : A) → o y x ≡ f
   into-first : (x : A) (f : List A → List A) (ys : List A) → All (λ y. o x y ≡ Less) ys → into o x f ys ≡ x ∷ f ys
   unfolding into
   into-first x f [] h = refl
-  into-first x f (y ∷ ys) h = rw (h .0)
+  into-first x f (y ∷ ys) (next a h) = rw a
 
   merge-second : (x : A) (xs ys : List A) → All (λ y. o x y ≡ Less) xs → merge o xs (x ∷ ys) ≡ x ∷ merge o xs ys
   unfolding merge into
   merge-second x [] ys h = refl
-  merge-second x (y ∷ xs) ys h = let e : o y x ≡ Greater = flips x y ∙ ap flip (h .0) in rw e
+  merge-second x (y ∷ xs) ys (next a h) = let e : o y x ≡ Greater = flips x y ∙ ap flip a in rw e
 
   module _ (p q : A → Bool) (apart : (x : A) → p x ≡ true → q x ≡ false) where
     pub merge-keep : (l : List A) → Ascending o l → merge o (keep p l) (keep q l) ≡ keep (λ x. pick (p x) true (q x)) l
@@ -120,11 +122,11 @@ module _ (hs : List Header) (a : Ascending byHeader hs) where
       ∙ merge-keep byHeader header-flip (λ h. eqb (number h) k) (λ h. among (k + 1) n (number h))
       (λ x e. let z : number x ≡ k = eqb-true (number x) k e in among-below n (k + 1) (number x) (omega arith)) hs a
 
-number-low : (ks : List (List ℕ)) (i : ℕ) (t : List ℕ) → i + length ks ≤ 13 → numberFrom i ks t ≤ 12
-unfolding numberFrom
+number-low : (ks : List (List ℕ)) (i : ℕ) (t : List ℕ) → i + length ks ≤ 13 → numberAmong i ks t ≤ 12
+unfolding numberAmong
 number-low [] i t h = omega arith
 number-low (k ∷ ks) i t h =
-    by-pick (λ (n : ℕ). n ≤ 12) (same t k) i (numberFrom (i + 1) ks t) (λ _. omega arith) (λ _. number-low ks (i + 1) t (omega arith))
+    by-pick (λ (n : ℕ). n ≤ 12) (same t k) i (numberAmong (i + 1) ks t) (λ _. omega arith) (λ _. number-low ks (i + 1) t (omega arith))
 
 -- the entries in the order in which they are written
 abbrev pub written : List Header → List Header

@@ -22,7 +22,7 @@ use Rattle.converter.specs.Entries.{hour, minute, second}
 use Rattle.converter.specs.Show.{shown}
 use Rattle.edit.proofs.Parents.{plays-take}
 use Rattle.edit.specs.Edit.{playsIn}
-use Rattle.edit.specs.Splicing.{Lines}
+use Rattle.edit.specs.inner.Splicing.{Lines}
 use Rattle.edit.proofs.Nearing.{hang-moved, hung-all}
 use Rattle.laws.specs.Left.{leftMark, leftNow, leftTotal, leftTime, leftEntry, leftNoted, leftLine, leftLines, left}
 use Rattle.laws.specs.Sayable.{Follows, slot, move, ending}

@@ -9,7 +9,7 @@ use Rattle.lists.specs.Pick.{pick}
 use Rattle.jkf.specs.declared.Time.{Time}
 use Rattle.jkf.specs.declared.Time.the-variants.{Untimed, Timed}
 use Rattle.jkf.specs.declared.Entry.{Entry}
-use Rattle.jkf.specs.declared.Entry.the-variants.{Slot, Play, End}
+use Rattle.jkf.specs.declared.Entry.the-variants.{Slot, Moved, End}
 use Rattle.jkf.specs.Model.{Noted, Line, Record}
 use Rattle.converter.specs.Show.{shown, recordText}
 use Rattle.laws.specs.Whole.{wholeText}
@@ -32,8 +32,8 @@ time-twice (Timed now total) = refl
 entry-twice : (e : Entry) → leftEntry (leftEntry e) ≡ leftEntry e
 unfolding leftEntry
 entry-twice Slot = refl
-entry-twice (Play m) =
-    ap₂ (λ (p : ℕ) (t : Time). Play (record { color = m .color; piece = m .piece; promote = p; to = m .to; from = m .from; time = t })) (mark-twice (m .promote)) (time-twice (m .time))
+entry-twice (Moved m) =
+    ap₂ (λ (p : ℕ) (t : Time). Moved (record { color = m .color; piece = m .piece; promote = p; to = m .to; from = m .from; time = t })) (mark-twice (m .promote)) (time-twice (m .time))
 entry-twice (End s t) = ap (End s) (time-twice t)
 
 noted-twice : (e : Noted) → leftNoted (leftNoted e) ≡ leftNoted e

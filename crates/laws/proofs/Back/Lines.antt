@@ -22,7 +22,7 @@ use Rattle.jkf.specs.declared.Entry.the-variants.{Slot}
 use Rattle.jkf.specs.Model.{Noted, Line}
 use Rattle.jkf.specs.Attaching.{Play, play}
 use Rattle.block.specs.Encode.{concat}
-use Rattle.moves.specs.Moves.{beginsMove, skipLineAt}
+use Rattle.moves.specs.Moves.{beginsNoSkip, skipLineAt}
 use Rattle.spell.specs.Words.{black, white}
 use Rattle.plays.specs.Plays.{noted, entriesAt, skippedAt, skipsAt, variationsAt, pastMain, mainAt, playsAt}
 use Rattle.plays.proofs.Items.{skips-none}
@@ -38,7 +38,7 @@ use Rattle.laws.proofs.Back.Entries.{isMark, comments-read, EntriesFit,
 
 -- an LF, or 手, and the rest of a line
 lf-skips : (t : List ℕ) → OneLine t → Reads skipLineAt (λ e. Past (cursor e)) ((10 ∷ t) ++ (10 ∷ [])) Any
-unfolding skipLineAt beginsMove characterAt charWidth sizeOf
+unfolding skipLineAt beginsNoSkip characterAt charWidth sizeOf
 lf-skips t h = record {
   run = λ s at r st c.
       let b = byte-0 st in
@@ -50,7 +50,7 @@ lf-skips t h = record {
 }
 
 number-skips : Reads skipLineAt (λ e. Past (cursor e)) numberLine Any
-unfolding skipLineAt beginsMove characterAt charWidth sizeOf secondOf lowestOf highestOf isNext
+unfolding skipLineAt beginsNoSkip characterAt charWidth sizeOf secondOf lowestOf highestOf isNext
 number-skips = record {
   run = λ s at r st c.
       let b = byte-0 st in
@@ -82,7 +82,7 @@ abbrev isMove : ℕ → Bool
 isMove b = pick (eqb b 32) true (isDigit b)
 
 skip-fails : {s : List ℕ} {at : ℕ} (r : List ℕ) → Stands s at r → isMove (getD r 0 0) ≡ true → skipLineAt s at ≡ Absent
-unfolding skipLineAt beginsMove
+unfolding skipLineAt beginsNoSkip
 skip-fails {s} {at} r st h = rw (byte-0 st, begins (eqb (getD r 0 0) 32) (eqb (getD r 0 0) 42) (isDigit (getD r 0 0)) _ h)
   where
     begins : (t u v w : Bool) → pick t true v ≡ true → pick t true (pick u true (pick v true w)) ≡ true
@@ -92,12 +92,12 @@ skip-fails {s} {at} r st h = rw (byte-0 st, begins (eqb (getD r 0 0) 32) (eqb (g
     begins false false false w h = absurd (false≢true h)
 
 skip-ends : {s : List ℕ} {at : ℕ} → Stands s at [] → skipLineAt s at ≡ Absent
-unfolding skipLineAt beginsMove
+unfolding skipLineAt beginsNoSkip
 skip-ends {s} {at} st =
     let n : length (drop at s) ≡ 0 = ap length (st .rest) in
     let w = st .within in
     let e : length s ≤ at = omega (arith, n, length-drop at s) in
-    rw (character-end s at e) (same (beginsMove s at))
+    rw (character-end s at e) (same (beginsNoSkip s at))
   where
     same : (t : Bool) → pick t Absent Absent ≡ Absent
     same true = refl

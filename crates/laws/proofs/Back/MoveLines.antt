@@ -28,8 +28,8 @@ use Rattle.jkf.specs.declared.Origin.{Origin}
 use Rattle.jkf.specs.declared.Origin.the-variants.{From}
 use Rattle.jkf.specs.declared.Move.{Move}
 use Rattle.jkf.specs.declared.Entry.{Entry}
-use Rattle.jkf.specs.declared.Entry.the-variants.{Slot, Play, End}
-use Rattle.moves.specs.Moves.{squareAt, moveToAt, mark, promoteAt, originAt, moveFromAt, moved, pieceAt, moveAt, whatAt, colorOf, finished, moveLineAt}
+use Rattle.jkf.specs.declared.Entry.the-variants.{Slot, Moved, End}
+use Rattle.moves.specs.Moves.{squareAt, moveToAt, mark, promoteAt, originAt, moveFromAt, moveEntry, kindToOriginAt, moveAt, whatAt, colorOf, finished, moveLineAt}
 use Rattle.spell.specs.Words.{sameWord, promotes, declines}
 use Rattle.moves.specs.declared.Aim.the-variants.{To}
 use Rattle.moves.specs.declared.Source.the-variants.{Out}
@@ -125,8 +125,8 @@ unfolding targetText
 target-ends Same sameFits r st = first-fails specials (sameWord ++ wideSpace) refl r st
 target-ends (Square x y) (squareFits a b g h) r st = first-fails specials (239 ∷ 188 ∷ []) refl _ (rw (file-bytes x a b) at st)
 
-move-reads : (m : Move) → MoveFits m → Reads whatAt (λ e. Is (moved (m .to) (m .piece) (m .promote) (m .from)) (cursor e)) (wholeMove m) Any
-unfolding whatAt moveAt pieceAt wholeMove
+move-reads : (m : Move) → MoveFits m → Reads whatAt (λ e. Is (moveEntry (m .to) (m .piece) (m .promote) (m .from)) (cursor e)) (wholeMove m) Any
+unfolding whatAt moveAt kindToOriginAt wholeMove
 move-reads m f = record {
   run = λ s at r st c.
       let st′ = simp append-assoc at st in
@@ -224,17 +224,17 @@ ending-off Error h r = refl
 -- an entry before its colour and its time are read
 abbrev bare : Entry → Entry
 bare Slot = Slot
-bare (Play m) = moved (m .to) (m .piece) (m .promote) (m .from)
+bare (Moved m) = moveEntry (m .to) (m .piece) (m .promote) (m .from)
 bare (End x t) = End x Untimed
 
 play-reads : (e : Entry) → EntryFits e → Reads whatAt (λ c. Is (bare e) (cursor c)) (wholePlay e) Any
 unfolding wholePlay
-play-reads (Play m) (playFits f) = move-reads m f
+play-reads (Moved m) (playFits f) = move-reads m f
 play-reads (End x t) (endFits h f) = ending-reads x h
 
 play-off : (e : Entry) → EntryFits e → (r : List ℕ) → Off isBlank (wholePlay e ++ r)
 unfolding wholePlay wholeMove
-play-off (Play m) (playFits f) r = simp append-assoc (target-off (m .to) (f .target) _)
+play-off (Moved m) (playFits f) r = simp append-assoc (target-off (m .to) (f .target) _)
 play-off (End x t) (endFits h f) r = ending-off x h r
 
 time-fits-of : {e : Entry} → EntryFits e → TimeFits (timeOf e)
@@ -244,7 +244,7 @@ time-fits-of (endFits h f) = f
 finished-is : (ply : ℕ) (e : Entry) → Follows ply e → finished (colorOf ply) (timeOf e) (bare e) ≡ e
 unfolding finished
 finished-is ply Slot slot = refl
-finished-is ply (Play m) (move h) = rw (← h)
+finished-is ply (Moved m) (move h) = rw (← h)
 finished-is ply (End x t) ending = refl
 
 pub line-reads : (ply : ℕ) (e : Entry) → ply ≤ 18446744073709551615 → EntryFits e → Follows ply e

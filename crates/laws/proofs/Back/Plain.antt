@@ -15,7 +15,7 @@ use Rattle.jkf.specs.Entries.{timeOf}
 use Rattle.jkf.specs.declared.Time.{Time}
 use Rattle.jkf.specs.declared.Time.the-variants.{Untimed, Timed}
 use Rattle.jkf.specs.declared.Entry.{Entry}
-use Rattle.jkf.specs.declared.Entry.the-variants.{Slot, Play, End}
+use Rattle.jkf.specs.declared.Entry.the-variants.{Slot, Moved, End}
 use Rattle.jkf.specs.Model.{Noted, Line, Record}
 use Rattle.block.specs.Encode.{concat}
 use Rattle.spell.specs.Words.{promotes, declines}
@@ -47,13 +47,13 @@ width-left p = go (eqb p 1) refl
 play-left : (e : Entry) → playText e ≡ wholePlay (leftEntry e)
 unfolding playText wholePlay leftEntry moveText wholeMove
 play-left Slot = refl
-play-left (Play m) = ap (λ (t : List ℕ). ((targetText (m .to) ++ spelled moveKinds (m .piece)) ++ t) ++ originText (m .from)) (mark-left (m .promote))
+play-left (Moved m) = ap (λ (t : List ℕ). ((targetText (m .to) ++ spelled moveKinds (m .piece)) ++ t) ++ originText (m .from)) (mark-left (m .promote))
 play-left (End s t) = refl
 
 entry-width : (e : Entry) → widthOf (leftEntry e) ≡ widthOf e
 unfolding widthOf leftEntry moveWidth
 entry-width Slot = refl
-entry-width (Play m) = ap (λ (n : ℕ). 4 + kindWidth (m .piece) + n + originWidth (m .from)) (width-left (m .promote))
+entry-width (Moved m) = ap (λ (n : ℕ). 4 + kindWidth (m .piece) + n + originWidth (m .from)) (width-left (m .promote))
 entry-width (End s t) = refl
 
 time-left : (w : ℕ) (t : Time) → timeText w t ≡ wholeTime w (leftTime t)
@@ -64,7 +64,7 @@ time-left w (Timed now total) = refl
 time-of-left : (e : Entry) → timeOf (leftEntry e) ≡ leftTime (timeOf e)
 unfolding leftEntry leftTime
 time-of-left Slot = refl
-time-of-left (Play m) = refl
+time-of-left (Moved m) = refl
 time-of-left (End s t) = refl
 
 line-left : (ply : ℕ) (e : Entry) → entryLine ply e ≡ wholeLine ply (leftEntry e)

@@ -3,7 +3,7 @@
 use Prim.Native.Nat.{ℕ, zero, suc, _+_, _-_, _≤_, _<_}
 use native.Mathlib.Omega.{arith}
 use mathlib.Core.Path.{_≡_, refl, sym, ap, _∙_, subst}
-use mathlib.Core.List.{List, [], _∷_, _++_, map, append-assoc}
+use mathlib.Core.List.{List, [], _∷_, _++_, append-assoc}
 use mathlib.Core.Bool.{Bool, true, false}
 use lib.ListN.{length, getD, take, drop, length-append, take-append-drop}
 use lib.Seq.{drop-drop, getD-drop}
@@ -26,8 +26,7 @@ use Rattle.spell.specs.declared.Spelled.{Spelled}
 use Rattle.spell.specs.declared.Spelled.the-variants.{As, Not}
 use Rattle.spell.proofs.Written.{covers, holds, found}
 use Rattle.spell.proofs.Counts.{tag-reads}
-use Rattle.jkf.specs.Model.{Header}
-use Rattle.kakinoki.specs.Informations.{onHeld, onKeyValue, hashLineAt, hashLinesAt, presetLineAt, turnLineAt, emptyHand, handAt, heldAt, handLine, handLineAt, textBetween, headerAt, Said, information, keyedAt, handsOrKeyedAt, informationAt, informationItem, headerPlace, headerPlacesFrom, headerPlacesAt, paddedEndAt}
+use Rattle.kakinoki.specs.Informations.{onHeld, onKeyValue, hashLineAt, hashLinesAt, presetLineAt, turnLineAt, emptyHand, handAt, heldAt, handSaid, handLineAt, textBetween, headerAt, Said, information, keyedAt, handsOrKeyedAt, informationAt, informationItem, keyedPlace, headerPlacesFrom, headerPlacesAt, paddedEndAt}
 use Rattle.spell.specs.Words.{handsTag}
 use Rattle.kakinoki.specs.Starts.{secondPlace, headersSaid, headerPlaces}
 use Rattle.kakinoki.specs.declared.Held.{Held}
@@ -39,10 +38,9 @@ use Rattle.kakinoki.proofs.Lines.{HeaderLine, hash-more, hash-stop}
 use Rattle.kakinoki.proofs.Items.{lineAt, keyed-line}
 use Rattle.kakinoki.proofs.Places.{placeAt}
 use Rattle.kakinoki.proofs.Heads.{headers-said}
-use Rattle.sorted.specs.Sorted.{enterAll, All as Alls}
 use Rattle.sorted.proofs.Kept.{enterAll-all}
 use Rattle.parser.specs.Parse.{byHeader, headersOf}
-use Rattle.parser.proofs.Alls.{all-append}
+use Rattle.parser.proofs.Alls.{all-append, all-map}
 use Rattle.converter.specs.Headers.{headerLine}
 use Rattle.laws.proofs.Breaking.{pair-parts}
 use Rattle.laws.specs.Sayable.{everyByte, OneLine, beginsHand, HeaderSayable}
@@ -187,7 +185,7 @@ held-not : (side : ℕ) (s : List ℕ) (at : ℕ) → heldAt side s at .held ≡
 unfolding heldAt
 held-not side s at = go (paddedEndAt s (handAt s at .next .at))
   where
-    go : (p : Place) → onPlace p (λ e. handLine (By side e) (handAt s at .counts)) (handLine Unreadable emptyHand) .held ≡ NoHand → ⊥
+    go : (p : Place) → onPlace p (λ e. handSaid (By side e) (handAt s at .counts)) (handSaid Unreadable emptyHand) .held ≡ NoHand → ⊥
     go (Past c) q = let z : _≡_ {A = ℕ} 0 1 = cc in omega arith
     go Absent q = let z : _≡_ {A = ℕ} 0 1 = cc in omega arith
 
@@ -292,7 +290,7 @@ module _ (s : List ℕ) where
   place-fit : (at : ℕ) → All Fit (placeAt s at)
   place-fit at = go (lineAt s at .info) refl
     where
-      go : (i : Info) → lineAt s at .info ≡ i → All Fit (headerPlace i (hashLinesAt s at))
+      go : (i : Info) → lineAt s at .info ≡ i → All Fit (keyedPlace i (hashLinesAt s at))
       go (Preset n) e = none
       go (Turn n) e = none
       go (Hands side) e = none
@@ -309,17 +307,8 @@ module _ (s : List ℕ) where
       go (more to x) ih = all-append (place-fit at) (ih to)
       go stop ih = none
 
-  all-map : {l : List ℕ} → All Fit l → Alls HeaderSayable (map (headerAt s) l)
-  all-map none = tt
-  all-map (next p t) = (p, all-map t)
-
-  all-back : (l : List Header) → Alls HeaderSayable l → All HeaderSayable l
-  all-back [] h = none
-  all-back (x ∷ l) h = next (h .0) (all-back l (h .1))
-
   pub headers-sayable : All HeaderSayable (headersOf s)
   unfolding headersOf headerPlaces headerPlacesAt
   headers-sayable =
-      all-back (enterAll byHeader [] (headersSaid s))
-      (enterAll-all byHeader HeaderSayable [] (headersSaid s) tt
-      (subst (Alls HeaderSayable) (headers-said s) (all-map (all-append (places-fit (length s) 0) (places-fit (length s) (secondPlace s))))))
+      enterAll-all byHeader HeaderSayable [] (headersSaid s) none
+      (subst (All HeaderSayable) (headers-said s) (all-map (headerAt s) (all-append (places-fit (length s) 0) (places-fit (length s) (secondPlace s)))))

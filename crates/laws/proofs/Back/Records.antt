@@ -7,7 +7,7 @@ use mathlib.Core.List.{List, [], _∷_, _++_, map}
 use lib.ListN.{length, getD, take, drop, length-map, length-append, take-append-drop}
 use borrow.Author.Tests.{le-ltb}
 use Rattle.lists.specs.All.{All, none, next}
-use Rattle.text.specs.Utf8.{wellFormed}
+use Rattle.text.specs.Utf8.{wellFormedBytes}
 use Rattle.jkf.specs.Answers.{Outcome}
 use Rattle.jkf.specs.declared.Answer.the-variants.{Done}
 use Rattle.jkf.specs.Model.{Noted, Line, Record}
@@ -16,26 +16,27 @@ use Rattle.block.specs.Encode.{concat, encode, entriesOf, commentsOf, commentTe
 use Rattle.block.specs.Formed.{Formed}
 use Rattle.block.proofs.Tabling.{concat-append}
 use Rattle.block.proofs.Lengths.{block-length}
-use Rattle.kakinoki.specs.Starts.{startOf}
+use Rattle.kakinoki.specs.Starts.{startRead}
 use Rattle.kakinoki.specs.declared.Fault.the-variants.{NoFault}
 use Rattle.filling.specs.Filling.{atFront}
 use Rattle.parser.specs.Parse.{parse, recordOf, neededBy, needed}
-use Rattle.parser.specs.Read.{filledWith, storedOf, startedOf, readOf}
+use Rattle.parser.specs.Read.{filledWith, readStored, startedOf, readOf}
 use Rattle.converter.specs.Show.{recordText, handsObstacle}
 use Rattle.converter.specs.declared.Obstacle.the-variants.{Clear}
 use Rattle.edit.specs.Edit.{playsIn}
-use Rattle.edit.specs.Splicing.{Lines}
+use Rattle.edit.specs.inner.Splicing.{Lines}
 use Rattle.edit.proofs.Sounds.{lines-hang, lines-afresh}
+use Rattle.parser.proofs.Alls.{index-all}
 use Rattle.laws.proofs.Decoded.{formed-fits, decode-encode}
 use Rattle.laws.proofs.Made.{sound-encode}
 use Rattle.laws.proofs.Fields.{fits}
 use Rattle.laws.specs.Whole.{wholeText}
 use Rattle.laws.specs.Left.{leftNoted, leftLine, leftLines, left}
 use Rattle.laws.specs.Sayable.{Sayable, ColorsFollow}
-use Rattle.laws.specs.Back.{saidBy}
+use Rattle.laws.specs.Back.{parsedOf}
 use Rattle.laws.proofs.Back.Texts.{RecordFits, parse-back}
 use Rattle.laws.proofs.Back.Plain.{plain-is}
-use Rattle.laws.proofs.Back.Fits.{index-all, shown-all, shown-same, shownLines, record-fitted}
+use Rattle.laws.proofs.Back.Fits.{shown-all, shown-same, shownLines, record-fitted}
 use Rattle.laws.proofs.Back.Characters.{Chars, chars-well, well-chars, chars-small}
 use Rattle.laws.proofs.Back.WellFormed.{NotesValid, LinesValid, HeaderValid, text-chars}
 use Rattle.laws.proofs.Back.Left.{left-fits, taken-of, Attached, left-attached}
@@ -134,10 +135,10 @@ weight-less ls h =
 
 module _ (r : Record) (f : RecordFits r) (one : r .version ≡ 1) (a : Attached (r .lines)) (hs : All HeaderValid (r .headers)) (ls : LinesValid (r .lines)) where
   -- the record of what is said is the record
-  record-back : (n : ℕ) → recordOf (saidBy r n) ≡ r
+  record-back : (n : ℕ) → recordOf (parsedOf r n) ≡ r
   record-back n = ap₂ (λ (v : ℕ) (l : List Line). record { version = v; headers = r .headers; position = r .position; lines = l }) (sym one) (a .same)
 
-  needed-back : (n : ℕ) → needed (saidBy r n) ≡ neededBy (r .headers) (r .lines)
+  needed-back : (n : ℕ) → needed (parsedOf r n) ≡ neededBy (r .headers) (r .lines)
   unfolding needed
   needed-back n = ap (neededBy (r .headers)) (a .same)
 
@@ -146,19 +147,19 @@ module _ (r : Record) (f : RecordFits r) (one : r .version ≡ 1) (a : Attached 
     abbrev answered : Outcome
     answered = record { answer = Done (length (wholeText r)) (neededBy (r .headers) (r .lines)); buffer = atFront (encode r) o }
 
-    filled-back : filledWith (saidBy r (length (wholeText r))) o ≡ answered
+    filled-back : filledWith (parsedOf r (length (wholeText r))) o ≡ answered
     unfolding filledWith
     filled-back = rw (a .lines .hung, needed-back (length (wholeText r)), record-back (length (wholeText r)))
 
-    stored-back : storedOf (saidBy r (length (wholeText r))) o ≡ answered
-    unfolding storedOf
+    stored-back : readStored (parsedOf r (length (wholeText r))) o ≡ answered
+    unfolding readStored
     stored-back = rw (needed-back (length (wholeText r)), le-ltb 65535 (neededBy (r .headers) (r .lines)) fits, le-ltb (length o) (neededBy (r .headers) (r .lines)) room) filled-back
 
     pub whole-read : readOf (wholeText r) o ≡ answered
     unfolding readOf startedOf
     whole-read =
         let (p, q) = parse-back r f in
-        let w : wellFormed (wholeText r) ≡ length (wholeText r) = chars-well (text-chars r hs ls) in
+        let w : wellFormedBytes (wholeText r) ≡ length (wholeText r) = chars-well (text-chars r hs ls) in
         rw (le-ltb 65535 (length (wholeText r)) short, w, le-ltb (length (wholeText r)) (length (wholeText r)) (omega arith), q, p) stored-back
 
 -- ---- a well-formed record
@@ -188,10 +189,10 @@ module _ (r : Record) (g : Formed r) (s : Sayable r) (c : ColorsFollow r) (h : h
       shown-is (l ∷ ls) z = ap (λ (k : List Line). with (l ∷ k)) (shown-same z)
 
   -- what the texts say
-  pub whole-says : All (λ l. 0 < l .start) (drop 1 (r .lines)) → (parse (wholeText r) ≡ saidBy r (length (wholeText r))) × (startOf (wholeText r) .fault ≡ NoFault)
+  pub whole-says : All (λ l. 0 < l .start) (drop 1 (r .lines)) → (parse (wholeText r) ≡ parsedOf r (length (wholeText r))) × (startRead (wholeText r) .fault ≡ NoFault)
   whole-says z = parse-back r (whole-fit z)
 
-  pub plain-says : (parse (recordText r) ≡ saidBy (left r) (length (recordText r))) × (startOf (recordText r) .fault ≡ NoFault)
+  pub plain-says : (parse (recordText r) ≡ parsedOf (left r) (length (recordText r))) × (startRead (recordText r) .fault ≡ NoFault)
   plain-says = rw (plain-is r) (parse-back (left r) left-fit)
 
   -- the whole text                                                                                       (02, xi)

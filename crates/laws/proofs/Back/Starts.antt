@@ -29,16 +29,17 @@ use Rattle.block.proofs.Tabling.{concat-append, run-all}
 use Rattle.kakinoki.specs.Informations.{hashLinesAt, presetLineAt, turnLineAt, emptyHand, handLineAt, valueAt, keyValueAt, Said, ofPreset, ofTurn, ofHands, ofPair, information, keyedAt, handsOrKeyedAt, informationAt, informationItem, informationsAt, faultAt, untold, tell, tellAll, pairsOf}
 use Rattle.spell.specs.Words.{presetTag, filesTag, ruleTag}
 use Rattle.kakinoki.specs.Boards.{noCells, boardAt, noBoard, board}
-use Rattle.kakinoki.specs.Starts.{addHands, merged, positionOf, headersSaid, startOf}
+use Rattle.kakinoki.specs.Starts.{addHands, merged, positionOf, headersSaid, startRead}
 use Rattle.kakinoki.specs.declared.Told.{Told}
 use Rattle.kakinoki.specs.declared.Info.the-variants.{Nothing}
 use Rattle.kakinoki.specs.declared.Fault.the-variants.{NoFault}
 use Rattle.kakinoki.proofs.Items.{item-goes}
 use Rattle.parser.proofs.Alls.{all-append, all-concat}
 use Rattle.parser.specs.Parse.{byHeader, headersOf}
-use Rattle.sorted.specs.Sorted.{enterAll, Ascending}
+use Rattle.sorted.specs.Sorted.{enterAll}
+use Rattle.sorted.specs.inner.Orders.{Ascending}
 use Rattle.converter.specs.Headers.{leadingNumber, numbered, range, headerLine, linesOf, headersText}
-use Rattle.converter.specs.Diagrams.{presetLine, boardText, turnText, rowsText, handLine as handText}
+use Rattle.converter.specs.Diagrams.{presetLine, boardText, turnText, boardRows, handLineText}
 use Rattle.converter.specs.Show.{numberLine}
 use Rattle.laws.specs.Sayable.{HeaderSayable}
 use Rattle.laws.proofs.Back.Leaves.{tag-fails, byte-fails}
@@ -205,7 +206,7 @@ counts-run hands = refl
 -- a diagram begins with its first line
 board-stops : (cells q : List ℕ) → Stops (boardText cells ++ q)
 unfolding boardText
-board-stops cells q s at st = files-stops _ s at (stands-same (board-parts filesTag ruleTag (rowsText cells) q) st)
+board-stops cells q s at st = files-stops _ s at (stands-same (board-parts filesTag ruleTag (boardRows cells) q) st)
 
 module _ (hands : List ℕ) (few : (k : ℕ) → getD hands k 0 ≤ 99) where
   few-counts : (side : ℕ) → All Few (countsOf hands side)
@@ -218,9 +219,9 @@ module _ (hands : List ℕ) (few : (k : ℕ) → getD hands k 0 ≤ 99) where
 
 pub record Starts (s : List ℕ) (hs : List Header) (p : Position) (r : List ℕ) : Type 0 where
   pub end : ℕ
-  pub fault : startOf s .fault ≡ NoFault
-  pub position : startOf s .position ≡ p
-  pub next : startOf s .next .at ≡ end
+  pub fault : startRead s .fault ≡ NoFault
+  pub position : startRead s .position ≡ p
+  pub next : startRead s .next .at ≡ end
   pub headers : headersOf s ≡ hs
   pub left : Stands s end (numberLine ++ r)
 
@@ -235,7 +236,7 @@ module _ (hs : List Header) (up : Ascending byHeader hs) (fit : All HeaderSayabl
   header-says = subst (λ (t : List ℕ). Says t (map ofPair (written hs))) (sym (headers-text hs)) (headers-say (written-all fit))
 
   pub preset-starts : (n : ℕ) → n ≤ 16 → (s r : List ℕ) → Stands s 0 ((headersText hs ++ presetLine n) ++ (numberLine ++ r)) → Starts s hs (presetAt n) r
-  unfolding startOf headersOf headersSaid positionOf merged tellAll tell pairsOf
+  unfolding startRead headersOf headersSaid positionOf merged tellAll tell pairsOf
   preset-starts n h s r st =
       came (infos-came (says-append header-says (says-one (preset-item n h))) _ (number-stops r) st) λ e i l.
       let d : boardAt s e ≡ noBoard = no-diagram r l in
@@ -253,10 +254,10 @@ module _ (hs : List Header) (up : Ascending byHeader hs) (fit : All HeaderSayabl
   -- ---- a diagram
 
   module _ (cells hands : List ℕ) (c : length cells ≡ 81) (cs : (k : ℕ) → isCell (getD cells k 0) ≡ true) (n : length hands ≡ 14) (few : (k : ℕ) → getD hands k 0 ≤ 99) where
-    hands-say : {side : ℕ} → Side side → Reads informationItem (λ e. more e (ofHands side (countsOf hands side))) (handText hands side) Any
+    hands-say : {side : ℕ} → Side side → Reads informationItem (λ e. more e (ofHands side (countsOf hands side))) (handLineText hands side) Any
     hands-say d = hands-item hands d (λ k a b. few _)
 
-    first-says : Says (headersText hs ++ (presetLine 16 ++ handText hands 1)) (map ofPair (written hs) ++ (ofPreset 16 ∷ ofHands 1 (countsOf hands 1) ∷ []))
+    first-says : Says (headersText hs ++ (presetLine 16 ++ handLineText hands 1)) (map ofPair (written hs) ++ (ofPreset 16 ∷ ofHands 1 (countsOf hands 1) ∷ []))
     first-says = says-append header-says (says (preset-item 16 (omega arith)) (says-one (hands-say white)))
 
     -- what the second block says, by the side to move
@@ -264,14 +265,14 @@ module _ (hs : List Header) (up : Ascending byHeader hs) (fit : All HeaderSayabl
     turned black = []
     turned white = ofTurn 1 ∷ []
 
-    second-says : {turn : ℕ} (d : Side turn) → Says (handText hands 0 ++ turnText turn) (ofHands 0 (countsOf hands 0) ∷ turned d)
+    second-says : {turn : ℕ} (d : Side turn) → Says (handLineText hands 0 ++ turnText turn) (ofHands 0 (countsOf hands 0) ∷ turned d)
     unfolding turnText
     second-says black = says (hands-say black) silent
     second-says white = says (hands-say black) (says-one turn-item)
 
     pub diagram-starts : {turn : ℕ} → Side turn → (s r : List ℕ)
-        → Stands s 0 ((headersText hs ++ (presetLine 16 ++ handText hands 1)) ++ (boardText cells ++ ((handText hands 0 ++ turnText turn) ++ (numberLine ++ r)))) → Starts s hs (diagramOf turn cells hands) r
-    unfolding startOf headersOf headersSaid positionOf merged tellAll tell pairsOf
+        → Stands s 0 ((headersText hs ++ (presetLine 16 ++ handLineText hands 1)) ++ (boardText cells ++ ((handLineText hands 0 ++ turnText turn) ++ (numberLine ++ r)))) → Starts s hs (diagramOf turn cells hands) r
+    unfolding startRead headersOf headersSaid positionOf merged tellAll tell pairsOf
     diagram-starts {turn} d s r st =
         came (infos-came first-says _ (board-stops cells _) st) λ e i l.
         came (board-came cells cs c _ l) λ f j m.

@@ -15,15 +15,15 @@ use Rattle.jkf.specs.Model.{Header, Noted, Line, Record}
 use Rattle.jkf.specs.Attaching.{play}
 use Rattle.block.specs.Encode.{concat}
 use Rattle.block.specs.Sound.{isCell}
-use Rattle.kakinoki.specs.Starts.{startOf}
+use Rattle.kakinoki.specs.Starts.{startRead}
 use Rattle.kakinoki.specs.declared.Fault.the-variants.{NoFault}
-use Rattle.sorted.specs.Sorted.{Ascending}
+use Rattle.sorted.specs.inner.Orders.{Ascending}
 use Rattle.plays.specs.Plays.{noted}
 use Rattle.parser.specs.Parse.{byHeader, parse}
 use Rattle.converter.specs.Headers.{headersText}
-use Rattle.converter.specs.Diagrams.{presetLine, boardText, turnText, diagramText, positionText, handLine as handText}
+use Rattle.converter.specs.Diagrams.{presetLine, boardText, turnText, diagramText, positionText, handLineText}
 use Rattle.converter.specs.Show.{numberLine}
-use Rattle.laws.specs.Back.{saidBy}
+use Rattle.laws.specs.Back.{parsedOf}
 use Rattle.laws.specs.Whole.{wholeEntries, wholeMain, wholeVariation, wholeLines, wholeText}
 use Rattle.laws.specs.Sayable.{OneLine, HeaderSayable}
 use Rattle.laws.proofs.Back.Entries.{EntriesFit}
@@ -60,13 +60,13 @@ unfolding positionText diagramText
 start-came hs up g (named {n} h) s r st = preset-starts hs up g n h s r st
 start-came hs up g (drawn {turn} {cells} {hands} d c cs n few) s r st =
     diagram-starts hs up g cells hands c cs n few d s r
-    (stands-same (parts (headersText hs) (presetLine 16) (handText hands 1) (boardText cells) (handText hands 0) (turnText turn) (numberLine ++ r)) st)
+    (stands-same (parts (headersText hs) (presetLine 16) (handLineText hands 1) (boardText cells) (handLineText hands 0) (turnText turn) (numberLine ++ r)) st)
 
 -- a text that begins as a record's does and has its lines
 parse-came : (hs : List Header) (p : Position) (cs : List (List ℕ)) (es : List Noted) (ls : List Line) → Ascending byHeader hs → All HeaderSayable hs → PositionFits p
     → All OneLine cs → EntriesFit 1 es → All LineFits ls → (length es ≡ 0 → ls ≡ []) → (s : List ℕ)
     → Stands s 0 ((headersText hs ++ positionText p) ++ (numberLine ++ ((remarksText cs ++ wholeEntries 1 es) ++ concat wholeVariation ls)))
-    → (parse s ≡ record { headers = hs; position = p; plays = play 0 (noted Slot cs ∷ es) ∷ map asPlay ls; taken = length s }) × (startOf s .fault ≡ NoFault)
+    → (parse s ≡ record { headers = hs; position = p; plays = play 0 (noted Slot cs ∷ es) ∷ map asPlay ls; taken = length s }) × (startRead s .fault ≡ NoFault)
 unfolding parse
 parse-came hs p cs es ls up g f o h k alone s st =
     let b = start-came hs up g f s _ st in
@@ -75,10 +75,10 @@ parse-came hs p cs es ls up g f o h k alone s st =
 
 lines-back : (hs : List Header) (p : Position) {ls : List Line} → Ascending byHeader hs → All HeaderSayable hs → PositionFits p → LinesFit ls
     → (parse ((headersText hs ++ positionText p) ++ wholeLines ls) ≡ record { headers = hs; position = p; plays = map asPlay ls; taken = length ((headersText hs ++ positionText p) ++ wholeLines ls) })
-    × (startOf ((headersText hs ++ positionText p) ++ wholeLines ls) .fault ≡ NoFault)
+    × (startRead ((headersText hs ++ positionText p) ++ wholeLines ls) .fault ≡ NoFault)
 unfolding wholeLines wholeMain
 lines-back hs p up g f (fit {cs} {es} {ls} o h k alone) = parse-came hs p cs es ls up g f o h k alone _ (all-there _)
 
-pub parse-back : (r : Record) → RecordFits r → (parse (wholeText r) ≡ saidBy r (length (wholeText r))) × (startOf (wholeText r) .fault ≡ NoFault)
+pub parse-back : (r : Record) → RecordFits r → (parse (wholeText r) ≡ parsedOf r (length (wholeText r))) × (startRead (wholeText r) .fault ≡ NoFault)
 unfolding wholeText
 parse-back r f = lines-back (r .headers) (r .position) (f .ascending) (f .headers) (f .position) (f .lines)

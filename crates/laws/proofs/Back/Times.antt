@@ -74,9 +74,6 @@ slash = record { digit = refl; colon = refl; blank = refl }
 bracket : Closes 41
 bracket = record { digit = refl; colon = refl; blank = refl }
 
-time-off : (now : Clock) (r : List ℕ) → Off isBlank (((40 ∷ []) ++ clockText 32 47 now) ++ r)
-time-off now r = refl
-
 -- a time with blanks before it, or none, before a break
 pub time-reads : (w : ℕ) (t : Time) → TimeFits t → Reads (λ s at. timeAt s (blanksAt s at)) (λ e. timing t (cursor e)) (wholeTime w t) (λ r. getD r 0 0 ≡ 10)
 unfolding timeAt clocksAt wholeTime

@@ -13,7 +13,7 @@ use Rattle.lists.specs.Repeat.{repeatFrom}
 use Rattle.lists.proofs.Laws.{by-pick, pick-both}
 use Rattle.lent.specs.Numbers.{decimal, padded}
 use Rattle.text.specs.Text.{isDigit, pastAll, wideSpace, wideColon}
-use Rattle.text.specs.Utf8.{sizeOf, lowestOf, highestOf, secondOf, isNext, charWidth, wellFormed}
+use Rattle.text.specs.Utf8.{sizeOf, lowestOf, highestOf, secondOf, isNext, charWidth, wellFormedBytes}
 use Rattle.spell.specs.Tables.{kinds, moveKinds, writtenSpecials, presets, sides, numerals, files}
 use Rattle.spell.specs.Spell.{spelled}
 use Rattle.spell.specs.Count.{ten, tensText, countText}
@@ -27,14 +27,14 @@ use Rattle.jkf.specs.declared.Target.the-variants.{Same, Square}
 use Rattle.jkf.specs.declared.Origin.{Origin}
 use Rattle.jkf.specs.declared.Origin.the-variants.{Unknown, From}
 use Rattle.jkf.specs.declared.Entry.{Entry}
-use Rattle.jkf.specs.declared.Entry.the-variants.{Slot, Play, End}
+use Rattle.jkf.specs.declared.Entry.the-variants.{Slot, Moved, End}
 use Rattle.jkf.specs.declared.Position.{Position}
 use Rattle.jkf.specs.Model.{Header, Noted, Line, Record}
 use Rattle.block.specs.Encode.{concat}
 use Rattle.spell.specs.Words.{sameWord, promotes, declines, drops, presetTag, turnTag, handsTag, noneTag, filesTag, ruleTag, emptyTag}
 use Rattle.parser.proofs.Alls.{all-any}
 use Rattle.converter.specs.Headers.{headerLine, linesOf, headersText, range}
-use Rattle.converter.specs.Diagrams.{presetLine, heldText, held, allHeld, handLine, cellText, cellsText, rowText, rowsText, boardText, turnText, diagramText, positionText}
+use Rattle.converter.specs.Diagrams.{presetLine, heldText, held, allHeld, handLineText, cellText, cellsText, boardRow, boardRows, boardText, turnText, diagramText, positionText}
 use Rattle.converter.specs.Entries.{targetText, originText, specialText, widthOf, starText, remarkText, remarksText}
 use Rattle.converter.specs.Show.{numberLine, variationTag, plyTag, slotComments, variationHead}
 use Rattle.laws.specs.Sayable.{everyByte}
@@ -52,7 +52,7 @@ words =
 
 abbrev each : List (List ℕ) → Bool
 each [] = true
-each (t ∷ ts) = pick (eqb (wellFormed t) (length t)) (each ts) false
+each (t ∷ ts) = pick (eqb (wellFormedBytes t) (length t)) (each ts) false
 
 words-well : each words ≡ true
 unfolding pastAll repeatFrom charWidth sizeOf secondOf lowestOf highestOf isNext
@@ -60,8 +60,8 @@ words-well = refl
 
 each-chars : (ts : List (List ℕ)) → each ts ≡ true → (k : ℕ) → Chars (getD ts k [])
 each-chars [] h k = empty
-each-chars (t ∷ ts) h zero = well-chars t (eqb-true _ _ (pick-both (eqb (wellFormed t) (length t)) (each ts) h .0))
-each-chars (t ∷ ts) h (suc k) = each-chars ts (pick-both (eqb (wellFormed t) (length t)) (each ts) h .1) k
+each-chars (t ∷ ts) h zero = well-chars t (eqb-true _ _ (pick-both (eqb (wellFormedBytes t) (length t)) (each ts) h .0))
+each-chars (t ∷ ts) h (suc k) = each-chars ts (pick-both (eqb (wellFormedBytes t) (length t)) (each ts) h .1) k
 
 word : (k : ℕ) → Chars (getD words k [])
 word = each-chars words words-well
@@ -140,7 +140,7 @@ origin-chars (From x y) = chars-append (chars-append (chars-append (byte 40 refl
 play-chars : (e : Entry) → Chars (wholePlay e)
 unfolding wholePlay wholeMove specialText
 play-chars Slot = empty
-play-chars (Play m) = chars-append (chars-append (chars-append (target-chars (m .to)) (move-kind-chars (m .piece))) (mark-chars (m .promote))) (origin-chars (m .from))
+play-chars (Moved m) = chars-append (chars-append (chars-append (target-chars (m .to)) (move-kind-chars (m .piece))) (mark-chars (m .promote))) (origin-chars (m .from))
 play-chars (End s t) = special-chars (specialNumber s)
 
 now-chars : (c : Clock) → Chars (clockText 32 47 c)
@@ -246,8 +246,8 @@ held-chars k n =
     by-pick Chars (eqb n 0) [] _ (λ _. empty)
     (λ _. chars-append (chars-append (kind-chars k) (by-pick Chars (ltb 1 n) (countText n) [] (λ _. count-chars n) (λ _. empty))) (word 1))
 
-hand-chars : (hands : List ℕ) (side : ℕ) → Chars (handLine hands side)
-unfolding handLine allHeld
+hand-chars : (hands : List ℕ) (side : ℕ) → Chars (handLineText hands side)
+unfolding handLineText allHeld
 hand-chars hands side =
     chars-append (chars-append (chars-append (side-chars side) (word 4))
     (by-pick Chars (eqb (length (allHeld hands side)) 0) noneTag (allHeld hands side) (λ _. word 5)
@@ -259,17 +259,17 @@ cell-chars v =
     by-pick Chars (eqb v 0) emptyTag _ (λ _. word 8)
     (λ _. by-pick Chars (leb v 14) _ _ (λ _. chars-append (byte 32 refl) (kind-chars v)) (λ _. chars-append (byte 118 refl) (kind-chars (v - 16))))
 
-row-chars : (cells : List ℕ) (rank : ℕ) → Chars (rowText cells rank)
-unfolding rowText cellsText
+row-chars : (cells : List ℕ) (rank : ℕ) → Chars (boardRow cells rank)
+unfolding boardRow cellsText
 row-chars cells rank =
     chars-append (chars-append (byte 124 refl) (chars-concat (λ i. cellText (getD cells (9 * (8 - i) + rank) 0)) (all-any (λ i. cell-chars (getD cells (9 * (8 - i) + rank) 0)) (range 0 9))))
     (chars-append (chars-append (byte 124 refl) (numeral-chars (rank + 1))) line-feed)
 
 board-chars : (cells : List ℕ) → Chars (boardText cells)
-unfolding boardText rowsText
+unfolding boardText boardRows
 board-chars cells =
     chars-append (chars-append (chars-append (chars-append (chars-append (word 6) line-feed) (word 7)) line-feed)
-    (chars-concat (rowText cells) (all-any (row-chars cells) (range 0 9)))) (chars-append (word 7) line-feed)
+    (chars-concat (boardRow cells) (all-any (row-chars cells) (range 0 9)))) (chars-append (word 7) line-feed)
 
 turn-chars : (turn : ℕ) → Chars (turnText turn)
 unfolding turnText

@@ -6,25 +6,25 @@ use Rattle.lent.specs.Numbers.{digitsFrom, decimal}
 use Rattle.text.specs.Text.{spanFrom, spanAt, prefixFrom, standsAt, tagAt, pastAll, breakAt, tailAt, lineEndAt, padWidth, numberFrom, numberAt, digitsAt, keyFrom, keyAt}
 use Rattle.text.specs.Utf8.{sizeOf, lowestOf, highestOf, secondOf, isNext, charWidth, characterAt}
 use Rattle.spell.specs.Spell.{firstOf}
-use Rattle.spell.specs.Count.{tensAt, countAt}
+use Rattle.spell.specs.Count.{tensAt, handCountAt}
 use Rattle.sorted.specs.Sorted.{compared, byBytes, enter, enterAll}
 use Rattle.jkf.specs.Answers.{figures}
 use Rattle.jkf.specs.Attaching.{near, hangs, hungFrom, parentIn, attachFrom, attach, allHung}
-use Rattle.block.specs.EntryBytes.{headBytes as entryHead, entryBytes, timeIn, targetIn, originIn, moveIn, entryIn}
+use Rattle.block.specs.EntryBytes.{entryHead, entryBytes, timeIn, targetIn, originIn, moveIn, entryIn}
 use Rattle.block.specs.PositionBytes.{positionBytes, bytesAt, positionIn}
 use Rattle.block.specs.Decode.{run, keyOf, valueOf, commentOf, decode}
-use Rattle.block.specs.Encode.{table, concat, headBytes as blockHead, encode}
+use Rattle.block.specs.Encode.{table, concat, headBytes, encode}
 use Rattle.block.specs.Sound.{sum, before, same, soundb}
-use Rattle.moves.specs.Moves.{squareAt, moveToAt, promoteAt, originAt, moveFromAt, pieceAt, moveAt, whatAt, figureAt, hmsAt, msAt, clockAt, spacedAt, clocksAt, timeAt, finished, moveLineAt, remarkFrom, keptAt, commentLineAt, beginsMove, skipLineAt}
-use Rattle.kakinoki.specs.Informations.{hashLineAt, hashLinesAt, paddedEndAt, presetLineAt, turnLineAt, pieceAt as handPieceAt, pieceStep, piecesAt, handAt, heldAt, handLineAt, valueAt, keyValueAt, headerAt, keyedAt, handsOrKeyedAt, informationAt, informationItem, informationsAt, faultAt, tell, tellAll, pairsOf, headerPlacesFrom, headerPlacesAt}
+use Rattle.moves.specs.Moves.{squareAt, moveToAt, promoteAt, originAt, moveFromAt, kindToOriginAt, moveAt, whatAt, figureAt, hmsAt, msAt, clockAt, spacedAt, clocksAt, timeAt, finished, moveLineAt, remarkFrom, keptAt, commentLineAt, beginsNoSkip, skipLineAt}
+use Rattle.kakinoki.specs.Informations.{hashLineAt, hashLinesAt, paddedEndAt, presetLineAt, turnLineAt, pieceAt, pieceStep, piecesAt, handAt, heldAt, handLineAt, valueAt, keyValueAt, headerAt, keyedAt, handsOrKeyedAt, informationAt, informationItem, informationsAt, faultAt, tell, tellAll, pairsOf, headerPlacesFrom, headerPlacesAt}
 use Rattle.kakinoki.specs.Boards.{whiteAt, cellAt, cellsFrom, rowEndAt, rowAt, rowsFrom, boardAt}
-use Rattle.kakinoki.specs.Starts.{addHands, merged, positionOf, headersSaid, headerPlaces, startOf}
+use Rattle.kakinoki.specs.Starts.{addHands, merged, positionOf, headersSaid, headerPlaces, startRead}
 use Rattle.plays.specs.Plays.{commentItem, commentsAt, entryItem, entriesAt, plyAt, skippedAt, skipsAt, playItem, variationItem, variationsAt, mainAt, playsAt}
 use Rattle.parser.specs.Parse.{headersOf, parse, needed}
-use Rattle.parser.specs.Read.{filledWith, storedOf, startedOf, readOf}
+use Rattle.parser.specs.Read.{filledWith, readStored, startedOf, readOf}
 use Rattle.edit.specs.Edit.{fresh, isVariation, isPlyOf, carries, above, changedFrom, insertAt, insertOn, insert, notBelow, remove}
-use Rattle.edit.specs.Outcomes.{storedOf as editStoredOf, editedOf, putInOf, cutOf}
-use Rattle.shown.specs.Listing.{readText, refusalText, rowText, lineText, linesText, listingText}
+use Rattle.edit.specs.Outcomes.{editStored, editedOf, putInOf, cutOf}
+use Rattle.shown.specs.Listing.{readText, refusalText, rowText, rowOf, rowsText, listingText}
 
 unfoldable pub lists : Unit {0}
 unfolding repeatFrom manyFrom allBelow
@@ -39,7 +39,7 @@ unfolding spanFrom spanAt prefixFrom standsAt tagAt pastAll breakAt tailAt lineE
 places = tt
 
 unfoldable pub spellings : Unit {0}
-unfolding firstOf tensAt countAt
+unfolding firstOf tensAt handCountAt
 spellings = tt
 
 unfoldable pub keys : Unit {0}
@@ -51,25 +51,25 @@ unfolding figures near hangs hungFrom entryHead entryBytes timeIn targetIn origi
 values = tt
 
 unfoldable pub blocks : Unit {0}
-unfolding parentIn attachFrom attach allHung run keyOf valueOf commentOf decode table concat blockHead encode sum before same soundb
+unfolding parentIn attachFrom attach allHung run keyOf valueOf commentOf decode table concat headBytes encode sum before same soundb
 blocks = tt
 
 unfoldable pub lines : Unit {0}
-unfolding squareAt moveToAt promoteAt originAt moveFromAt pieceAt moveAt whatAt figureAt hmsAt msAt clockAt spacedAt clocksAt timeAt finished moveLineAt remarkFrom keptAt commentLineAt beginsMove skipLineAt
+unfolding squareAt moveToAt promoteAt originAt moveFromAt kindToOriginAt moveAt whatAt figureAt hmsAt msAt clockAt spacedAt clocksAt timeAt finished moveLineAt remarkFrom keptAt commentLineAt beginsNoSkip skipLineAt
 lines = tt
 
 unfoldable pub starts : Unit {0}
-unfolding hashLineAt hashLinesAt paddedEndAt presetLineAt turnLineAt handPieceAt pieceStep piecesAt handAt heldAt handLineAt valueAt keyValueAt headerAt keyedAt handsOrKeyedAt informationAt informationItem informationsAt faultAt tell tellAll pairsOf headerPlacesFrom headerPlacesAt whiteAt cellAt cellsFrom rowEndAt rowAt rowsFrom boardAt addHands merged positionOf headersSaid headerPlaces startOf
+unfolding hashLineAt hashLinesAt paddedEndAt presetLineAt turnLineAt pieceAt pieceStep piecesAt handAt heldAt handLineAt valueAt keyValueAt headerAt keyedAt handsOrKeyedAt informationAt informationItem informationsAt faultAt tell tellAll pairsOf headerPlacesFrom headerPlacesAt whiteAt cellAt cellsFrom rowEndAt rowAt rowsFrom boardAt addHands merged positionOf headersSaid headerPlaces startRead
 starts = tt
 
 unfoldable pub readings : Unit {0}
-unfolding commentItem commentsAt entryItem entriesAt plyAt skippedAt skipsAt playItem variationItem variationsAt mainAt playsAt headersOf parse needed filledWith storedOf startedOf readOf
+unfolding commentItem commentsAt entryItem entriesAt plyAt skippedAt skipsAt playItem variationItem variationsAt mainAt playsAt headersOf parse needed filledWith readStored startedOf readOf
 readings = tt
 
 unfoldable pub edits : Unit {0}
-unfolding fresh isVariation isPlyOf carries above changedFrom insertAt insertOn insert notBelow remove editStoredOf editedOf putInOf cutOf
+unfolding fresh isVariation isPlyOf carries above changedFrom insertAt insertOn insert notBelow remove editStored editedOf putInOf cutOf
 edits = tt
 
 unfoldable pub listings : Unit {0}
-unfolding readText refusalText rowText lineText linesText listingText
+unfolding readText refusalText rowText rowOf rowsText listingText
 listings = tt

@@ -10,20 +10,20 @@ use lib.Dec.{leb, ltb}
 use borrow.Author.Tests.{leb-true, le-ltb}
 use Rattle.lists.specs.All.{All, none, next}
 use Rattle.lists.specs.Pick.{pick}
-use Rattle.text.specs.Utf8.{wellFormed}
+use Rattle.text.specs.Utf8.{wellFormedBytes}
 use Rattle.jkf.specs.Answers.{Outcome, refuse}
 use Rattle.jkf.specs.declared.Answer.the-variants.{Done, TextTooLong, NotUtf8, HandLine, NotSound}
 use Rattle.jkf.specs.Model.{Record}
 use Rattle.block.specs.Encode.{encode}
 use Rattle.block.specs.Decode.{decode}
 use Rattle.block.specs.Sound.{soundb}
-use Rattle.kakinoki.specs.Starts.{startOf}
+use Rattle.kakinoki.specs.Starts.{startRead}
 use Rattle.kakinoki.specs.declared.Fault.{Fault}
 use Rattle.kakinoki.specs.declared.Fault.the-variants.{NoFault, At}
 use Rattle.parser.specs.Parse.{Parsed, parse, needed}
-use Rattle.parser.specs.Read.{onFault, filledWith, storedOf, startedOf, readOf}
+use Rattle.parser.specs.Read.{onFault, filledWith, readStored, startedOf, readOf}
 use Rattle.edit.specs.Edit.{Edited, edited, refused, insert, remove}
-use Rattle.edit.specs.Outcomes.{storedOf as keptOf, editedOf, putInOf, cutOf}
+use Rattle.edit.specs.Outcomes.{editStored, editedOf, putInOf, cutOf}
 use Rattle.laws.specs.CaseTexts.{moveLine, textOf}
 use Rattle.laws.specs.Cases.{blockOf, listing, Result, Gives, Case, reads, puts, cuts, isFrom, isNoLine, counts, prints, Holds}
 
@@ -36,22 +36,22 @@ no e = let z : _≡_ {A = ℕ} 0 1 = cc in absurd (omega arith)
 -- The text is not refused before its lines hang, and its block is of 600 bytes at most.
 abbrev pub isRead : List ℕ → Bool
 isRead s =
-    let r = onFault (startOf s .fault) (λ at. false) (leb (needed (parse s)) 600) in
-    pick (ltb 65535 (length s)) false (pick (ltb (wellFormed s) (length s)) false r)
+    let r = onFault (startRead s .fault) (λ at. false) (leb (needed (parse s)) 600) in
+    pick (ltb 65535 (length s)) false (pick (ltb (wellFormedBytes s) (length s)) false r)
 
-stored-is : (p : Parsed) (o : List ℕ) → leb (needed p) 600 ≡ true → 600 ≤ length o → storedOf p o ≡ filledWith p o
-unfolding storedOf
+stored-is : (p : Parsed) (o : List ℕ) → leb (needed p) 600 ≡ true → 600 ≤ length o → readStored p o ≡ filledWith p o
+unfolding readStored
 stored-is p o t h =
     let k = leb-true (needed p) 600 t in
     rw (le-ltb 65535 (needed p) (omega arith), le-ltb (length o) (needed p) (omega arith)) refl
 
 read-is : (s o : List ℕ) → 600 ≤ length o → isRead s ≡ true → readOf s o ≡ filledWith (parse s) o
 unfolding readOf startedOf
-read-is s o h t = go (ltb 65535 (length s)) (ltb (wellFormed s) (length s)) (startOf s .fault) t
+read-is s o h t = go (ltb 65535 (length s)) (ltb (wellFormedBytes s) (length s)) (startRead s .fault) t
   where
     go : (long ill : Bool) (f : Fault) → pick long false (pick ill false (onFault f (λ at. false) (leb (needed (parse s)) 600))) ≡ true
         → pick long (refuse (TextTooLong (length s)) o)
-        (pick ill (refuse (NotUtf8 (wellFormed s)) o) (onFault f (λ at. refuse (HandLine at) o) (storedOf (parse s) o)))
+        (pick ill (refuse (NotUtf8 (wellFormedBytes s)) o) (onFault f (λ at. refuse (HandLine at) o) (readStored (parse s) o)))
         ≡ filledWith (parse s) o
     go true ill f t = no t
     go false true f t = no t
@@ -76,7 +76,7 @@ editOf f b o = let r = editedOf (f (decode b)) o in pick (soundb b) r (refuse No
 
 edited-is : (sound : Bool) (e : Edited) (o : List ℕ) → 600 ≤ length o → pick sound (isSmall e) false ≡ true
     → pick sound (editedOf e o) (refuse NotSound o) ≡ madeOf e o
-unfolding editedOf keptOf
+unfolding editedOf editStored
 edited-is false e o h t = no t
 edited-is true (refused a) o h t = refl
 edited-is true (edited r n) o h t =

@@ -1,6 +1,6 @@
 -- The answers of the steps, handed on as the definition hands them on.
 -- Assumes nothing.
-use Rattle.moves.specs.Endings.{playedLine}
+use Rattle.moves.specs.inner.Lines.{playedLine}
 use Rattle.moves.proofs.any_line.Statement.{statement}
 use Rattle.moves.proofs.any_line.Tie as tie
 

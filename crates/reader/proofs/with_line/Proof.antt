@@ -2,7 +2,7 @@
 -- Assumes nothing.
 use native.Mathlib.Omega.{arith}
 use borrow.Author.Needs.{needs}
-use Rattle.reader.specs.LinesPassed.{withLine}
+use Rattle.reader.specs.inner.Steps.{withLine}
 use Rattle.reader.proofs.Turns.{answer-goes}
 use Rattle.reader.proofs.with_line.Statement.{statement}
 use Rattle.reader.proofs.with_line.Tie as tie

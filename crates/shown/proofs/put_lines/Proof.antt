@@ -8,13 +8,13 @@ use denote.Ref.{now}
 use borrow.Author.Needs.{needs}
 use Rattle.lent.specs.Bytes.{Wrote}
 use Rattle.lent.proofs.Writes.{wrote-length, rest-length}
-use Rattle.shown.specs.Listing.{linesText}
+use Rattle.shown.specs.Listing.{rowsText}
 use Rattle.shown.proofs.Texts.{lines-none, lines-step}
 use Rattle.shown.proofs.put_lines.Statement.{statement}
 use Rattle.shown.proofs.put_lines.Tie as tie
 
 abbrev Inv-loop : tie.InvT-loop
-Inv-loop out₀ b count n₀ k₀ out n k = (k ≤ count) × (n ≤ 48 * k) × Wrote (linesText b k) out₀ out n
+Inv-loop out₀ b count n₀ k₀ out n k = (k ≤ count) × (n ≤ 48 * k) × Wrote (rowsText b k) out₀ out n
 
 abbrev μ-loop : tie.MeasureT-loop
 μ-loop out₀ b count n₀ k₀ out n k = count - k

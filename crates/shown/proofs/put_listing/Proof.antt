@@ -7,7 +7,7 @@ use lib.ListN.{length}
 use denote.Ref.{now}
 use borrow.Author.Needs.{needs}
 use Rattle.lent.proofs.Writes.{as-text, then, wrote-length, rest-length}
-use Rattle.shown.specs.Listing.{linesText}
+use Rattle.shown.specs.Listing.{rowsText}
 use Rattle.shown.proofs.Texts.{read-fits, listed-none, listed-all}
 use Rattle.shown.proofs.put_listing.Statement.{statement}
 use Rattle.shown.proofs.put_listing.Tie as tie
@@ -52,7 +52,7 @@ returns-2 : tie.Need-returns-2
 returns-2 c =
     let a = c .before .before .before .before .before .before .before .before .before .before .before .before .args in
     let w = read-fits (a .taken) (length (now (a .b))) (omega arith) (omega arith) (omega arith) (c .before .before .before .before .before .before .put-read .ensures) in
-    listed-all (a .taken) (now (a .b)) (omega arith) (then (w .0) (as-text (ap (linesText (now (a .b))) (c .before .before .before .before .before .before .before .before .before .lines-in .ensures .0)) (c .before .before .put-lines .ensures)))
+    listed-all (a .taken) (now (a .b)) (omega arith) (then (w .0) (as-text (ap (rowsText (now (a .b))) (c .before .before .before .before .before .before .before .before .before .lines-in .ensures .0)) (c .before .before .put-lines .ensures)))
 
 same-length : tie.Need-same-length
 same-length c = wrote-length (returns-2 c)

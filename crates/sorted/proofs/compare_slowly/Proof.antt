@@ -7,7 +7,7 @@ use mathlib.Core.List.{List}
 use lib.ListN.{length}
 use denote.Ref.{now}
 use Rattle.text.specs.Text.{keyAt}
-use Rattle.sorted.specs.Heads.{headOf}
+use Rattle.sorted.specs.inner.Heads.{headOf}
 use Rattle.sorted.specs.Sorted.{byBytes}
 use Rattle.sorted.proofs.Keys.{key-more, head-less, head-greater, head-none, head-more}
 use Rattle.sorted.proofs.compare_slowly.Statement.{statement}

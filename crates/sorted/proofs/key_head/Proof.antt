@@ -5,7 +5,7 @@ use native.Mathlib.Omega.{arith}
 use mathlib.Core.Path.{sym, ap, _∙_, refl}
 use denote.Ref.{now}
 use borrow.Author.Needs.{needs}
-use Rattle.sorted.specs.Heads.{headOf}
+use Rattle.sorted.specs.inner.Heads.{headOf}
 use Rattle.sorted.proofs.Keys.{key-end, key-on, key-past, plain-on, break-off, colon-is}
 use Rattle.sorted.proofs.key_head.Statement.{statement}
 use Rattle.sorted.proofs.key_head.Tie as tie

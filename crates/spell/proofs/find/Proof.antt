@@ -10,7 +10,8 @@ use Rattle.spell.specs.declared.Spelled.the-variants.{As}
 use Rattle.text.specs.Text.{standsAt, cursor}
 use Rattle.text.proofs.Laws.{stands-fits}
 use Rattle.spell.specs.Tables.{Spelling}
-use Rattle.spell.specs.Spell.{Rows, firstOf}
+use Rattle.spell.specs.Spell.{firstOf}
+use Rattle.spell.specs.inner.Codes.{Rows}
 use Rattle.spell.proofs.Search.{Left, left-start, left-within, find-none, find-here, find-more}
 use Rattle.spell.proofs.find.Statement.{statement}
 use Rattle.spell.proofs.find.Tie as tie

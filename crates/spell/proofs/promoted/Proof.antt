@@ -1,7 +1,7 @@
 -- The constant is the table `promotedKinds`: antt computes it.
 -- Assumes nothing.
 use mathlib.Core.Path.{refl}
-use Rattle.spell.specs.Slots.{promotedKinds}
+use Rattle.spell.specs.inner.Kinds.{promotedKinds}
 use Rattle.spell.proofs.promoted.Statement.{statement}
 use Rattle.spell.proofs.promoted.Tie as tie
 

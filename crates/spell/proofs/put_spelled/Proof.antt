@@ -9,7 +9,8 @@ use denote.Ref.{now}
 use Rattle.lent.proofs.Writes.{as-text, nothing, wrote-length, fitting-nothing}
 use Rattle.lent.specs.Bytes.{fitting}
 use Rattle.spell.specs.Tables.{Spelling}
-use Rattle.spell.specs.Spell.{Rows, spelled}
+use Rattle.spell.specs.Spell.{spelled}
+use Rattle.spell.specs.inner.Codes.{Rows}
 use Rattle.spell.proofs.Search.{Left, left-start, left-within, spelled-none, spelled-here, spelled-more}
 use Rattle.spell.proofs.put_spelled.Statement.{statement}
 use Rattle.spell.proofs.put_spelled.Tie as tie

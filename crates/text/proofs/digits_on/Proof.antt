@@ -7,7 +7,7 @@ use mathlib.Core.Path.{_≡_, refl, sym, _∙_, ap}
 use mathlib.Core.Bool.{true}
 use lib.ListN.{length}
 use denote.Ref.{now}
-use Rattle.text.specs.Runs.{Reading}
+use Rattle.text.specs.inner.Runs.{Reading}
 use Rattle.text.specs.Text.{isDigit}
 use Rattle.lists.proofs.Laws.{class-in}
 use Rattle.text.proofs.Laws.{digit-bounds}

@@ -1,11 +1,11 @@
--- In each arm the nine bytes are those that `headBytes` gives the entry of that arm, and there is room.
+-- In each arm the nine bytes are those that `entryHead` gives the entry of that arm, and there is room.
 -- Assumes nothing.
 use Prim.Native.Nat.{ℕ}
 use native.Mathlib.Omega.{arith}
 use mathlib.Core.List.{[], _∷_}
 use mathlib.Core.Path.{sym, ap, ap₂, _∙_, refl}
 use borrow.Author.Needs.{needs}
-use Rattle.block.specs.EntryBytes.{headBytes}
+use Rattle.block.specs.EntryBytes.{entryHead}
 use Rattle.lent.proofs.Writes.{as-text, wrote-all, wrote-length}
 use Rattle.block.proofs.entry_bytes.put_head.Statement.{statement}
 use Rattle.block.proofs.entry_bytes.put_head.Tie as tie
@@ -41,21 +41,21 @@ put-bytes-requires-2 : tie.Need-put-bytes-requires-2
 put-bytes-requires-2 c κs = tt
 
 returns : tie.Need-returns
-unfolding headBytes
-returns c = as-text (ap headBytes (sym (c .before .before .before .before .before .enum-told .given .1))) (wrote-all {t = 0 ∷ 0 ∷ 0 ∷ 0 ∷ 0 ∷ 0 ∷ 0 ∷ 0 ∷ 0 ∷ []} (omega arith) (c .before .before .put-bytes .ensures))
+unfolding entryHead
+returns c = as-text (ap entryHead (sym (c .before .before .before .before .before .enum-told .given .1))) (wrote-all {t = 0 ∷ 0 ∷ 0 ∷ 0 ∷ 0 ∷ 0 ∷ 0 ∷ 0 ∷ 0 ∷ []} (omega arith) (c .before .before .put-bytes .ensures))
 
 same-length : tie.Need-same-length
 same-length c = wrote-length (returns c)
 
 returns-2 : tie.Need-returns-2
-returns-2 c = as-text (ap headBytes (sym (c .before .before .before .before .before .e .given .1))) (c .before .before .put-move-head .ensures)
+returns-2 c = as-text (ap entryHead (sym (c .before .before .before .before .before .e .given .1))) (c .before .before .put-move-head .ensures)
 
 same-length-2 : tie.Need-same-length-2
 same-length-2 c = wrote-length (returns-2 c)
 
 returns-3 : tie.Need-returns-3
-unfolding headBytes
-returns-3 c = as-text (ap₂ (λ (n k : ℕ). 2 ∷ n ∷ 0 ∷ 0 ∷ 0 ∷ 0 ∷ 0 ∷ 0 ∷ k ∷ []) (c .before .before .before .before .before .number-of .ensures) (c .before .before .before .before .time-mark .ensures .0) ∙ sym (ap headBytes (c .before .before .before .before .before .before .before .before .e2 .given .1))) (wrote-all (omega arith) (c .before .before .put-bytes2 .ensures))
+unfolding entryHead
+returns-3 c = as-text (ap₂ (λ (n k : ℕ). 2 ∷ n ∷ 0 ∷ 0 ∷ 0 ∷ 0 ∷ 0 ∷ 0 ∷ k ∷ []) (c .before .before .before .before .before .number-of .ensures) (c .before .before .before .before .time-mark .ensures .0) ∙ sym (ap entryHead (c .before .before .before .before .before .before .before .before .e2 .given .1))) (wrote-all (omega arith) (c .before .before .put-bytes2 .ensures))
 
 same-length-3 : tie.Need-same-length-3
 same-length-3 c = wrote-length (returns-3 c)

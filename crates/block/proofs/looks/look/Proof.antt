@@ -8,7 +8,7 @@ use denote.Ref.{now}
 use borrow.Author.Tests.{not-true, not-false, lt-ltb, le-ltb}
 use borrow.Author.Needs.{needs}
 use Rattle.block.proofs.LookUps.{told}
-use Rattle.block.specs.Decode.{textPlace, textAt}
+use Rattle.block.specs.Decode.{textPlace, storedText}
 use Rattle.jkf.specs.declared.Answer.the-variants.{Done}
 use Rattle.lent.specs.Bytes.{le16}
 use Rattle.block.proofs.looks.look.Statement.{statement}
@@ -81,7 +81,7 @@ returns-3 c =
     let o = c .before .before .before .before .before .before .before .get16 .ensures .0 in
     let l = c .before .before .before .before .before .before .get162 .ensures .0 in
     rw (s, lt-ltb (a .k) (a .n) (c .before .before .before .before .before .before .before .before .if2 .left)) (
-      c .text-of .ensures ∙ ap (λ (x : ℕ). textAt b x (c .before .before .before .before .before .before .get162 .result)) o ∙ ap (textAt b (le16 b (a .place + a .w * a .k))) l,
+      c .text-of .ensures ∙ ap (λ (x : ℕ). storedText b x (c .before .before .before .before .before .before .get162 .result)) o ∙ ap (storedText b (le16 b (a .place + a .w * a .k))) l,
       told (ap (λ (t : ℕ). Done (t + c .before .before .before .before .before .before .before .get16 .result) (c .before .before .before .before .before .before .get162 .result)) (c .before .before .before .before .before .text-place .ensures .0) ∙ ap (λ (x : ℕ). Done (textPlace b + x) (c .before .before .before .before .before .before .get162 .result)) o ∙ ap (Done (textPlace b + le16 b (a .place + a .w * a .k))) l) (c .before .tell3 .ensures),
     )
 

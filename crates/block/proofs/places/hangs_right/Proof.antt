@@ -1,4 +1,4 @@
--- `attach` answers by the rows from the table's start on, which are the starts, counts and parents of the block (`Lining`).
+-- `hang_of` answers by the rows from the table's start on, which are the starts, counts and parents of the block (`Lining`).
 -- Assumes nothing.
 use Prim.Native.Nat.{ℕ}
 use mathlib.Core.Path.{_≡_, sym, ap, _∙_}
@@ -17,15 +17,15 @@ use Rattle.block.proofs.places.hangs_right.Statement.{statement}
 use Rattle.block.proofs.places.hangs_right.Tie as tie
 
 -- what the attaching rule says of the table is what it says of the block's lines
-found : (c : tie.After-attach) →
+found : (c : tie.After-hang-of) →
     let a = c .before .before .before .before .before .before .args in
-    c .attach .result ≡ hangs (startOf (now (a .b))) (entryCount (now (a .b))) (startOf (now (a .b)) (a .k)) (a .k)
+    c .hang-of .result ≡ hangs (startOf (now (a .b))) (entryCount (now (a .b))) (startOf (now (a .b)) (a .k)) (a .k)
 found c =
     let a = c .before .before .before .before .before .before .args in
     let b = now (a .b) in
     let s = c .before .start-of2 .result in
     let e = c .before .before .rest .ensures ∙ ap (λ (p : ℕ). drop p b) (c .before .before .before .line-place .ensures .0) in
-    c .attach .ensures ∙ ap (λ (l : List ℕ). hangsBy l s (a .k)) e ∙ hangs-followed (c .before .before .before .before .before .before .pre .1) s
+    c .hang-of .ensures ∙ ap (λ (l : List ℕ). hangsBy l s (a .k)) e ∙ hangs-followed (c .before .before .before .before .before .before .pre .1) s
     ∙ table-hangs b s (a .k) ∙ ap (λ (n : ℕ). hangs (startOf b) (entryCount b) n (a .k)) (c .before .start-of2 .ensures .0)
 
 start-of-requires : tie.Need-start-of-requires
@@ -53,8 +53,8 @@ rest-requires c κs = search needs
 start-of-requires-2 : tie.Need-start-of-requires-2
 start-of-requires-2 c κs = search needs
 
-attach-requires : tie.Need-attach-requires
-attach-requires c κs = search needs
+hang-of-requires : tie.Need-hang-of-requires
+hang-of-requires c κs = search needs
 
 enum-known-p : tie.Need-enum-known-p
 enum-known-p c = search needs
@@ -82,7 +82,7 @@ hangs-right-spec =
     line-place-requires
     rest-requires
     start-of-requires-2
-    attach-requires
+    hang-of-requires
     enum-known-p
     enum-told
     returns-3

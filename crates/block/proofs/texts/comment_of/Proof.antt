@@ -6,7 +6,7 @@ use mathlib.Core.Path.{_≡_, ap, _∙_}
 use lib.ListN.{drop}
 use denote.Ref.{now}
 use Rattle.lent.specs.Bytes.{le16}
-use Rattle.block.specs.Decode.{commentPlace, textPlace, textAt, commentOf}
+use Rattle.block.specs.Decode.{commentPlace, textPlace, storedText, commentOf}
 use Rattle.block.proofs.Cuts.{text-in}
 use borrow.Author.Needs.{needs}
 use Rattle.block.proofs.texts.comment_of.Statement.{statement}
@@ -44,7 +44,7 @@ returns c =
     let rows = c .before .before .before .comment-place in
     let t : rows .result + 4 * c .before .before .comments .result ≡ textPlace b = omega (arith, rows .ensures .0, c .before .before .comments .ensures .0) in
     let p : rows .result + 4 * a .k ≡ commentPlace b (a .k) = omega (arith, rows .ensures .0) in
-    c .text-in .ensures ∙ text-in b _ (c .before .rest .ensures ∙ ap (λ (i : ℕ). drop i b) t) (le16 b (rows .result + 4 * a .k)) (le16 b (rows .result + 4 * a .k + 2)) ∙ ap (λ (i : ℕ). textAt b (le16 b i) (le16 b (i + 2))) p
+    c .text-in .ensures ∙ text-in b _ (c .before .rest .ensures ∙ ap (λ (i : ℕ). drop i b) t) (le16 b (rows .result + 4 * a .k)) (le16 b (rows .result + 4 * a .k + 2)) ∙ ap (λ (i : ℕ). storedText b (le16 b i) (le16 b (i + 2))) p
 
 pub comment-of-spec : {M : Type 1} → statement M
 comment-of-spec =

@@ -4,7 +4,7 @@ use Prim.Native.Nat.{ℕ}
 use mathlib.Core.Path.{ap, _∙_}
 use denote.Ref.{now}
 use borrow.Author.Needs.{needs}
-use Rattle.block.specs.Decode.{valueOf, textAt}
+use Rattle.block.specs.Decode.{valueOf, storedText}
 use Rattle.block.proofs.texts.value_of.Statement.{statement}
 use Rattle.block.proofs.texts.value_of.Tie as tie
 
@@ -21,7 +21,7 @@ returns : tie.Need-returns
 unfolding valueOf
 returns c =
     let b = now (c .before .before .before .before .args .b) in
-    c .text-of .ensures ∙ ap (λ (o : ℕ). textAt b o (c .before .value-length .result)) (c .before .before .value-offset .ensures .0) ∙ ap (textAt b _) (c .before .value-length .ensures .0)
+    c .text-of .ensures ∙ ap (λ (o : ℕ). storedText b o (c .before .value-length .result)) (c .before .before .value-offset .ensures .0) ∙ ap (storedText b _) (c .before .value-length .ensures .0)
 
 pub value-of-spec : {M : Type 1} → statement M
 value-of-spec =

@@ -1,10 +1,10 @@
--- Nothing, or the padding and two clocks one after another, each with its room.
+-- Nothing, or the timePadding and two clocks one after another, each with its room.
 -- Assumes nothing.
 use native.Mathlib.Nat.{le-refl}
 use mathlib.Core.Path.{sym, ap}
 use borrow.Author.Needs.{needs}
 use Rattle.lent.proofs.Writes.{as-text, nothing, then, wrote-length, sum-fits, within}
-use Rattle.converter.specs.Entries.{nowText, totalText, padding, timeText}
+use Rattle.converter.specs.Entries.{nowText, totalText, timePadding, timeText}
 use Rattle.converter.proofs.Worded.{three, room-of}
 use Rattle.converter.proofs.kif.put_time.Statement.{statement}
 use Rattle.converter.proofs.kif.put_time.Tie as tie
@@ -22,7 +22,7 @@ put-padding-requires c κs =
     let t = c .before .before .time .given in
     let w = c .before .before .before .before .before .args .width in
     let h = room-of (timeText w) (t .1) (c .before .before .before .before .before .pre .1) in
-    three (padding w) (nowText (t .0 .0)) (totalText (t .0 .1 .0)) h .0
+    three (timePadding w) (nowText (t .0 .0)) (totalText (t .0 .1 .0)) h .0
 
 sub-put-now : tie.Need-sub-put-now
 sub-put-now c = within (c .before .before .put-padding .ensures)
@@ -39,7 +39,7 @@ put-now-requires c κs =
     let t = c .before .before .before .before .before .before .time .given in
     let w = c .before .before .before .before .before .before .before .before .before .args .width in
     let h = room-of (timeText w) (t .1) (c .before .before .before .before .before .before .before .before .before .pre .1) in
-    room-after (nowText (t .0 .0)) (c .before .before .before .put-padding .ensures) (three (padding w) (nowText (t .0 .0)) (totalText (t .0 .1 .0)) h .1)
+    room-after (nowText (t .0 .0)) (c .before .before .before .put-padding .ensures) (three (timePadding w) (nowText (t .0 .0)) (totalText (t .0 .1 .0)) h .1)
 
 add-m : tie.Need-add-m
 add-m c = sum-fits (then (c .before .before .before .before .before .before .put-padding .ensures) (c .before .before .put-now .ensures)) (c .before .before .before .before .before .before .before .before .before .before .before .before .good .0 .0)

@@ -5,7 +5,7 @@ use native.Mathlib.Nat.{le-refl}
 use Prim.Native.Nat.{ℕ}
 use mathlib.Core.List.{List, [], _∷_, _++_}
 use Rattle.spell.specs.Words.{filesTag, ruleTag}
-use Rattle.converter.specs.Diagrams.{rowsText, boardText}
+use Rattle.converter.specs.Diagrams.{boardRows, boardText}
 use Rattle.lent.proofs.Writes.{then, wrote-length, sum-fits, within}
 use Rattle.lent.proofs.Room.{room-front, room-after, first-of, then-stored}
 use Rattle.converter.proofs.starts.put_board.Statement.{statement}
@@ -33,7 +33,7 @@ part-put-rows-end c = le-refl _
 put-rows-requires : tie.Need-put-rows-requires
 unfolding boardText
 put-rows-requires c κs =
-    let t = rowsText (c .before .before .before .before .before .before .before .before .args .cells .now) in
+    let t = boardRows (c .before .before .before .before .before .before .before .before .args .cells .now) in
     let h = room-front (head ++ t) (ruleTag ++ (10 ∷ [])) (c .before .before .before .before .before .before .before .before .pre) in
     room-after t (first-of head t h (c .before .before .before .put-bytes .ensures)) h
 
@@ -49,7 +49,7 @@ put-at-requires c κs = tt
 returns : tie.Need-returns
 unfolding boardText
 returns c =
-    let t = rowsText (c .before .before .before .before .before .before .before .before .before .before .before .before .before .before .before .before .args .cells .now) in
+    let t = boardRows (c .before .before .before .before .before .before .before .before .before .before .before .before .before .before .before .before .args .cells .now) in
     let h = room-front (head ++ t) (ruleTag ++ (10 ∷ [])) (c .before .before .before .before .before .before .before .before .before .before .before .before .before .before .before .before .pre) in
     let w = then (first-of head t h (c .before .before .before .before .before .before .before .before .before .before .before .put-bytes .ensures)) (c .before .before .before .before .before .before .before .put-rows .ensures) in
     then-stored (ruleTag ++ (10 ∷ [])) w (c .before .before .before .before .before .before .before .before .before .before .before .before .before .before .before .before .pre) (c .before .before .put-at .ensures)

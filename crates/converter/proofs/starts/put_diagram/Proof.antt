@@ -4,7 +4,7 @@ use native.Mathlib.Nat.{le-refl}
 use mathlib.Core.List.{_++_}
 use borrow.Author.Needs.{needs}
 use Rattle.lent.proofs.Writes.{then, wrote-length, sum-fits, within}
-use Rattle.converter.specs.Diagrams.{presetLine, handLine, boardText, turnText, diagramText}
+use Rattle.converter.specs.Diagrams.{presetLine, handLineText, boardText, turnText, diagramText}
 use Rattle.converter.proofs.starts.put_diagram.Statement.{statement}
 use Rattle.converter.proofs.starts.put_diagram.Tie as tie
 use Rattle.lent.proofs.Room.{room-front, room-after}
@@ -13,8 +13,8 @@ put-upper-requires : tie.Need-put-upper-requires
 unfolding diagramText
 put-upper-requires c κs =
     let p = c .before .before .before .args .p in
-    let t = (presetLine 16 ++ handLine (p .hands) 1) ++ boardText (p .cells) in
-    let u = handLine (p .hands) 0 in
+    let t = (presetLine 16 ++ handLineText (p .hands) 1) ++ boardText (p .cells) in
+    let u = handLineText (p .hands) 0 in
     room-front t u (room-front (t ++ u) (turnText (p .turn)) (c .before .before .before .pre))
 
 sub-put-hand-line : tie.Need-sub-put-hand-line
@@ -33,8 +33,8 @@ put-hand-line-requires : tie.Need-put-hand-line-requires
 unfolding diagramText
 put-hand-line-requires c κs =
     let p = c .before .before .before .before .before .before .before .before .args .p in
-    let t = (presetLine 16 ++ handLine (p .hands) 1) ++ boardText (p .cells) in
-    let u = handLine (p .hands) 0 in
+    let t = (presetLine 16 ++ handLineText (p .hands) 1) ++ boardText (p .cells) in
+    let u = handLineText (p .hands) 0 in
     (search needs, room-after u (c .before .before .before .before .put-upper .ensures) (room-front (t ++ u) (turnText (p .turn)) (c .before .before .before .before .before .before .before .before .pre)))
 
 add-m : tie.Need-add-m

@@ -6,7 +6,7 @@ use mathlib.Core.List.{[], _∷_, _++_}
 use Rattle.spell.specs.Spell.{spelled}
 use Rattle.spell.specs.Tables.{sides}
 use Rattle.spell.specs.Words.{handsTag}
-use Rattle.converter.specs.Diagrams.{allHeld, orNone, handLine}
+use Rattle.converter.specs.Diagrams.{allHeld, orNone, handLineText}
 use Rattle.lent.proofs.Writes.{then, wrote-length, within}
 use Rattle.lent.proofs.Room.{room-front, room-after, then-stored, two-stored}
 use borrow.Author.Needs.{needs}
@@ -26,7 +26,7 @@ put-at-requires : tie.Need-put-at-requires
 put-at-requires c κs = tt
 
 sub-put-hand : tie.Need-sub-put-hand
-unfolding handLine
+unfolding handLineText
 sub-put-hand c =
     let a = c .before .before .before .before .before .before .before .before .before .before .before .args in
     let s = spelled sides (a .side) in
@@ -41,7 +41,7 @@ part-put-hand-end : tie.Need-part-put-hand-end
 part-put-hand-end c = le-refl _
 
 put-hand-requires : tie.Need-put-hand-requires
-unfolding handLine
+unfolding handLineText
 put-hand-requires c κs =
     let a = c .before .before .before .before .before .before .before .before .before .before .before .before .args in
     let s = spelled sides (a .side) in
@@ -59,7 +59,7 @@ put-at-requires-2 : tie.Need-put-at-requires-2
 put-at-requires-2 c κs = tt
 
 returns : tie.Need-returns
-unfolding handLine
+unfolding handLineText
 returns c =
     let a = c .before .before .before .before .before .before .before .before .before .before .before .before .before .before .before .before .before .before .before .before .args in
     let s = spelled sides (a .side) in

@@ -4,7 +4,8 @@ use native.Mathlib.Nat.{le-refl}
 use denote.Ref.{now}
 use borrow.Author.Needs.{needs}
 use Rattle.lent.proofs.Writes.{then, wrote-length, sum-fits, within}
-use Rattle.converter.specs.Headers.{linesOf, headersOf, headersText}
+use Rattle.converter.specs.Headers.{linesOf, headersText}
+use Rattle.converter.specs.inner.Places.{storedHeaders}
 use Rattle.converter.proofs.Heading.{leads}
 use Rattle.converter.proofs.starts.put_headers.Statement.{statement}
 use Rattle.converter.proofs.starts.put_headers.Tie as tie
@@ -19,7 +20,7 @@ slice-aggregate-put-leading c = search needs
 put-leading-requires : tie.Need-put-leading-requires
 unfolding headersText
 put-leading-requires c κs =
-    let hs = headersOf (now (c .before .before .before .before .before .args .b)) in
+    let hs = storedHeaders (now (c .before .before .before .before .before .args .b)) in
     (c .before .before .leading-places .ensures, room-front (leads (now (c .before .before .before .before .before .args .b)) 12) (linesOf 0 hs) (c .before .before .before .before .before .pre .1))
 
 sub-put-others : tie.Need-sub-put-others
@@ -35,7 +36,7 @@ put-others-requires : tie.Need-put-others-requires
 unfolding headersText
 put-others-requires c κs =
     let b = now (c .before .before .before .before .before .before .before .before .before .args .b) in
-    room-after (linesOf 0 (headersOf b)) (c .before .before .before .put-leading .ensures) (c .before .before .before .before .before .before .before .before .before .pre .1)
+    room-after (linesOf 0 (storedHeaders b)) (c .before .before .before .put-leading .ensures) (c .before .before .before .before .before .before .before .before .before .pre .1)
 
 returns : tie.Need-returns
 unfolding headersText

@@ -7,7 +7,7 @@ use mathlib.Core.List.{[], _∷_, _++_}
 use Rattle.lent.proofs.Writes.{then, wrote-length, sum-fits, within}
 use Rattle.spell.specs.Spell.{spelled}
 use Rattle.spell.specs.Tables.{numerals}
-use Rattle.converter.specs.Diagrams.{cellsText, rowText}
+use Rattle.converter.specs.Diagrams.{cellsText, boardRow}
 use Rattle.converter.proofs.starts.put_row.Statement.{statement}
 use Rattle.converter.proofs.starts.put_row.Tie as tie
 use Rattle.lent.proofs.Room.{room-front, room-after, first-of}
@@ -28,7 +28,7 @@ part-put-cells-end : tie.Need-part-put-cells-end
 part-put-cells-end c = le-refl _
 
 put-cells-requires : tie.Need-put-cells-requires
-unfolding rowText
+unfolding boardRow
 put-cells-requires c κs =
     let a = c .before .before .before .before .before .before .before .before .args in
     let t = cellsText (a .cells .now) (a .rank) in
@@ -48,7 +48,7 @@ part-put-row-end-end : tie.Need-part-put-row-end-end
 part-put-row-end-end c = le-refl _
 
 put-row-end-requires : tie.Need-put-row-end-requires
-unfolding rowText
+unfolding boardRow
 put-row-end-requires c κs =
     let a = c .before .before .before .before .before .before .before .before .before .before .before .before .args in
     let t = cellsText (a .cells .now) (a .rank) in
@@ -57,7 +57,7 @@ put-row-end-requires c κs =
     (c .before .before .before .before .before .before .before .before .before .before .before .before .pre .0, room-after e (then (first-of (124 ∷ []) t (room-front ((124 ∷ []) ++ t) e h) (c .before .before .before .before .before .before .before .put-bytes .ensures)) (c .before .before .before .put-cells .ensures)) h)
 
 returns : tie.Need-returns
-unfolding rowText
+unfolding boardRow
 returns c =
     let a = c .before .before .before .before .before .before .before .before .before .before .before .before .before .before .before .args in
     let t = cellsText (a .cells .now) (a .rank) in

@@ -7,13 +7,13 @@ use mathlib.Core.Path.{_≡_, ap}
 use borrow.Author.Needs.{needs}
 use Rattle.lent.specs.Bytes.{Wrote}
 use Rattle.lent.proofs.Writes.{as-text, wrote-length, within, sum-fits, then}
-use Rattle.converter.specs.Diagrams.{rowText, rowsText}
+use Rattle.converter.specs.Diagrams.{boardRow, boardRows}
 use Rattle.converter.proofs.Ranged.{upTo, wrote-none, wrote-more, room-more}
 use Rattle.converter.proofs.starts.put_rows.Statement.{statement}
 use Rattle.converter.proofs.starts.put_rows.Tie as tie
 
 abbrev Inv-loop : tie.InvT-loop
-Inv-loop out₀ cells at₀ rank₀ out at rank = (rank ≤ 9) × Wrote (upTo (rowText cells) rank) out₀ out at
+Inv-loop out₀ cells at₀ rank₀ out at rank = (rank ≤ 9) × Wrote (upTo (boardRow cells) rank) out₀ out at
 
 abbrev μ-loop : tie.MeasureT-loop
 μ-loop out₀ cells at₀ rank₀ out at rank = 9 - rank
@@ -31,10 +31,10 @@ part-put-row-end : tie.Need-part-put-row-end Inv-loop μ-loop
 part-put-row-end c = le-refl _
 
 put-row-requires : tie.Need-put-row-requires Inv-loop μ-loop
-unfolding rowsText
+unfolding boardRows
 put-row-requires c κs =
     let l = c .before .before .loop in
-    (c .before .loop-test .taken, room-more (rowText (c .before .before .before .before .before .args .cells .now)) (l .rank) 9 (l .inv .1) (c .before .loop-test .taken) (c .before .before .before .before .before .pre))
+    (c .before .loop-test .taken, room-more (boardRow (c .before .before .before .before .before .args .cells .now)) (l .rank) 9 (l .inv .1) (c .before .loop-test .taken) (c .before .before .before .before .before .pre))
 
 add-at : tie.Need-add-at Inv-loop μ-loop
 add-at c = sum-fits (then (c .before .before .before .before .before .loop .inv .1) (c .before .before .put-row .ensures)) (c .before .before .before .before .before .before .before .before .good .0 .0)
@@ -52,11 +52,11 @@ same-length : tie.Need-same-length Inv-loop μ-loop
 same-length c = wrote-length (c .before .loop .inv .1)
 
 returns : tie.Need-returns Inv-loop μ-loop
-unfolding rowsText
+unfolding boardRows
 returns c =
     let l = c .before .loop in
     let z : l .rank ≡ 9 = omega arith in
-    as-text (ap (upTo (rowText (c .before .before .before .before .args .cells .now))) z) (l .inv .1)
+    as-text (ap (upTo (boardRow (c .before .before .before .before .args .cells .now))) z) (l .inv .1)
 
 pub put-rows-spec : {M : Type 1} → statement M
 put-rows-spec =

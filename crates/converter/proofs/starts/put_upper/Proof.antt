@@ -4,7 +4,7 @@ use native.Mathlib.Nat.{le-refl}
 use mathlib.Core.List.{_++_}
 use borrow.Author.Needs.{needs}
 use Rattle.lent.proofs.Writes.{then, wrote-length, sum-fits, within}
-use Rattle.converter.specs.Diagrams.{presetLine, handLine, boardText}
+use Rattle.converter.specs.Diagrams.{presetLine, handLineText, boardText}
 use Rattle.converter.proofs.starts.put_upper.Statement.{statement}
 use Rattle.converter.proofs.starts.put_upper.Tie as tie
 use Rattle.lent.proofs.Room.{room-front, room-after}
@@ -12,7 +12,7 @@ use Rattle.lent.proofs.Room.{room-front, room-after}
 put-preset-line-requires : tie.Need-put-preset-line-requires
 put-preset-line-requires c κs =
     let p = c .before .before .before .before .args .p in
-    room-front (presetLine 16) (handLine (p .hands) 1) (room-front (presetLine 16 ++ handLine (p .hands) 1) (boardText (p .cells)) (c .before .before .before .before .pre))
+    room-front (presetLine 16) (handLineText (p .hands) 1) (room-front (presetLine 16 ++ handLineText (p .hands) 1) (boardText (p .cells)) (c .before .before .before .before .pre))
 
 sub-put-hand-line : tie.Need-sub-put-hand-line
 sub-put-hand-line c = within (c .before .before .put-preset-line .ensures)
@@ -29,7 +29,7 @@ slice-aggregate-put-hand-line c = search needs
 put-hand-line-requires : tie.Need-put-hand-line-requires
 put-hand-line-requires c κs =
     let p = c .before .before .before .before .before .before .before .before .before .args .p in
-    let t = handLine (p .hands) 1 in
+    let t = handLineText (p .hands) 1 in
     (search needs, room-after t (c .before .before .before .before .put-preset-line .ensures) (room-front (presetLine 16 ++ t) (boardText (p .cells)) (c .before .before .before .before .before .before .before .before .before .pre)))
 
 add-m : tie.Need-add-m

@@ -10,23 +10,23 @@ use borrow.Author.Needs.{needs}
 use Rattle.converter.proofs.usuals.put_long_name.Statement.{statement}
 use Rattle.converter.proofs.usuals.put_long_name.Tie as tie
 
-shared-slice-read-kind-key : tie.Need-shared-slice-read-kind-key
-shared-slice-read-kind-key c = search needs
+shared-slice-read-kind-code : tie.Need-shared-slice-read-kind-code
+shared-slice-read-kind-code c = search needs
 
-kind-key-requires : tie.Need-kind-key-requires
-kind-key-requires c κs = tt
+kind-code-requires : tie.Need-kind-code-requires
+kind-code-requires c κs = tt
 
 shared-slice-read-if1 : tie.Need-shared-slice-read-if1
 shared-slice-read-if1 c = search needs
 
-shared-slice-read-kind-key-2 : tie.Need-shared-slice-read-kind-key-2
-shared-slice-read-kind-key-2 c = search needs
+shared-slice-read-kind-code-2 : tie.Need-shared-slice-read-kind-code-2
+shared-slice-read-kind-code-2 c = search needs
 
-sub-kind-key : tie.Need-sub-kind-key
-sub-kind-key c = search needs
+sub-kind-code : tie.Need-sub-kind-code
+sub-kind-code c = search needs
 
-kind-key-requires-2 : tie.Need-kind-key-requires-2
-kind-key-requires-2 c κs = tt
+kind-code-requires-2 : tie.Need-kind-code-requires-2
+kind-code-requires-2 c κs = tt
 
 cast-t6 : tie.Need-cast-t6
 cast-t6 c = low-byte _
@@ -69,7 +69,7 @@ returns c =
     let s = c .before .before .before .before .before .before .before .before .before .before .before .before .before .before in
     let row = now (s .args .row) in
     let u = s .pre .0 in
-    let k = c .before .before .before .before .before .before .before .before .before .before .kind-key in
+    let k = c .before .before .before .before .before .before .before .before .before .before .kind-code in
     let l = c .before .before .before .before .before .before .before .before .if1 in
     let second = ⊎-elim (λ w. second-kind row u (w .0 .taken) (w .3 ∙ w .2 .ensures)) (λ w. second-promoted row u (w .0 .left) (w .1)) (l .came) in
     bytes-of (long-text row u (k .result) (l .l) (s .pre .1) (first-kind row u (k .ensures)) second) (s .pre .2) (c .before .before .put-bytes .ensures)
@@ -81,12 +81,12 @@ pub put-long-name-spec : {M : Type 1} → statement M
 put-long-name-spec =
     tie.close
     (tie.spec
-    shared-slice-read-kind-key
-    kind-key-requires
+    shared-slice-read-kind-code
+    kind-code-requires
     shared-slice-read-if1
-    shared-slice-read-kind-key-2
-    sub-kind-key
-    kind-key-requires-2
+    shared-slice-read-kind-code-2
+    sub-kind-code
+    kind-code-requires-2
     cast-t6
     cast-t20
     cast-t22

@@ -21,11 +21,11 @@ returns c = search needs
 same-length : tie.Need-same-length
 same-length c = wrote-length (returns c)
 
-shared-slice-read-kind-key : tie.Need-shared-slice-read-kind-key
-shared-slice-read-kind-key c = search needs
+shared-slice-read-kind-code : tie.Need-shared-slice-read-kind-code
+shared-slice-read-kind-code c = search needs
 
-kind-key-requires : tie.Need-kind-key-requires
-kind-key-requires c κs = tt
+kind-code-requires : tie.Need-kind-code-requires
+kind-code-requires c κs = tt
 
 cast-t8 : tie.Need-cast-t8
 cast-t8 c = low-byte _
@@ -57,7 +57,7 @@ put-bytes-requires c κs = tt
 returns-2 : tie.Need-returns-2
 returns-2 c =
     let s = c .before .before .before .before .before .before .before .before .before .before .before .before .before in
-    bytes-of (short-text (now (s .args .row)) (s .pre .0) (c .before .before .before .before .before .before .before .kind-key .result) (sym (c .before .before .before .before .before .before .before .before .before .before .is-long .ensures) ∙ c .before .before .before .before .before .before .before .before .before .if1 .left) (c .before .before .before .before .before .before .before .kind-key .ensures)) (s .pre .1) (c .before .before .put-bytes .ensures)
+    bytes-of (short-text (now (s .args .row)) (s .pre .0) (c .before .before .before .before .before .before .before .kind-code .result) (sym (c .before .before .before .before .before .before .before .before .before .before .is-long .ensures) ∙ c .before .before .before .before .before .before .before .before .before .if1 .left) (c .before .before .before .before .before .before .before .kind-code .ensures)) (s .pre .1) (c .before .before .put-bytes .ensures)
 
 same-length-2 : tie.Need-same-length-2
 same-length-2 c = wrote-length (returns-2 c)
@@ -70,8 +70,8 @@ put-name-spec =
     put-long-name-requires
     same-length
     returns
-    shared-slice-read-kind-key
-    kind-key-requires
+    shared-slice-read-kind-code
+    kind-code-requires
     cast-t8
     cast-t16
     cast-t18

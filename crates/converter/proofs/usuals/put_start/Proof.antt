@@ -26,11 +26,11 @@ add-file c = omega (arith, c .before .before .before .before .before .pre .0 .ta
 shared-slice-read-if2 : tie.Need-shared-slice-read-if2
 shared-slice-read-if2 c = search needs
 
-shared-slice-read-numeral-key : tie.Need-shared-slice-read-numeral-key
-shared-slice-read-numeral-key c = search needs
+shared-slice-read-numeral-code : tie.Need-shared-slice-read-numeral-code
+shared-slice-read-numeral-code c = search needs
 
-numeral-key-requires : tie.Need-numeral-key-requires
-numeral-key-requires c κs = tt
+numeral-code-requires : tie.Need-numeral-code-requires
+numeral-code-requires c κs = tt
 
 spaced-requires : tie.Need-spaced-requires
 spaced-requires c κs = search needs
@@ -89,8 +89,8 @@ put-start-spec =
     cast-file
     add-file
     shared-slice-read-if2
-    shared-slice-read-numeral-key
-    numeral-key-requires
+    shared-slice-read-numeral-code
+    numeral-code-requires
     spaced-requires
     spaced-requires-2
     add-t22

@@ -4,7 +4,7 @@ use native.Mathlib.Nat.{le-refl}
 use mathlib.Core.Path.{sym}
 use denote.Ref.{now}
 use Rattle.lent.proofs.Writes.{as-text, then, wrote-length, sum-fits, within}
-use Rattle.converter.specs.Usuals.{nameText, clocksText}
+use Rattle.converter.specs.inner.Usuals.{nameText, clocksText}
 use Rattle.lent.proofs.Room.{room-after}
 use Rattle.converter.proofs.Usually.{usual-line, usual-room}
 use Rattle.converter.proofs.usuals.put_usual.Statement.{statement}

@@ -1,7 +1,7 @@
 -- The test is the definition's.
 -- Assumes nothing.
 use borrow.Author.Tests.{lt-ltb, le-ltb}
-use Rattle.converter.specs.Usuals.{spaced}
+use Rattle.converter.specs.inner.Usuals.{spaced}
 use borrow.Author.Needs.{needs}
 use Rattle.converter.proofs.usuals.spaced.Statement.{statement}
 use Rattle.converter.proofs.usuals.spaced.Tie as tie

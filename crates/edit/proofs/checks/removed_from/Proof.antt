@@ -7,7 +7,7 @@ use denote.Ref.{now}
 use borrow.Author.Needs.{needs}
 use Rattle.block.specs.Decode.{run, decode}
 use Rattle.edit.specs.Edit.{playsIn, notBelow, removedFrom}
-use Rattle.edit.specs.Splicing.{playIn}
+use Rattle.edit.specs.inner.Splicing.{playIn}
 use Rattle.edit.proofs.Played.{removed-is, below-passes, passes-on, passes-stop, passes-none}
 use Rattle.edit.proofs.checks.removed_from.Statement.{statement}
 use Rattle.edit.proofs.checks.removed_from.Tie as tie

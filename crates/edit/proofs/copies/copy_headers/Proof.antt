@@ -4,7 +4,8 @@ use Prim.Native.Nat.{ℕ, _-_}
 use native.Mathlib.Omega.{arith}
 use mathlib.Core.Path.{_≡_, subst}
 use Rattle.block.specs.Decode.{run, headerIn}
-use Rattle.filling.specs.Filling.{header, putHeader, putHeaders}
+use Rattle.filling.specs.Filling.{header, putHeader}
+use Rattle.filling.specs.inner.Parts.{putHeaders}
 use Rattle.filling.proofs.Growing.{Doing, header-size}
 use Rattle.edit.proofs.Rests.{rest}
 use Rattle.edit.proofs.Copied.{run-start, run-step, run-done, header-copied}

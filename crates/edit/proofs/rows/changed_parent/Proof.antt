@@ -10,7 +10,7 @@ use borrow.Author.Needs.{needs}
 use Rattle.jkf.specs.Attaching.{Play}
 use Rattle.block.specs.Decode.{run, lineIn, decode}
 use Rattle.edit.specs.Edit.{changedFrom}
-use Rattle.edit.specs.Splicing.{AllRowed}
+use Rattle.edit.specs.inner.Splicing.{AllRowed}
 use Rattle.edit.proofs.Changing.{renumbered-near, changed-start, changed-none, changed-next, changed-here}
 use Rattle.edit.proofs.rows.changed_parent.Statement.{statement}
 use Rattle.edit.proofs.rows.changed_parent.Tie as tie

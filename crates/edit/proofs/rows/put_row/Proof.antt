@@ -11,20 +11,20 @@ use Rattle.edit.proofs.rows.put_row.Tie as tie
 parent-in-requires : tie.Need-parent-in-requires
 parent-in-requires c κs = search needs
 
-mul-put-line : tie.Need-mul-put-line
-mul-put-line c = search needs
+mul-put-line-row : tie.Need-mul-put-line-row
+mul-put-line-row c = search needs
 
-put-line-requires : tie.Need-put-line-requires
-put-line-requires c κs = search needs
+put-line-row-requires : tie.Need-put-line-row-requires
+put-line-row-requires c κs = search needs
 
 returns : tie.Need-returns
 returns c =
     let a = c .before .before .before .before .before .before .before .args in
-    row-stored (a .rows .now) (c .before .before .put-line .last .0) (a .i) (a .start) (a .first) (a .count) (c .before .before .before .before .parent-in .result) (c .before .before .put-line .result) (c .before .before .before .before .before .before .before .pre) (c .before .before .before .before .parent-in .ensures) (c .before .before .put-line .ensures)
+    row-stored (a .rows .now) (c .before .before .put-line-row .last .0) (a .i) (a .start) (a .first) (a .count) (c .before .before .before .before .parent-in .result) (c .before .before .put-line-row .result) (c .before .before .before .before .before .before .before .pre) (c .before .before .before .before .parent-in .ensures) (c .before .before .put-line-row .ensures)
 
 same-length : tie.Need-same-length
 same-length c = ap length (returns c) ∙ simp length-put
 
 pub put-row-spec : {M : Type 1} → statement M
 put-row-spec =
-    tie.close (tie.spec parent-in-requires mul-put-line put-line-requires same-length returns)
+    tie.close (tie.spec parent-in-requires mul-put-line-row put-line-row-requires same-length returns)

@@ -6,7 +6,7 @@ use mathlib.Core.List.{[], _∷_}
 use lib.ListN.{length}
 use Rattle.block.specs.Encode.{encode}
 use Rattle.edit.specs.Edit.{variationOf}
-use Rattle.edit.specs.Splicing.{recordAfter}
+use Rattle.edit.specs.inner.Splicing.{recordAfter}
 use Rattle.edit.proofs.Texts.{line-entries}
 use Rattle.edit.proofs.Measured.{extent-small, added-one}
 use Rattle.edit.proofs.Assembled.{begun-stored, refused-stored, put-between, stored-size}

@@ -17,8 +17,8 @@ has-comment-requires c κs = search needs
 returns : tie.Need-returns
 returns c = let a = c .before .before .before .before .args in comment-none (a .c .now) (a .w) (a .out .now) (sym (c .before .has-comment .ensures) ∙ not-true _ (c .if1 .taken))
 
-put-comment-requires : tie.Need-put-comment-requires
-put-comment-requires c κs = search needs
+put-comment-row-requires : tie.Need-put-comment-row-requires
+put-comment-row-requires c κs = search needs
 
 add-text : tie.Need-add-text
 add-text c = let a = c .before .before .before .before .before .before .before .before .args in let b : length (a .out .now) < 9223372036854775808 = search needs in omega (arith, comment-room (length (a .c .now)) (a .w) (length (a .out .now)) (sym (c .before .before .before .before .before .has-comment .ensures) ∙ not-false _ (c .before .before .before .before .if1 .left)) .text, b)
@@ -30,7 +30,7 @@ part-put-bytes-start : tie.Need-part-put-bytes-start
 part-put-bytes-start c = search needs
 
 part-put-bytes-end : tie.Need-part-put-bytes-end
-part-put-bytes-end c = let a = c .before .before .before .before .before .before .before .before .args in let l : length (c .before .before .put-comment .last .0) ≡ length (a .out .now) = ap length (c .before .before .put-comment .ensures .bytes) ∙ simp length-put in omega (arith, comment-room (length (a .c .now)) (a .w) (length (a .out .now)) (sym (c .before .before .before .before .before .has-comment .ensures) ∙ not-false _ (c .before .before .before .before .if1 .left)) .text, l)
+part-put-bytes-end c = let a = c .before .before .before .before .before .before .before .before .args in let l : length (c .before .before .put-comment-row .last .0) ≡ length (a .out .now) = ap length (c .before .before .put-comment-row .ensures .bytes) ∙ simp length-put in omega (arith, comment-room (length (a .c .now)) (a .w) (length (a .out .now)) (sym (c .before .before .before .before .before .has-comment .ensures) ∙ not-false _ (c .before .before .before .before .if1 .left)) .text, l)
 
 put-bytes-requires : tie.Need-put-bytes-requires
 put-bytes-requires c κs = search needs
@@ -45,7 +45,7 @@ same-length : tie.Need-same-length
 same-length c = search needs
 
 returns-2 : tie.Need-returns-2
-returns-2 c = let a = c .before .before .before .before .before .before .before .before .before .before .before .before .before .before .args in let added : a .w .text + length (a .c .now) - a .w .text ≡ length (a .c .now) = omega arith in comment-done (a .c .now) (a .w) (a .out .now) (sym (c .before .before .before .before .before .before .before .before .before .before .before .has-comment .ensures) ∙ not-false _ (c .before .before .before .before .before .before .before .before .before .before .if1 .left)) (c .before .before .before .before .before .before .before .before .put-comment .ensures) (c .before .before .before .before .put-bytes .ensures) added
+returns-2 c = let a = c .before .before .before .before .before .before .before .before .before .before .before .before .before .before .args in let added : a .w .text + length (a .c .now) - a .w .text ≡ length (a .c .now) = omega arith in comment-done (a .c .now) (a .w) (a .out .now) (sym (c .before .before .before .before .before .before .before .before .before .before .before .has-comment .ensures) ∙ not-false _ (c .before .before .before .before .before .before .before .before .before .before .if1 .left)) (c .before .before .before .before .before .before .before .before .put-comment-row .ensures) (c .before .before .before .before .put-bytes .ensures) added
 
 pub put-comment-spec : {M : Type 1} → statement M
 put-comment-spec =
@@ -53,7 +53,7 @@ put-comment-spec =
     (tie.spec
     has-comment-requires
     returns
-    put-comment-requires
+    put-comment-row-requires
     add-text
     sub-put-bytes
     part-put-bytes-start

@@ -24,8 +24,8 @@ returns-2 c = let a = c .before .before .before .before .before .args in entry-p
 first-comment-requires : tie.Need-first-comment-requires
 first-comment-requires c κs = search needs
 
-put-entry-requires : tie.Need-put-entry-requires
-put-entry-requires c κs = search needs
+put-entry-row-requires : tie.Need-put-entry-row-requires
+put-entry-row-requires c κs = search needs
 
 add-t8 : tie.Need-add-t8
 add-t8 c = omega (arith, leb-true (c .before .before .before .before .before .before .before .before .before .before .before .args .w .entries + 1) 18446744073709551615 (sym (c .before .before .before .before .before .before .before .has-room2 .ensures) ∙ not-false _ (c .before .before .before .before .before .before .if2 .left)))
@@ -34,7 +34,7 @@ same-length : tie.Need-same-length
 same-length c = search needs
 
 returns-3 : tie.Need-returns-3
-returns-3 c = let a = c .before .before .before .before .before .before .before .before .before .before .before .args in entry-done (a .e) (a .first) (a .count) (a .w) (a .out .now) (sym (c .before .before .before .before .before .before .before .before .before .has-room .ensures) ∙ not-false _ (c .before .before .before .before .before .before .before .before .if1 .left)) (sym (c .before .before .before .before .before .before .before .has-room2 .ensures) ∙ not-false _ (c .before .before .before .before .before .before .if2 .left)) (c .before .before .before .before .first-comment .ensures) (c .before .before .before .put-entry .ensures)
+returns-3 c = let a = c .before .before .before .before .before .before .before .before .before .before .before .args in entry-done (a .e) (a .first) (a .count) (a .w) (a .out .now) (sym (c .before .before .before .before .before .before .before .before .before .has-room .ensures) ∙ not-false _ (c .before .before .before .before .before .before .before .before .if1 .left)) (sym (c .before .before .before .before .before .before .before .has-room2 .ensures) ∙ not-false _ (c .before .before .before .before .before .before .if2 .left)) (c .before .before .before .before .first-comment .ensures) (c .before .before .before .put-entry-row .ensures)
 
 pub put-entry-spec : {M : Type 1} → statement M
 put-entry-spec =
@@ -45,7 +45,7 @@ put-entry-spec =
     has-room-requires-2
     returns-2
     first-comment-requires
-    put-entry-requires
+    put-entry-row-requires
     add-t8
     same-length
     returns-3)

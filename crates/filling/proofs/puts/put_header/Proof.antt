@@ -18,8 +18,8 @@ returns c = let a = c .before .before .before .before .before .args in header-no
 add-middle : tie.Need-add-middle
 add-middle c = let a = c .before .before .before .before .before .before .args in omega (arith, header-room (length (a .key .now)) (length (a .value .now)) (a .w) (length (a .out .now)) (sym (c .before .before .has-header .ensures) ∙ not-false _ (c .before .if1 .left)) .bytes)
 
-put-header-requires : tie.Need-put-header-requires
-put-header-requires c κs = search needs
+put-header-row-requires : tie.Need-put-header-row-requires
+put-header-row-requires c κs = search needs
 
 put-at-requires : tie.Need-put-at-requires
 put-at-requires c κs = search needs
@@ -34,7 +34,7 @@ same-length : tie.Need-same-length
 same-length c = search needs
 
 returns-2 : tie.Need-returns-2
-returns-2 c = let a = c .before .before .before .before .before .before .before .before .before .before .before .before .before .before .before .before .before .before .args in header-done (a .key .now) (a .value .now) (a .w) (a .out .now) (sym (c .before .before .before .before .before .before .before .before .before .before .before .before .before .before .has-header .ensures) ∙ not-false _ (c .before .before .before .before .before .before .before .before .before .before .before .before .before .if1 .left)) (c .before .before .before .before .before .before .before .before .before .before .put-header .ensures) (c .before .before .before .before .before .before .put-at .ensures) (c .before .before .put-at2 .ensures)
+returns-2 c = let a = c .before .before .before .before .before .before .before .before .before .before .before .before .before .before .before .before .before .before .args in header-done (a .key .now) (a .value .now) (a .w) (a .out .now) (sym (c .before .before .before .before .before .before .before .before .before .before .before .before .before .before .has-header .ensures) ∙ not-false _ (c .before .before .before .before .before .before .before .before .before .before .before .before .before .if1 .left)) (c .before .before .before .before .before .before .before .before .before .before .put-header-row .ensures) (c .before .before .before .before .before .before .put-at .ensures) (c .before .before .put-at2 .ensures)
 
 pub put-header-spec : {M : Type 1} → statement M
 put-header-spec =
@@ -43,7 +43,7 @@ put-header-spec =
     has-header-requires
     returns
     add-middle
-    put-header-requires
+    put-header-row-requires
     put-at-requires
     put-at-requires-2
     add-t10

@@ -13,15 +13,15 @@ has-room-requires c κs = search needs
 returns : tie.Need-returns
 returns c = let a = c .before .before .before .args in line-none (a .start) (a .first) (a .count) (a .parent) (a .w) (a .out .now) (sym (c .before .has-room .ensures) ∙ not-true _ (c .if1 .taken))
 
-put-line-requires : tie.Need-put-line-requires
-put-line-requires c κs = search needs
+put-line-row-requires : tie.Need-put-line-row-requires
+put-line-row-requires c κs = search needs
 
 same-length : tie.Need-same-length
 same-length c = search needs
 
 returns-2 : tie.Need-returns-2
-returns-2 c = let a = c .before .before .before .before .before .before .before .args in line-done (a .start) (a .first) (a .count) (a .parent) (a .w) (a .out .now) (sym (c .before .before .before .before .before .has-room .ensures) ∙ not-false _ (c .before .before .before .before .if1 .left)) (c .before .before .put-line .ensures)
+returns-2 c = let a = c .before .before .before .before .before .before .before .args in line-done (a .start) (a .first) (a .count) (a .parent) (a .w) (a .out .now) (sym (c .before .before .before .before .before .has-room .ensures) ∙ not-false _ (c .before .before .before .before .if1 .left)) (c .before .before .put-line-row .ensures)
 
 pub put-line-spec : {M : Type 1} → statement M
 put-line-spec =
-    tie.close (tie.spec has-room-requires returns put-line-requires same-length returns-2)
+    tie.close (tie.spec has-room-requires returns put-line-row-requires same-length returns-2)

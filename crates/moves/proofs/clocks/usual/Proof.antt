@@ -7,7 +7,7 @@ use denote.Ref.{now}
 use lib.ListN.{getD}
 use Rattle.moves.proofs.Clocking.{usual-time}
 use Rattle.text.proofs.Laws.{digit-bounds}
-use Rattle.moves.specs.Usuals.{Two}
+use Rattle.moves.specs.inner.Usuals.{Two}
 use borrow.Author.Needs.{needs}
 use Rattle.moves.proofs.clocks.usual.Statement.{statement}
 use Rattle.moves.proofs.clocks.usual.Tie as tie

@@ -1,6 +1,6 @@
 -- The answers of the steps, handed on as the definition hands them on.
 -- Assumes nothing.
-use Rattle.moves.specs.Endings.{endingAt}
+use Rattle.moves.specs.inner.Lines.{endingAt}
 use Rattle.moves.proofs.played.ending.Statement.{statement}
 use Rattle.moves.proofs.played.ending.Tie as tie
 

@@ -1,6 +1,6 @@
 -- The answers of the steps, handed on as the definition hands them on.
 -- Assumes nothing.
-use Rattle.moves.specs.Moves.{pieceAt}
+use Rattle.moves.specs.Moves.{kindToOriginAt}
 use Rattle.moves.proofs.played.piece.Statement.{statement}
 use Rattle.moves.proofs.played.piece.Tie as tie
 
@@ -14,7 +14,7 @@ enum-told : tie.Need-enum-told
 enum-told c = c .match .keys2
 
 returns : tie.Need-returns
-unfolding pieceAt
+unfolding kindToOriginAt
 returns c = rw (← c .before .before .kind .ensures, c .enum-told .given .1)
 
 promote-requires : tie.Need-promote-requires
@@ -30,11 +30,11 @@ enum-told-2 : tie.Need-enum-told-2
 enum-told-2 c = c .match2 .keys2
 
 returns-2 : tie.Need-returns-2
-unfolding pieceAt
+unfolding kindToOriginAt
 returns-2 c = rw (← c .before .before .before .before .before .before .before .kind .ensures, c .before .before .before .before .before .kind2 .given .1, ← c .before .before .before .promote .ensures, ← c .before .before .move-from .ensures, c .enum-told2 .given .1)
 
 returns-3 : tie.Need-returns-3
-unfolding pieceAt
+unfolding kindToOriginAt
 returns-3 c = rw (← c .before .before .before .before .before .before .before .before .kind .ensures, c .before .before .before .before .before .before .kind2 .given .1, ← c .before .before .before .before .promote .ensures, ← c .before .before .before .move-from .ensures, c .before .from .given .1)
 
 pub piece-spec : {M : Type 1} → statement M

@@ -5,7 +5,7 @@ use native.Mathlib.Omega.{arith}
 use denote.Ref.{now}
 use borrow.Author.Tests.{eq-eqb, ne-eqb}
 use Rattle.spell.specs.Slots.{numberIn, numeralSlots}
-use Rattle.moves.specs.Usuals.{aimOf}
+use Rattle.moves.specs.inner.Usuals.{aimOf}
 use Rattle.moves.proofs.Usually.{by-key}
 use borrow.Author.Needs.{needs}
 use Rattle.moves.proofs.played.usual_aim.Statement.{statement}

@@ -4,7 +4,7 @@ use Prim.Native.Nat.{_+_}
 use native.Mathlib.Omega.{arith}
 use denote.Ref.{now}
 use Rattle.spell.specs.Slots.{numberIn, kindSlots, promotedIn}
-use Rattle.moves.specs.Usuals.{kindOf}
+use Rattle.moves.specs.inner.Usuals.{kindOf}
 use Rattle.moves.proofs.Usually.{by-key}
 use borrow.Author.Needs.{needs}
 use Rattle.moves.proofs.played.usual_kind.Statement.{statement}

@@ -1,7 +1,7 @@
 -- The cases of the definition.
 -- Assumes nothing.
 use borrow.Author.Tests.{eq-eqb, ne-eqb}
-use Rattle.moves.specs.Usuals.{markOf}
+use Rattle.moves.specs.inner.Usuals.{markOf}
 use borrow.Author.Needs.{needs}
 use Rattle.moves.proofs.played.usual_mark.Statement.{statement}
 use Rattle.moves.proofs.played.usual_mark.Tie as tie

@@ -1,7 +1,7 @@
 -- The tests are the definition's, in its order.
 -- Assumes nothing.
 use borrow.Author.Tests.{eq-eqb, ne-eqb}
-use Rattle.moves.specs.Endings.{beginsComment}
+use Rattle.moves.specs.Moves.{beginsComment}
 use Rattle.moves.proofs.remarks.begins_comment.Statement.{statement}
 use Rattle.moves.proofs.remarks.begins_comment.Tie as tie
 

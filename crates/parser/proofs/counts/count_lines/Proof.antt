@@ -1,7 +1,7 @@
 -- Each turn counts one line more, and skip lines with no line after them end it.
 -- Assumes nothing.
 use Rattle.parser.proofs.Sizing.{Sizing, sizing-start, counted-done, counted-bound, counted-less, counted-more}
-use Rattle.parser.specs.Lines.{mainExtents}
+use Rattle.parser.specs.inner.Lines.{mainExtents}
 use borrow.Author.Needs.{needs}
 use lib.ListN.{length}
 use mathlib.Core.Path.{_≡_, sym, subst}

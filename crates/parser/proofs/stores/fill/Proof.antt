@@ -3,7 +3,7 @@
 use lib.ListN.{length, replicate}
 use Prim.Native.Nat.{ℕ}
 use mathlib.Core.Path.{_≡_, sym, ap, _∙_, subst}
-use Rattle.parser.specs.Headers.{HeaderLines}
+use Rattle.parser.specs.inner.Headers.{HeaderLines}
 use Rattle.parser.proofs.Storing.{header-lines}
 use Rattle.parser.proofs.Completing.{lines-there, all-stored, none-stored}
 use borrow.Author.Needs.{needs}

@@ -2,8 +2,8 @@
 -- Assumes nothing.
 use native.Mathlib.Omega.{arith}
 use mathlib.Core.Path.{sym, ap, _∙_, subst}
-use Rattle.parser.specs.Headers.{HeaderLines}
-use Rattle.parser.specs.Lines.{extentsAt}
+use Rattle.parser.specs.inner.Headers.{HeaderLines}
+use Rattle.parser.specs.inner.Lines.{extentsAt}
 use Rattle.parser.proofs.Storing.{moves-within, header-lines, sizes-are, bounds}
 use Rattle.parser.proofs.Completing.{prepared-so, refused-so, opened-so, stored-so}
 use borrow.Author.Needs.{needs}

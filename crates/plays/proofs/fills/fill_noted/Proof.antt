@@ -1,8 +1,7 @@
 -- The comments first, and then the entry, whose bytes say how many they are.
 -- Assumes nothing.
 use Rattle.plays.specs.Plays.{commentsAt}
-use Rattle.plays.proofs.Filled.{noted-done}
-use Rattle.filling.proofs.Growing.{comments-more}
+use Rattle.filling.proofs.Growing.{comments-more, noted-done}
 use Rattle.filling.specs.declared.Walk.{Walk}
 use mathlib.Core.Path.{ap}
 use native.Mathlib.Omega.{arith}

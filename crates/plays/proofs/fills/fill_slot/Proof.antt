@@ -2,8 +2,7 @@
 -- Assumes nothing.
 use Rattle.jkf.specs.declared.Entry.the-variants.{Slot}
 use Rattle.plays.specs.Plays.{commentsAt}
-use Rattle.plays.proofs.Filled.{noted-done}
-use Rattle.filling.proofs.Growing.{comments-more}
+use Rattle.filling.proofs.Growing.{comments-more, noted-done}
 use Rattle.filling.specs.declared.Walk.{Walk}
 use mathlib.Core.Path.{ap}
 use native.Mathlib.Omega.{arith}

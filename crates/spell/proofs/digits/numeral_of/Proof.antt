@@ -1,4 +1,4 @@
--- The row in the slot of the key has the key, and then its number is the answer, or it has not.
+-- The row in the slot of the code has the code, and then its number is the answer, or it has not.
 -- Assumes nothing.
 use borrow.Author.Tests.{eq-eqb, ne-eqb}
 use Rattle.spell.specs.Slots.{numberIn}
@@ -6,23 +6,23 @@ use borrow.Author.Needs.{needs}
 use Rattle.spell.proofs.digits.numeral_of.Statement.{statement}
 use Rattle.spell.proofs.digits.numeral_of.Tie as tie
 
-key-requires : tie.Need-key-requires
-key-requires c κs = tt
+code-requires : tie.Need-code-requires
+code-requires c κs = tt
 
 numeral-row-requires : tie.Need-numeral-row-requires
 numeral-row-requires c κs = tt
 
 returns : tie.Need-returns
 unfolding numberIn
-returns c = rw (← c .before .before .key .ensures, ← c .before .numeral-row .ensures, ne-eqb _ _ (c .if1 .taken))
+returns c = rw (← c .before .before .code .ensures, ← c .before .numeral-row .ensures, ne-eqb _ _ (c .if1 .taken))
 
 cast-result : tie.Need-cast-result
 cast-result c = search needs
 
 returns-2 : tie.Need-returns-2
 unfolding numberIn
-returns-2 c = rw (← c .before .before .key .ensures, ← c .before .numeral-row .ensures, eq-eqb _ _ (c .if1 .left))
+returns-2 c = rw (← c .before .before .code .ensures, ← c .before .numeral-row .ensures, eq-eqb _ _ (c .if1 .left))
 
 pub numeral-of-spec : {M : Type 1} → statement M
 numeral-of-spec =
-    tie.close (tie.spec key-requires numeral-row-requires returns cast-result returns-2)
+    tie.close (tie.spec code-requires numeral-row-requires returns cast-result returns-2)

@@ -1,4 +1,4 @@
--- The bytes of the key are the spelling (`digit-spelled`).
+-- The bytes of the code are the spelling (`digit-spelled`).
 -- Assumes nothing.
 use Prim.Native.Nat.{ℕ, _-_}
 use native.Mathlib.Omega.{arith}
@@ -7,8 +7,8 @@ use mathlib.Core.Path.{_≡_, sym, _∙_, ap, refl}
 use lib.ListN.{length, getD}
 use denote.Ref.{now}
 use borrow.Author.Needs.{needs}
-use Rattle.spell.proofs.Keys.{keys-length, digit-spelled, digit-unspelled}
-use Rattle.spell.specs.Spell.{bytesOf, keys}
+use Rattle.spell.proofs.Codes.{keys-length, digit-spelled, digit-unspelled}
+use Rattle.spell.specs.inner.Codes.{bytesOf, codes}
 use Rattle.lent.proofs.Writes.{as-text, nothing, fitting-nothing, low-byte}
 use Rattle.lent.specs.Bytes.{fitting}
 use Rattle.spell.proofs.digits.put_digit.Statement.{statement}
@@ -26,7 +26,7 @@ returns-2 : tie.Need-returns-2
 returns-2 c =
     let a = c .before .before .before .before .before .args in
     λ es d.
-    let l : length (now (a .keys)) ≡ length es = ap length (d .whole) ∙ keys-length es in
+    let l : length (now (a .codes)) ≡ length es = ap length (d .whole) ∙ keys-length es in
     as-text (sym (fitting-nothing _ (digit-unspelled 1 es (d .fits) (a .n) (λ p q. omega arith)))) (nothing _)
 
 mul-x : tie.Need-mul-x
@@ -59,8 +59,8 @@ returns-3 c =
     let o = now (a .out) in
     let i : c .before .before .before .before .before .before .before .before .wide .result - 1 ≡ a .n - 1 = omega arith in
     λ es d.
-    let l : length (now (a .keys)) ≡ length es = ap length (d .whole) ∙ keys-length es in
-    let k : getD (now (a .keys)) (c .before .before .before .before .before .before .before .before .wide .result - 1) 0 ≡ getD (keys es) (a .n - 1) 0 = ap (λ (m : ℕ). getD (now (a .keys)) m 0) i ∙ ap (λ (s : List ℕ). getD s (a .n - 1) 0) (d .whole) in
+    let l : length (now (a .codes)) ≡ length es = ap length (d .whole) ∙ keys-length es in
+    let k : getD (now (a .codes)) (c .before .before .before .before .before .before .before .before .wide .result - 1) 0 ≡ getD (codes es) (a .n - 1) 0 = ap (λ (m : ℕ). getD (now (a .codes)) m 0) i ∙ ap (λ (s : List ℕ). getD s (a .n - 1) 0) (d .whole) in
     let e = digit-spelled 1 es (d .fits) (a .n) (omega arith) (omega arith) in
     as-text (ap (λ (x : ℕ). fitting (bytesOf x) o) k ∙ ap (λ (t : List ℕ). fitting t o) (sym e)) (c .before .before .put-bytes .ensures)
 

@@ -5,7 +5,7 @@ use mathlib.Core.Path.{sym, _∙_}
 use denote.Ref.{now}
 use Rattle.spell.proofs.Counts.{tens-small, numeral-small}
 use Rattle.spell.proofs.Answers.{as-is}
-use Rattle.spell.specs.Count.{countAt}
+use Rattle.spell.specs.Count.{handCountAt}
 use Rattle.spell.proofs.kansuji.count.Statement.{statement}
 use Rattle.spell.proofs.kansuji.count.Tie as tie
 
@@ -22,7 +22,7 @@ numeral-requires : tie.Need-numeral-requires
 numeral-requires c κs = tt
 
 returns : tie.Need-returns
-unfolding countAt
+unfolding handCountAt
 returns c = rw (← c .before .before .before .tens .ensures, c .before .enum-told .given .1) (c .numeral .ensures)
 
 numeral-requires-2 : tie.Need-numeral-requires-2
@@ -35,7 +35,7 @@ enum-told-2 : tie.Need-enum-told-2
 enum-told-2 c = c .match2 .keys2
 
 returns-2 : tie.Need-returns-2
-unfolding countAt
+unfolding handCountAt
 returns-2 c = rw (← c .before .before .before .before .before .before .tens .ensures, c .before .before .before .before .t .given .1, ← c .before .before .numeral2 .ensures, c .enum-told2 .given .1)
 
 add-t9 : tie.Need-add-t9
@@ -46,7 +46,7 @@ add-t9 c =
     omega (arith, as-is (numeral-small s _) (sym (c .before .before .before .numeral2 .ensures) ∙ c .before .d .given .1) .small)
 
 returns-3 : tie.Need-returns-3
-unfolding countAt
+unfolding handCountAt
 returns-3 c = rw (← c .before .before .before .before .before .before .before .tens .ensures, c .before .before .before .before .before .t .given .1, ← c .before .before .before .numeral2 .ensures, c .before .d .given .1)
 
 pub count-spec : {M : Type 1} → statement M

@@ -6,7 +6,7 @@ use mathlib.Core.Bool.{false≢true}
 use mathlib.Core.Path.{_≡_}
 use denote.Ref.{now}
 use borrow.Author.Tests.{eqb-true}
-use Rattle.text.specs.Runs.{Run}
+use Rattle.text.specs.inner.Runs.{Run}
 use Rattle.text.specs.Text.{pastAll}
 use Rattle.text.specs.Utf8.{charWidth}
 use Rattle.text.proofs.Passing.{run-none, run-at, three-width, three-run, threes-on}

@@ -4,7 +4,7 @@ use Prim.Native.Nat.{_-_}
 use native.Mathlib.Omega.{arith}
 use lib.ListN.{length}
 use borrow.Author.Needs.{needs}
-use Rattle.text.specs.Runs.{Run}
+use Rattle.text.specs.inner.Runs.{Run}
 use Rattle.text.specs.Text.{pastAll}
 use Rattle.text.specs.Utf8.{charWidth}
 use Rattle.text.proofs.Passing.{run-none, run-on}

@@ -5,7 +5,7 @@ use native.Mathlib.Omega.{arith}
 use lib.ListN.{length}
 use denote.Ref.{now}
 use borrow.Author.Needs.{needs}
-use Rattle.text.specs.Runs.{Run}
+use Rattle.text.specs.inner.Runs.{Run}
 use Rattle.text.specs.Text.{pastAll}
 use Rattle.text.specs.Utf8.{charWidth}
 use Rattle.text.proofs.Passing.{run-on, three-run}

@@ -1,0 +1,3 @@
+pub mod Usuals
+pub mod Places
+pub mod Lines

@@ -1,0 +1,2 @@
+pub mod Usuals
+pub mod Lines

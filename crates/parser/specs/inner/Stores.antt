@@ -1,0 +1,39 @@
+-- What the reader knows of a text before it stores its block.
+-- Assumes nothing: these are definitions.
+use Prim.Native.Nat.{ℕ, _≤_}
+use mathlib.Core.Path.{_≡_}
+use mathlib.Core.List.{List}
+use lib.ListN.{length, replicate}
+use Rattle.jkf.specs.Attaching.{attach}
+use Rattle.jkf.specs.declared.Position.{Position}
+use Rattle.filling.specs.Filling.{lengthOf, begun, frontPut}
+use Rattle.filling.specs.inner.Parts.{sizesOf}
+use Rattle.filling.specs.declared.Sizes.{Sizes}
+use Rattle.filling.specs.declared.Walk.{Walk}
+use Rattle.sorted.specs.Sorted.{kept}
+use Rattle.kakinoki.specs.Starts.{startRead, headerPlaces}
+use Rattle.parser.specs.Parse.{Parsed}
+
+-- Room for the places of as many header lines as 65,535 bytes can hold.
+abbrev pub noPlaces : List ℕ
+noPlaces = replicate 13107 0
+
+-- What was read before the moves, and the places of the header lines by key.
+pub record Prepared (s : List ℕ) (p : Position) (at : ℕ) (hs : List ℕ) : Type 0 where
+  pub short : length s ≤ 65535
+  pub position : p ≡ startRead s .position
+  pub place : at ≡ startRead s .next .at
+  pub headers : hs ≡ kept s (headerPlaces s)
+
+-- The sizes of the block of what a text says.
+abbrev pub parsedSizes : Parsed → Sizes
+parsedSizes p = sizesOf (p .headers) (attach (p .plays))
+
+-- A block that fits is begun, and its front is filled into what was in the buffer before.
+pub record Opened (p : Parsed) (w : Walk) (n : ℕ) (o : List ℕ) : Type 0 where
+  pub before : List ℕ
+  pub walk : w ≡ begun (parsedSizes p)
+  pub total : n ≡ lengthOf (parsedSizes p)
+  pub most : n ≤ 65535
+  pub room : n ≤ length before
+  pub front : o ≡ frontPut 1 (parsedSizes p) (p .position) before
