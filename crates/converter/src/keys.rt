@@ -9,8 +9,21 @@ ghost use Rattle.converter.specs.Headers.{leadingKeys, leadingNumber};
 
 // A row is a key's length and its bytes, with zeros to 13.
 // 開始日時 終了日時 表題 棋戦 戦型 持ち時間 秒読み 場所 先手 下手 後手 上手   (the Rust's HEADER_ORDER)
-const KEYS: [u8; 156] =
-    *b"\x0c\xe9\x96\x8b\xe5\xa7\x8b\xe6\x97\xa5\xe6\x99\x82\x0c\xe7\xb5\x82\xe4\xba\x86\xe6\x97\xa5\xe6\x99\x82\x06\xe8\xa1\xa8\xe9\xa1\x8c\x00\x00\x00\x00\x00\x00\x06\xe6\xa3\x8b\xe6\x88\xa6\x00\x00\x00\x00\x00\x00\x06\xe6\x88\xa6\xe5\x9e\x8b\x00\x00\x00\x00\x00\x00\x0c\xe6\x8c\x81\xe3\x81\xa1\xe6\x99\x82\xe9\x96\x93\x09\xe7\xa7\x92\xe8\xaa\xad\xe3\x81\xbf\x00\x00\x00\x06\xe5\xa0\xb4\xe6\x89\x80\x00\x00\x00\x00\x00\x00\x06\xe5\x85\x88\xe6\x89\x8b\x00\x00\x00\x00\x00\x00\x06\xe4\xb8\x8b\xe6\x89\x8b\x00\x00\x00\x00\x00\x00\x06\xe5\xbe\x8c\xe6\x89\x8b\x00\x00\x00\x00\x00\x00\x06\xe4\xb8\x8a\xe6\x89\x8b\x00\x00\x00\x00\x00\x00";
+#[rattlefmt::skip]
+const KEYS: [u8; 156] = [
+    12, 0xe9, 0x96, 0x8b, 0xe5, 0xa7, 0x8b, 0xe6, 0x97, 0xa5, 0xe6, 0x99, 0x82, // 開始日時
+    12, 0xe7, 0xb5, 0x82, 0xe4, 0xba, 0x86, 0xe6, 0x97, 0xa5, 0xe6, 0x99, 0x82, // 終了日時
+    6, 0xe8, 0xa1, 0xa8, 0xe9, 0xa1, 0x8c, 0, 0, 0, 0, 0, 0, // 表題
+    6, 0xe6, 0xa3, 0x8b, 0xe6, 0x88, 0xa6, 0, 0, 0, 0, 0, 0, // 棋戦
+    6, 0xe6, 0x88, 0xa6, 0xe5, 0x9e, 0x8b, 0, 0, 0, 0, 0, 0, // 戦型
+    12, 0xe6, 0x8c, 0x81, 0xe3, 0x81, 0xa1, 0xe6, 0x99, 0x82, 0xe9, 0x96, 0x93, // 持ち時間
+    9, 0xe7, 0xa7, 0x92, 0xe8, 0xaa, 0xad, 0xe3, 0x81, 0xbf, 0, 0, 0, // 秒読み
+    6, 0xe5, 0xa0, 0xb4, 0xe6, 0x89, 0x80, 0, 0, 0, 0, 0, 0, // 場所
+    6, 0xe5, 0x85, 0x88, 0xe6, 0x89, 0x8b, 0, 0, 0, 0, 0, 0, // 先手
+    6, 0xe4, 0xb8, 0x8b, 0xe6, 0x89, 0x8b, 0, 0, 0, 0, 0, 0, // 下手
+    6, 0xe5, 0xbe, 0x8c, 0xe6, 0x89, 0x8b, 0, 0, 0, 0, 0, 0, // 後手
+    6, 0xe4, 0xb8, 0x8a, 0xe6, 0x89, 0x8b, 0, 0, 0, 0, 0, 0, // 上手
+];
 
 // The only leading key that a text can be, from 1, by the second byte of its first character, which only 下 and 上 share; 0 where there is none.
 fn likely_number(t: &[u8]) -> u8

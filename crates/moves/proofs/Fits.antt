@@ -30,7 +30,7 @@ use Rattle.jkf.specs.declared.Origin.the-variants.{From}
 use Rattle.jkf.specs.declared.Move.{Move}
 use Rattle.jkf.specs.declared.Entry.{Entry}
 use Rattle.jkf.specs.declared.Entry.the-variants.{Moved, End}
-use Rattle.moves.specs.Moves.{squareAt, moveToAt, promoteAt, originAt, moveFromAt, moveEntry, kindToOriginAt, moveAt, whatAt, hmsAt, msAt, clockAt, spacedAt, clocksAt, timing, timeAt, colorOf, finished, moveLineAt}
+use Rattle.moves.specs.Moves.{onWhat, squareAt, moveToAt, promoteAt, originAt, moveFromAt, moveEntry, kindToOriginAt, moveAt, whatAt, hmsAt, msAt, clockAt, spacedAt, clocksAt, timing, timeAt, colorOf, finished, moveLineAt}
 use Rattle.spell.specs.Words.{sameWord, promotes, declines, drops}
 use Rattle.moves.specs.Fits.{ClockFits, hmsFits, msFits, TimeFits, untimedFits, timedFits, TargetFits, sameFits, squareFits, OriginFits, fromFits, MoveFits, EntryFits, playFits, endFits}
 use Rattle.moves.specs.declared.Aim.{Aim}
@@ -38,6 +38,7 @@ use Rattle.moves.specs.declared.Source.{Source}
 use Rattle.moves.specs.declared.Mark.{Mark}
 use Rattle.moves.specs.declared.Clocked.{Clocked}
 use Rattle.moves.specs.declared.What.{What}
+use Rattle.moves.specs.declared.What.the-variants.{Is}
 use Rattle.moves.specs.declared.MoveLine.{MoveLine}
 use Rattle.moves.specs.declared.Timing.{Timing}
 use Rattle.moves.proofs.Figures.{figure-fits}
@@ -151,7 +152,7 @@ special-same n h = eqb-true _ _ (range-at (λ k. eqb (specialNumber (specialOf k
 pub what-fits : (s : List ℕ) (at : ℕ) → OnWhat (Read EntryFits at) (whatAt s at)
 unfolding whatAt
 what-fits s at =
-    by-spelled (OnWhat (Read EntryFits at)) (move-fits s at) (both-spelled (first-known 14 specials refl s at) (first-has specials s at))
+    by-spelled (λ (w : What). OnWhat (Read EntryFits at) (onWhat w (λ e c. Is e c) (moveAt s at))) (move-fits s at) (both-spelled (first-known 14 specials refl s at) (first-has specials s at))
     (λ n c h. is (record { fit = endFits (rw (special-same n (h .0 .small)) (h .1)) untimedFits; past = h .0 .past }))
 
 -- ---- a time

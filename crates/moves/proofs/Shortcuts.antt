@@ -28,9 +28,8 @@ use Rattle.jkf.specs.declared.Target.{Target}
 use Rattle.jkf.specs.declared.Target.the-variants.{Same, Square}
 use Rattle.jkf.specs.declared.Time.the-variants.{Untimed}
 use Rattle.jkf.specs.declared.Entry.{Entry}
-use Rattle.moves.specs.Moves.{colon, onClocked, onWhat, onMoveLine, timing, squareAt, moveToAt, kindToOriginAt, moveAt, whatAt, figureAt, hmsAt, msAt, clockAt, spacedAt, clocksAt, timeAt, colorOf, finished, moveLineAt, keptAt, commentLineAt, moveLineEndAt, beginsComment}
+use Rattle.moves.specs.Moves.{colon, onClocked, onWhat, onMoveLine, timing, squareAt, moveToAt, kindToOriginAt, moveAt, whatAt, figureAt, hmsAt, msAt, clockAt, spacedAt, clocksAt, timeAt, colorOf, finished, moveLineAt, keptAt, commentLineAt, moveLineEndAt, beginsComment, endingAt}
 use Rattle.spell.specs.Words.{sameWord}
-use Rattle.moves.specs.inner.Lines.{endingAt}
 use Rattle.moves.specs.declared.Aim.the-variants.{To, NoAim}
 use Rattle.moves.specs.declared.Clocked.{Clocked}
 use Rattle.moves.specs.declared.Clocked.the-variants.{Shows, NoClock}
@@ -76,8 +75,12 @@ what-move s at t c q = rw (aim-apart s at t c q, q)
 
 -- and what has none can only be a special
 pub what-ending : (s : List ℕ) (at : ℕ) → moveToAt s at ≡ NoAim → whatAt s at ≡ endingAt s at
-unfolding whatAt moveAt endingAt
-what-ending s at q = rw q
+unfolding whatAt moveAt
+what-ending s at q = rw q (alone (endingAt s at))
+  where
+    alone : (w : What) → onWhat w (λ e c. Is e c) Nothing ≡ w
+    alone (Is e c) = refl
+    alone Nothing = refl
 
 -- ---- a clock in one pass
 

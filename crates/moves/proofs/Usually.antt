@@ -25,9 +25,8 @@ use Rattle.spell.specs.declared.Spelled.the-variants.{As}
 use Rattle.spell.proofs.Codes.{key-of}
 use Rattle.spell.proofs.Lookups.{numeral-known, kind-known, file-known, promoted-known}
 use Rattle.jkf.specs.declared.Origin.the-variants.{From}
-use Rattle.moves.specs.Moves.{mark, squareAt, moveToAt, promoteAt, originAt, moveFromAt, kindToOriginAt, whatAt, timeAt, colorOf, finished, moveLineAt}
+use Rattle.moves.specs.Moves.{mark, squareAt, moveToAt, promoteAt, originAt, moveFromAt, kindToOriginAt, whatAt, timeAt, colorOf, finished, moveLineAt, playedLine}
 use Rattle.spell.specs.Words.{promotes}
-use Rattle.moves.specs.inner.Lines.{playedLine}
 use Rattle.moves.specs.inner.Usuals.{Two, twoDigits, Usual, aimOf, kindOf, markOf, entryOf, Bracketed, UsualTarget, UsualKind, UsualMove}
 use Rattle.moves.specs.declared.Source.the-variants.{Out}
 use Rattle.moves.specs.declared.What.the-variants.{Is}
@@ -187,13 +186,12 @@ origin-digits s at width u =
 
 -- a line after its number
 pub line-played : (s : List ℕ) (at : ℕ) → moveLineAt s at ≡ onNumber (digitsAt 18446744073709551615 s (blanksAt s at)) (λ n c. playedLine n s (blanksAt s (c .at))) NoLine
-unfolding moveLineAt playedLine
+unfolding moveLineAt
 line-played s at = refl
 
 -- with a time at t in the usual form
 pub usual-played : (s : List ℕ) (n at width t : ℕ) → UsualMove s at width → Usual s t → t ≡ blanksAt s (at + width)
     → playedLine n s at ≡ onPlace (lineEndAt s (t + 16)) (λ f. Numbered n (finished (colorOf n) (timeAt s t .time) (entryOf s at width)) f) NoLine
-unfolding playedLine
 usual-played s n at width t u v e =
     let z = ap (λ k. k .next .at) (usual-time s t (t + 7) (t + 7 + 3) (t + 7 + 6) v refl refl refl) in
     rw (usual-what s at width u, ← e, z)

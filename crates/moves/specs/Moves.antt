@@ -115,9 +115,13 @@ kindToOriginAt to s at =
 unfoldable pub moveAt : List ℕ → ℕ → What
 moveAt s at = onAim (moveToAt s at) (λ t c. kindToOriginAt t s (c .at)) Nothing
 
+-- A special.
+abbrev pub endingAt : List ℕ → ℕ → What
+endingAt s at = onSpelled (firstOf specials s at) (λ n c. Is (End (specialOf n) Untimed) c) Nothing
+
 -- A special or a move.                                                                               (the Rust's move_special)
 unfoldable pub whatAt : List ℕ → ℕ → What
-whatAt s at = onSpelled (firstOf specials s at) (λ n c. Is (End (specialOf n) Untimed) c) (moveAt s at)
+whatAt s at = onWhat (endingAt s at) (λ e c. Is e c) (moveAt s at)
 
 -- ---- a time
 
@@ -171,16 +175,19 @@ finished color t Slot = Slot
 finished color t (Moved m) = Moved (record { color = color; piece = m .piece; promote = m .promote; to = m .to; from = m .from; time = t })
 finished color t (End x u) = End x t
 
--- The number, the special or the move, and the time if it can be read, with blanks before each; then the rest of the line.  (the Rust's move_line)
-unfoldable pub moveLineAt : List ℕ → ℕ → MoveLine
-moveLineAt s at =
-    onNumber (digitsAt 18446744073709551615 s (blanksAt s at))
-    (λ n c. onWhat (whatAt s (blanksAt s (c .at)))
+-- A move line of number n, from its special or move on: blanks, the time if it can be read, the rest of the line.
+abbrev pub playedLine : ℕ → List ℕ → ℕ → MoveLine
+playedLine n s at =
+    onWhat (whatAt s at)
     (λ e d. onPlace (lineEndAt s (timeAt s (blanksAt s (d .at)) .next .at))
     (λ f. Numbered n (finished (colorOf n) (timeAt s (blanksAt s (d .at)) .time) e) f)
     NoLine)
-    NoLine)
     NoLine
+
+-- The number with blanks before it, blanks, and what is played.                                      (the Rust's move_line)
+unfoldable pub moveLineAt : List ℕ → ℕ → MoveLine
+moveLineAt s at =
+    onNumber (digitsAt 18446744073709551615 s (blanksAt s at)) (λ n c. playedLine n s (blanksAt s (c .at))) NoLine
 
 -- The place past a move line.
 unfoldable pub moveLineEndAt : List ℕ → ℕ → Place

@@ -1,2 +1,1 @@
 pub mod Usuals
-pub mod Lines

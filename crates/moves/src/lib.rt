@@ -20,8 +20,7 @@ use text::Place;
 ghost use mathlib.Core.Path.{_≡_};
 ghost use Prim.Native.Nat.{_+_};
 ghost use Rattle.text.specs.Text.{blanksAt};
-ghost use Rattle.moves.specs.Moves.{moveLineEndAt, colorOf, finished, moveLineAt};
-ghost use Rattle.moves.specs.inner.Lines.{playedLine};
+ghost use Rattle.moves.specs.Moves.{moveLineEndAt, colorOf, finished, moveLineAt, playedLine};
 ghost use Rattle.moves.specs.inner.Usuals.{Usual, UsualMove};
 
 // Where a move goes, and the place past it.

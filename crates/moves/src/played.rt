@@ -17,9 +17,8 @@ ghost use mathlib.Core.Bool.{true};
 ghost use Prim.Native.Nat.{_+_, _≤_, _<_};
 ghost use lib.ListN.{length, getD};
 ghost use Rattle.text.specs.Text.{standsAt};
-ghost use Rattle.moves.specs.Moves.{squareAt, moveToAt, promoteAt, originAt, moveFromAt, kindToOriginAt, whatAt, finished};
+ghost use Rattle.moves.specs.Moves.{squareAt, moveToAt, promoteAt, originAt, moveFromAt, kindToOriginAt, whatAt, finished, endingAt};
 ghost use Rattle.spell.specs.Words.{promotes};
-ghost use Rattle.moves.specs.inner.Lines.{endingAt};
 ghost use Rattle.moves.specs.inner.Usuals.{Bracketed, UsualTarget, UsualKind, UsualMove, aimOf, kindOf, markOf, entryOf};
 
 // A file and a rank.

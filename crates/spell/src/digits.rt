@@ -75,15 +75,15 @@ fn numeral_row(h: u32) -> u32
     ensures { λ r. ⌜ r ≡ look numeralSlots h ⌝ }
 {
     match h {
-        1 => 0xe4ba945,
-        5 => 0xe4b8893,
-        6 => 0xe585ab8,
-        8 => 0xe585ad6,
-        9 => 0xe4b99d9,
-        10 => 0xe4ba8c2,
-        12 => 0xe59b9b4,
-        13 => 0xe4b8801,
-        16 => 0xe4b8837,
+        1 => 0xe4ba945, // 五
+        5 => 0xe4b8893, // 三
+        6 => 0xe585ab8, // 八
+        8 => 0xe585ad6, // 六
+        9 => 0xe4b99d9, // 九
+        10 => 0xe4ba8c2, // 二
+        12 => 0xe59b9b4, // 四
+        13 => 0xe4b8801, // 一
+        16 => 0xe4b8837, // 七
         _ => u32::MAX,
     }
 }
@@ -138,15 +138,15 @@ pub fn numeral_code(n: u8) -> u32
     ensures { λ r. ⌜ r ≡ code (spelled numerals n) ⌝ }
 {
     match n {
-        1 => 0xe4b880,
-        2 => 0xe4ba8c,
-        3 => 0xe4b889,
-        4 => 0xe59b9b,
-        5 => 0xe4ba94,
-        6 => 0xe585ad,
-        7 => 0xe4b883,
-        8 => 0xe585ab,
-        9 => 0xe4b99d,
+        1 => 0xe4b880, // 一
+        2 => 0xe4ba8c, // 二
+        3 => 0xe4b889, // 三
+        4 => 0xe59b9b, // 四
+        5 => 0xe4ba94, // 五
+        6 => 0xe585ad, // 六
+        7 => 0xe4b883, // 七
+        8 => 0xe585ab, // 八
+        9 => 0xe4b99d, // 九
         _ => 0,
     }
 }

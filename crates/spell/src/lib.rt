@@ -28,20 +28,78 @@ pub enum Spelled {
 
 // A row is a spelling's length, its number and its bytes, with zeros to the table's width.
 // 杏 圭 全, which only a diagram is written with; 歩 香 桂 銀 金 角 飛 玉 と 成香 成桂 成銀 馬 龍 王 竜
-const KINDS: [u8; 152] =
-    *b"\x03\x0a\xe6\x9d\x8f\x00\x00\x00\x03\x0b\xe5\x9c\xad\x00\x00\x00\x03\x0c\xe5\x85\xa8\x00\x00\x00\x03\x01\xe6\xad\xa9\x00\x00\x00\x03\x02\xe9\xa6\x99\x00\x00\x00\x03\x03\xe6\xa1\x82\x00\x00\x00\x03\x04\xe9\x8a\x80\x00\x00\x00\x03\x05\xe9\x87\x91\x00\x00\x00\x03\x06\xe8\xa7\x92\x00\x00\x00\x03\x07\xe9\xa3\x9b\x00\x00\x00\x03\x08\xe7\x8e\x89\x00\x00\x00\x03\x09\xe3\x81\xa8\x00\x00\x00\x06\x0a\xe6\x88\x90\xe9\xa6\x99\x06\x0b\xe6\x88\x90\xe6\xa1\x82\x06\x0c\xe6\x88\x90\xe9\x8a\x80\x03\x0d\xe9\xa6\xac\x00\x00\x00\x03\x0e\xe9\xbe\x8d\x00\x00\x00\x03\x08\xe7\x8e\x8b\x00\x00\x00\x03\x0e\xe7\xab\x9c\x00\x00\x00";
+#[rattlefmt::skip]
+const KINDS: [u8; 152] = [
+    3, 10, 0xe6, 0x9d, 0x8f, 0, 0, 0, // 杏
+    3, 11, 0xe5, 0x9c, 0xad, 0, 0, 0, // 圭
+    3, 12, 0xe5, 0x85, 0xa8, 0, 0, 0, // 全
+    3, 1, 0xe6, 0xad, 0xa9, 0, 0, 0, // 歩
+    3, 2, 0xe9, 0xa6, 0x99, 0, 0, 0, // 香
+    3, 3, 0xe6, 0xa1, 0x82, 0, 0, 0, // 桂
+    3, 4, 0xe9, 0x8a, 0x80, 0, 0, 0, // 銀
+    3, 5, 0xe9, 0x87, 0x91, 0, 0, 0, // 金
+    3, 6, 0xe8, 0xa7, 0x92, 0, 0, 0, // 角
+    3, 7, 0xe9, 0xa3, 0x9b, 0, 0, 0, // 飛
+    3, 8, 0xe7, 0x8e, 0x89, 0, 0, 0, // 玉
+    3, 9, 0xe3, 0x81, 0xa8, 0, 0, 0, // と
+    6, 10, 0xe6, 0x88, 0x90, 0xe9, 0xa6, 0x99, // 成香
+    6, 11, 0xe6, 0x88, 0x90, 0xe6, 0xa1, 0x82, // 成桂
+    6, 12, 0xe6, 0x88, 0x90, 0xe9, 0x8a, 0x80, // 成銀
+    3, 13, 0xe9, 0xa6, 0xac, 0, 0, 0, // 馬
+    3, 14, 0xe9, 0xbe, 0x8d, 0, 0, 0, // 龍
+    3, 8, 0xe7, 0x8e, 0x8b, 0, 0, 0, // 王
+    3, 14, 0xe7, 0xab, 0x9c, 0, 0, 0, // 竜
+];
 
 // 投了 中断 千日手 切れ負け 反則負け 持将棋 入玉勝ち 詰み; then 中断 for each ending that is never read
-const SPECIALS: [u8; 196] =
-    *b"\x06\x00\xe6\x8a\x95\xe4\xba\x86\x00\x00\x00\x00\x00\x00\x06\x01\xe4\xb8\xad\xe6\x96\xad\x00\x00\x00\x00\x00\x00\x09\x02\xe5\x8d\x83\xe6\x97\xa5\xe6\x89\x8b\x00\x00\x00\x0c\x03\xe5\x88\x87\xe3\x82\x8c\xe8\xb2\xa0\xe3\x81\x91\x0c\x04\xe5\x8f\x8d\xe5\x89\x87\xe8\xb2\xa0\xe3\x81\x91\x09\x07\xe6\x8c\x81\xe5\xb0\x86\xe6\xa3\x8b\x00\x00\x00\x0c\x08\xe5\x85\xa5\xe7\x8e\x89\xe5\x8b\x9d\xe3\x81\xa1\x06\x0b\xe8\xa9\xb0\xe3\x81\xbf\x00\x00\x00\x00\x00\x00\x06\x05\xe4\xb8\xad\xe6\x96\xad\x00\x00\x00\x00\x00\x00\x06\x06\xe4\xb8\xad\xe6\x96\xad\x00\x00\x00\x00\x00\x00\x06\x09\xe4\xb8\xad\xe6\x96\xad\x00\x00\x00\x00\x00\x00\x06\x0a\xe4\xb8\xad\xe6\x96\xad\x00\x00\x00\x00\x00\x00\x06\x0c\xe4\xb8\xad\xe6\x96\xad\x00\x00\x00\x00\x00\x00\x06\x0d\xe4\xb8\xad\xe6\x96\xad\x00\x00\x00\x00\x00\x00";
+#[rattlefmt::skip]
+const SPECIALS: [u8; 196] = [
+    6, 0, 0xe6, 0x8a, 0x95, 0xe4, 0xba, 0x86, 0, 0, 0, 0, 0, 0, // 投了
+    6, 1, 0xe4, 0xb8, 0xad, 0xe6, 0x96, 0xad, 0, 0, 0, 0, 0, 0, // 中断
+    9, 2, 0xe5, 0x8d, 0x83, 0xe6, 0x97, 0xa5, 0xe6, 0x89, 0x8b, 0, 0, 0, // 千日手
+    12, 3, 0xe5, 0x88, 0x87, 0xe3, 0x82, 0x8c, 0xe8, 0xb2, 0xa0, 0xe3, 0x81, 0x91, // 切れ負け
+    12, 4, 0xe5, 0x8f, 0x8d, 0xe5, 0x89, 0x87, 0xe8, 0xb2, 0xa0, 0xe3, 0x81, 0x91, // 反則負け
+    9, 7, 0xe6, 0x8c, 0x81, 0xe5, 0xb0, 0x86, 0xe6, 0xa3, 0x8b, 0, 0, 0, // 持将棋
+    12, 8, 0xe5, 0x85, 0xa5, 0xe7, 0x8e, 0x89, 0xe5, 0x8b, 0x9d, 0xe3, 0x81, 0xa1, // 入玉勝ち
+    6, 11, 0xe8, 0xa9, 0xb0, 0xe3, 0x81, 0xbf, 0, 0, 0, 0, 0, 0, // 詰み
+    6, 5, 0xe4, 0xb8, 0xad, 0xe6, 0x96, 0xad, 0, 0, 0, 0, 0, 0, // 中断
+    6, 6, 0xe4, 0xb8, 0xad, 0xe6, 0x96, 0xad, 0, 0, 0, 0, 0, 0, // 中断
+    6, 9, 0xe4, 0xb8, 0xad, 0xe6, 0x96, 0xad, 0, 0, 0, 0, 0, 0, // 中断
+    6, 10, 0xe4, 0xb8, 0xad, 0xe6, 0x96, 0xad, 0, 0, 0, 0, 0, 0, // 中断
+    6, 12, 0xe4, 0xb8, 0xad, 0xe6, 0x96, 0xad, 0, 0, 0, 0, 0, 0, // 中断
+    6, 13, 0xe4, 0xb8, 0xad, 0xe6, 0x96, 0xad, 0, 0, 0, 0, 0, 0, // 中断
+];
 
 // 平手 香落ち 右香落ち 角落ち 飛車落ち 飛香落ち 二枚落ち 三枚落ち 四枚落ち 五枚落ち 左五枚落ち 六枚落ち 左七枚落ち 右七枚落ち 八枚落ち 十枚落ち その他
-const PRESETS: [u8; 289] =
-    *b"\x06\x00\xe5\xb9\xb3\xe6\x89\x8b\x00\x00\x00\x00\x00\x00\x00\x00\x00\x09\x01\xe9\xa6\x99\xe8\x90\xbd\xe3\x81\xa1\x00\x00\x00\x00\x00\x00\x0c\x02\xe5\x8f\xb3\xe9\xa6\x99\xe8\x90\xbd\xe3\x81\xa1\x00\x00\x00\x09\x03\xe8\xa7\x92\xe8\x90\xbd\xe3\x81\xa1\x00\x00\x00\x00\x00\x00\x0c\x04\xe9\xa3\x9b\xe8\xbb\x8a\xe8\x90\xbd\xe3\x81\xa1\x00\x00\x00\x0c\x05\xe9\xa3\x9b\xe9\xa6\x99\xe8\x90\xbd\xe3\x81\xa1\x00\x00\x00\x0c\x06\xe4\xba\x8c\xe6\x9e\x9a\xe8\x90\xbd\xe3\x81\xa1\x00\x00\x00\x0c\x07\xe4\xb8\x89\xe6\x9e\x9a\xe8\x90\xbd\xe3\x81\xa1\x00\x00\x00\x0c\x08\xe5\x9b\x9b\xe6\x9e\x9a\xe8\x90\xbd\xe3\x81\xa1\x00\x00\x00\x0c\x09\xe4\xba\x94\xe6\x9e\x9a\xe8\x90\xbd\xe3\x81\xa1\x00\x00\x00\x0f\x0a\xe5\xb7\xa6\xe4\xba\x94\xe6\x9e\x9a\xe8\x90\xbd\xe3\x81\xa1\x0c\x0b\xe5\x85\xad\xe6\x9e\x9a\xe8\x90\xbd\xe3\x81\xa1\x00\x00\x00\x0f\x0c\xe5\xb7\xa6\xe4\xb8\x83\xe6\x9e\x9a\xe8\x90\xbd\xe3\x81\xa1\x0f\x0d\xe5\x8f\xb3\xe4\xb8\x83\xe6\x9e\x9a\xe8\x90\xbd\xe3\x81\xa1\x0c\x0e\xe5\x85\xab\xe6\x9e\x9a\xe8\x90\xbd\xe3\x81\xa1\x00\x00\x00\x0c\x0f\xe5\x8d\x81\xe6\x9e\x9a\xe8\x90\xbd\xe3\x81\xa1\x00\x00\x00\x09\x10\xe3\x81\x9d\xe3\x81\xae\xe4\xbb\x96\x00\x00\x00\x00\x00\x00";
+#[rattlefmt::skip]
+const PRESETS: [u8; 289] = [
+    6, 0, 0xe5, 0xb9, 0xb3, 0xe6, 0x89, 0x8b, 0, 0, 0, 0, 0, 0, 0, 0, 0, // 平手
+    9, 1, 0xe9, 0xa6, 0x99, 0xe8, 0x90, 0xbd, 0xe3, 0x81, 0xa1, 0, 0, 0, 0, 0, 0, // 香落ち
+    12, 2, 0xe5, 0x8f, 0xb3, 0xe9, 0xa6, 0x99, 0xe8, 0x90, 0xbd, 0xe3, 0x81, 0xa1, 0, 0, 0, // 右香落ち
+    9, 3, 0xe8, 0xa7, 0x92, 0xe8, 0x90, 0xbd, 0xe3, 0x81, 0xa1, 0, 0, 0, 0, 0, 0, // 角落ち
+    12, 4, 0xe9, 0xa3, 0x9b, 0xe8, 0xbb, 0x8a, 0xe8, 0x90, 0xbd, 0xe3, 0x81, 0xa1, 0, 0, 0, // 飛車落ち
+    12, 5, 0xe9, 0xa3, 0x9b, 0xe9, 0xa6, 0x99, 0xe8, 0x90, 0xbd, 0xe3, 0x81, 0xa1, 0, 0, 0, // 飛香落ち
+    12, 6, 0xe4, 0xba, 0x8c, 0xe6, 0x9e, 0x9a, 0xe8, 0x90, 0xbd, 0xe3, 0x81, 0xa1, 0, 0, 0, // 二枚落ち
+    12, 7, 0xe4, 0xb8, 0x89, 0xe6, 0x9e, 0x9a, 0xe8, 0x90, 0xbd, 0xe3, 0x81, 0xa1, 0, 0, 0, // 三枚落ち
+    12, 8, 0xe5, 0x9b, 0x9b, 0xe6, 0x9e, 0x9a, 0xe8, 0x90, 0xbd, 0xe3, 0x81, 0xa1, 0, 0, 0, // 四枚落ち
+    12, 9, 0xe4, 0xba, 0x94, 0xe6, 0x9e, 0x9a, 0xe8, 0x90, 0xbd, 0xe3, 0x81, 0xa1, 0, 0, 0, // 五枚落ち
+    15, 10, 0xe5, 0xb7, 0xa6, 0xe4, 0xba, 0x94, 0xe6, 0x9e, 0x9a, 0xe8, 0x90, 0xbd, 0xe3, 0x81, 0xa1, // 左五枚落ち
+    12, 11, 0xe5, 0x85, 0xad, 0xe6, 0x9e, 0x9a, 0xe8, 0x90, 0xbd, 0xe3, 0x81, 0xa1, 0, 0, 0, // 六枚落ち
+    15, 12, 0xe5, 0xb7, 0xa6, 0xe4, 0xb8, 0x83, 0xe6, 0x9e, 0x9a, 0xe8, 0x90, 0xbd, 0xe3, 0x81, 0xa1, // 左七枚落ち
+    15, 13, 0xe5, 0x8f, 0xb3, 0xe4, 0xb8, 0x83, 0xe6, 0x9e, 0x9a, 0xe8, 0x90, 0xbd, 0xe3, 0x81, 0xa1, // 右七枚落ち
+    12, 14, 0xe5, 0x85, 0xab, 0xe6, 0x9e, 0x9a, 0xe8, 0x90, 0xbd, 0xe3, 0x81, 0xa1, 0, 0, 0, // 八枚落ち
+    12, 15, 0xe5, 0x8d, 0x81, 0xe6, 0x9e, 0x9a, 0xe8, 0x90, 0xbd, 0xe3, 0x81, 0xa1, 0, 0, 0, // 十枚落ち
+    9, 16, 0xe3, 0x81, 0x9d, 0xe3, 0x81, 0xae, 0xe4, 0xbb, 0x96, 0, 0, 0, 0, 0, 0, // その他
+];
 
 // 先手 後手 下手 上手
-const SIDES: [u8; 32] =
-    *b"\x06\x00\xe5\x85\x88\xe6\x89\x8b\x06\x01\xe5\xbe\x8c\xe6\x89\x8b\x06\x00\xe4\xb8\x8b\xe6\x89\x8b\x06\x01\xe4\xb8\x8a\xe6\x89\x8b";
+#[rattlefmt::skip]
+const SIDES: [u8; 32] = [
+    6, 0, 0xe5, 0x85, 0x88, 0xe6, 0x89, 0x8b, // 先手
+    6, 1, 0xe5, 0xbe, 0x8c, 0xe6, 0x89, 0x8b, // 後手
+    6, 0, 0xe4, 0xb8, 0x8b, 0xe6, 0x89, 0x8b, // 下手
+    6, 1, 0xe4, 0xb8, 0x8a, 0xe6, 0x89, 0x8b, // 上手
+];
 
 // The first spelling of a table, whose rows have w bytes, that stands at a place.   (nom's alt of tags)
 fn find(c: Cursor, s: &[u8], table: &[u8], w: usize) -> Spelled
@@ -67,22 +125,22 @@ fn kind_row(h: u32) -> u32
     ensures { λ r. ⌜ r ≡ look kindSlots h ⌝ }
 {
     match h {
-        2 => 0xe9a6992,
-        3 => 0xe987915,
-        4 => 0xe381a89,
-        5 => 0xe78e898,
-        6 => 0xe9a39b7,
-        7 => 0xe78e8b8,
-        9 => 0xe9be8de,
-        10 => 0xe585a8c,
-        12 => 0xe6ada91,
-        16 => 0xe6a1823,
-        19 => 0xe98a804,
-        20 => 0xe69d8fa,
-        21 => 0xe9a6acd,
-        23 => 0xe59cadb,
-        25 => 0xe8a7926,
-        28 => 0xe7ab9ce,
+        2 => 0xe9a6992, // 香
+        3 => 0xe987915, // 金
+        4 => 0xe381a89, // と
+        5 => 0xe78e898, // 玉
+        6 => 0xe9a39b7, // 飛
+        7 => 0xe78e8b8, // 王
+        9 => 0xe9be8de, // 龍
+        10 => 0xe585a8c, // 全
+        12 => 0xe6ada91, // 歩
+        16 => 0xe6a1823, // 桂
+        19 => 0xe98a804, // 銀
+        20 => 0xe69d8fa, // 杏
+        21 => 0xe9a6acd, // 馬
+        23 => 0xe59cadb, // 圭
+        25 => 0xe8a7926, // 角
+        28 => 0xe7ab9ce, // 竜
         _ => u32::MAX,
     }
 }
@@ -183,20 +241,20 @@ pub fn kind_code(n: u8) -> u32
     ensures { λ r. ⌜ r ≡ code (spelled moveKinds n) ⌝ }
 {
     match n {
-        1 => 0xe6ada9,
-        2 => 0xe9a699,
-        3 => 0xe6a182,
-        4 => 0xe98a80,
-        5 => 0xe98791,
-        6 => 0xe8a792,
-        7 => 0xe9a39b,
-        8 => 0xe78e89,
-        9 => 0xe381a8,
-        10 => 0xe68890,
-        11 => 0xe68890,
-        12 => 0xe68890,
-        13 => 0xe9a6ac,
-        14 => 0xe9be8d,
+        1 => 0xe6ada9, // 歩
+        2 => 0xe9a699, // 香
+        3 => 0xe6a182, // 桂
+        4 => 0xe98a80, // 銀
+        5 => 0xe98791, // 金
+        6 => 0xe8a792, // 角
+        7 => 0xe9a39b, // 飛
+        8 => 0xe78e89, // 玉
+        9 => 0xe381a8, // と
+        10 => 0xe68890, // 成
+        11 => 0xe68890, // 成
+        12 => 0xe68890, // 成
+        13 => 0xe9a6ac, // 馬
+        14 => 0xe9be8d, // 龍
         _ => 0,
     }
 }

@@ -1,6 +1,6 @@
 -- The answers of the steps, handed on as the definition hands them on.
 -- Assumes nothing.
-use Rattle.moves.specs.inner.Lines.{playedLine}
+use Rattle.moves.specs.Moves.{playedLine}
 use Rattle.moves.proofs.any_line.Statement.{statement}
 use Rattle.moves.proofs.any_line.Tie as tie
 
@@ -14,7 +14,6 @@ enum-told : tie.Need-enum-told
 enum-told c = c .match .keys2
 
 returns : tie.Need-returns
-unfolding playedLine
 returns c = rw (← c .before .before .what .ensures, c .enum-told .given .1)
 
 blanks-requires : tie.Need-blanks-requires
@@ -33,7 +32,6 @@ enum-told-2 : tie.Need-enum-told-2
 enum-told-2 c = c .match2 .keys2
 
 returns-2 : tie.Need-returns-2
-unfolding playedLine
 returns-2 c = rw (← c .before .before .before .before .before .before .before .before .what .ensures, c .before .before .before .before .before .before .entry .given .1, ← c .before .before .before .before .blanks .ensures, ← c .before .before .before .time .ensures, ← c .before .before .line-end .ensures, c .enum-told2 .given .1)
 
 color-requires : tie.Need-color-requires
@@ -43,7 +41,6 @@ finish-requires : tie.Need-finish-requires
 finish-requires c κs = tt
 
 returns-3 : tie.Need-returns-3
-unfolding playedLine
 returns-3 c = rw (← c .before .before .before .before .before .before .before .before .before .before .before .what .ensures, c .before .before .before .before .before .before .before .before .before .entry .given .1, ← c .before .before .before .before .before .before .before .blanks .ensures, ← c .before .before .before .before .before .before .time .ensures, ← c .before .before .before .before .before .line-end .ensures, c .before .before .before .end .given .1, ← c .before .color .ensures, ← c .finish .ensures)
 
 pub any-line-spec : {M : Type 1} → statement M

@@ -1,6 +1,6 @@
 -- The answers of the steps, handed on as the definition hands them on.
 -- Assumes nothing.
-use Rattle.moves.specs.inner.Lines.{endingAt}
+use Rattle.moves.specs.Moves.{endingAt}
 use Rattle.moves.proofs.played.ending.Statement.{statement}
 use Rattle.moves.proofs.played.ending.Tie as tie
 
@@ -14,14 +14,12 @@ enum-told : tie.Need-enum-told
 enum-told c = c .match .keys2
 
 returns : tie.Need-returns
-unfolding endingAt
 returns c = rw (← c .before .before .special .ensures, c .enum-told .given .1)
 
 special-of-requires : tie.Need-special-of-requires
 special-of-requires c κs = tt
 
 returns-2 : tie.Need-returns-2
-unfolding endingAt
 returns-2 c = rw (← c .before .before .before .before .special .ensures, c .before .before .n .given .1, ← c .special-of .ensures)
 
 pub ending-spec : {M : Type 1} → statement M
