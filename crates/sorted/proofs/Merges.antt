@@ -8,7 +8,8 @@ use mathlib.Core.List.{List, [], _∷_, _++_, map}
 use lib.ListN.{length}
 use Rattle.sorted.specs.declared.Order.{Order}
 use Rattle.sorted.specs.declared.Order.the-variants.{Less, Equal, Greater}
-use Rattle.sorted.specs.Sorted.{onOrder, enter, enterAll, into}
+use Rattle.sorted.specs.Sorted.{onOrder, enter, enterAll}
+use Rattle.sorted.specs.inner.Orders.{into}
 use Rattle.sorted.specs.inner.Orders.{merge}
 use Rattle.sorted.proofs.Orders.{Chain}
 

@@ -46,11 +46,6 @@ enterAll o l (p ∷ ps) = enterAll o (enter o l p) ps
 unfoldable pub kept : List ℕ → List ℕ → List ℕ
 kept s ps = enterAll (byKey s) [] ps
 
--- Two ascending lists in one; of equal ones the second's stays.
-unfoldable pub into : {A : Type 0} → (A → A → Order) → A → (List A → List A) → List A → List A
-into o x f [] = x ∷ f []
-into o x f (y ∷ ys) = onOrder (o x y) (x ∷ f (y ∷ ys)) (y ∷ f ys) (y ∷ into o x f ys)
-
 -- ---- in a buffer
 
 -- At most as many lines as a text of 65,535 bytes can have, and a buffer that has room for them all; or else the other.

@@ -12,7 +12,8 @@ use borrow.Author.Tests.{leb-true, eq-eqb, ne-eqb}
 use Rattle.lists.proofs.Laws.{head-at, pick-both}
 use Rattle.text.specs.Text.{cursor, standsAt}
 use Rattle.spell.specs.Tables.{Spelling}
-use Rattle.spell.specs.Spell.{row, firstOf, spelled}
+use Rattle.spell.specs.Spell.{firstOf, spelled}
+use Rattle.spell.specs.inner.Codes.{row}
 use Rattle.spell.specs.inner.Codes.{rows, narrow, Rows}
 use Rattle.spell.specs.declared.Spelled.the-variants.{As, Not}
 

@@ -1,9 +1,9 @@
 -- What a table of spellings says: which of them stands at a place, and how a number is written.
 -- Assumes nothing: these are definitions.
-use Prim.Native.Nat.{ℕ, _+_, _*_, _-_}
-use mathlib.Core.List.{List, [], _∷_, _++_}
+use Prim.Native.Nat.{ℕ, _+_, _*_}
+use mathlib.Core.List.{List, [], _∷_}
 use mathlib.Core.Bool.{Bool, true, false}
-use lib.ListN.{length, getD, replicate}
+use lib.ListN.{length, getD}
 use lib.Dec.{eqb}
 use Rattle.lists.specs.Pick.{pick}
 use Rattle.text.specs.Text.{cursor, standsAt}
@@ -34,10 +34,6 @@ hasNumber [] n = false
 hasNumber (e ∷ es) n = let r = hasNumber es n in pick (eqb (e .number) n) true r
 
 -- ---- how the code holds a table
-
--- A row of w bytes: the spelling's length, its number and its bytes, and zeros to the end.
-abbrev pub row : ℕ → Spelling → List ℕ
-row w e = length (e .bytes) ∷ e .number ∷ (e .bytes ++ replicate (w - (length (e .bytes) + 2)) 0)
 
 -- Three bytes as one number, and the bytes of such a number.
 abbrev pub codeOf : ℕ → ℕ → ℕ → ℕ

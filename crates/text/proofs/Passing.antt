@@ -9,7 +9,8 @@ use lib.ListN.{length, getD}
 use borrow.Author.Tests.{lt-ltb, le-ltb, ne-eqb}
 use Rattle.text.specs.inner.Runs.{Run, Count}
 use Rattle.text.specs.Text.{isText, textAt, pastAll}
-use Rattle.text.specs.Utf8.{sizeOf, lowestOf, highestOf, secondOf, isNext, Three, charWidth}
+use Rattle.text.specs.Utf8.{sizeOf, lowestOf, highestOf, secondOf, isNext, charWidth}
+use Rattle.text.specs.inner.Runs.{Three}
 use Rattle.text.proofs.Laws.{span-on}
 use Rattle.text.proofs.Widths.{past-more, char-within}
 

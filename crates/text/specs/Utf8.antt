@@ -1,9 +1,8 @@
 -- Well-formed UTF-8, by table 3-7 of the Unicode standard.                                         (01, Numbers of refusal: 2)
 -- Assumes nothing: these are definitions.
-use Prim.Native.Nat.{ℕ, _+_, _≤_}
-use mathlib.Core.Path.{_≡_}
+use Prim.Native.Nat.{ℕ, _+_}
 use mathlib.Core.List.{List}
-use mathlib.Core.Bool.{Bool, true, false}
+use mathlib.Core.Bool.{Bool, false}
 use lib.ListN.{length, getD}
 use lib.Dec.{eqb, ltb}
 use Rattle.lists.specs.Pick.{pick}
@@ -51,13 +50,3 @@ wellFormedBytes s = pastAll charWidth s 0
 -- Past one character.                                                                              (01, Reading rules: skip line)
 unfoldable pub characterAt : List ℕ → ℕ → Place
 characterAt s at = pick (eqb (charWidth s at) 0) Absent (Past (cursor (at + charWidth s at)))
-
--- ---- on the way
-
--- Three bytes that are a character, of which the first is neither E0 nor ED, so that any later bytes may follow it.
-pub record Three (a b c : ℕ) : Type 0 where
-  pub low : 225 ≤ a
-  pub high : a ≤ 239
-  pub plain : a ≡ 237 → ⊥
-  pub second : isNext b ≡ true
-  pub third : isNext c ≡ true

@@ -5,7 +5,8 @@ ghost use Prim.Native.Nat.{_+_, _≤_, _<_};
 ghost use lib.ListN.{length};
 ghost use Rattle.text.specs.inner.Runs.{Run, Count};
 ghost use Rattle.text.specs.Text.{pastAll};
-ghost use Rattle.text.specs.Utf8.{sizeOf, lowestOf, highestOf, secondOf, isNext, Three, charWidth, wellFormedBytes};
+ghost use Rattle.text.specs.Utf8.{sizeOf, lowestOf, highestOf, secondOf, isNext, charWidth, wellFormedBytes};
+ghost use Rattle.text.specs.inner.Runs.{Three};
 
 // How many bytes a character that starts with b has; 0 where none does.
 fn size(b: u8) -> usize

@@ -18,7 +18,8 @@ use Rattle.block.specs.Decode.{run}
 use Rattle.block.specs.Sound.{same}
 use Rattle.sorted.specs.declared.Order.{Order}
 use Rattle.sorted.specs.declared.Order.the-variants.{Less, Greater}
-use Rattle.sorted.specs.Sorted.{enter, enterAll, into}
+use Rattle.sorted.specs.Sorted.{enter, enterAll}
+use Rattle.sorted.specs.inner.Orders.{into}
 use Rattle.sorted.specs.inner.Orders.{merge, Ascending}
 use Rattle.sorted.proofs.Orders.{Chain, flip, bytes-chain, bytes-flip}
 use Rattle.sorted.proofs.Merges.{enterAll-halves}

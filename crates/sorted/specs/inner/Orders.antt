@@ -7,8 +7,14 @@ use Rattle.lists.specs.All.{All}
 use lib.ListN.{length, take}
 use Rattle.sorted.specs.declared.Order.{Order}
 use Rattle.sorted.specs.declared.Order.the-variants.{Less}
-use Rattle.sorted.specs.Sorted.{into}
+use Rattle.sorted.specs.Sorted.{onOrder}
 
+-- One element put into an ascending list before what f makes of the rest; of equal ones the list's stays.
+unfoldable pub into : {A : Type 0} → (A → A → Order) → A → (List A → List A) → List A → List A
+into o x f [] = x ∷ f []
+into o x f (y ∷ ys) = onOrder (o x y) (x ∷ f (y ∷ ys)) (y ∷ f ys) (y ∷ into o x f ys)
+
+-- Two ascending lists in one; of equal ones the second's stays.
 unfoldable pub merge : {A : Type 0} → (A → A → Order) → List A → List A → List A
 merge o [] ys = ys
 merge o (x ∷ xs) ys = into o x (merge o xs) ys

@@ -1,14 +1,18 @@
 -- Characters of three bytes as numbers, and tables of such characters, by which they are found and written at once.
 -- Assumes nothing: these are definitions.
-use Prim.Native.Nat.{ℕ, _+_, _/_, _%_, _<_}
+use Prim.Native.Nat.{ℕ, _+_, _/_, _%_, _<_, _-_}
 use mathlib.Core.Path.{_≡_}
 use mathlib.Core.List.{List, [], _∷_, _++_}
 use mathlib.Core.Bool.{Bool, true, false}
-use lib.ListN.{length, getD}
+use lib.ListN.{length, getD, replicate}
 use lib.Dec.{eqb, leb, ltb}
 use Rattle.lists.specs.Pick.{pick}
 use Rattle.spell.specs.Tables.{Spelling}
-use Rattle.spell.specs.Spell.{row, codeOf, code}
+use Rattle.spell.specs.Spell.{codeOf, code}
+
+-- A row of w bytes: the spelling's length, its number and its bytes, and zeros to the end.
+abbrev pub row : ℕ → Spelling → List ℕ
+row w e = length (e .bytes) ∷ e .number ∷ (e .bytes ++ replicate (w - (length (e .bytes) + 2)) 0)
 
 abbrev pub rows : ℕ → List Spelling → List ℕ
 rows w [] = []

@@ -5,6 +5,16 @@ use mathlib.Core.Path.{_≡_}
 use mathlib.Core.List.{List}
 use lib.ListN.{length}
 use Rattle.text.specs.Text.{isDigit, spanAt, numberAt}
+use mathlib.Core.Bool.{true}
+use Rattle.text.specs.Utf8.{isNext}
+
+-- Three bytes that are a character, of which the first is neither E0 nor ED, so that any later bytes may follow it.
+pub record Three (a b c : ℕ) : Type 0 where
+  pub low : 225 ≤ a
+  pub high : a ≤ 239
+  pub plain : a ≡ 237 → ⊥
+  pub second : isNext b ≡ true
+  pub third : isNext c ≡ true
 
 -- From a place to r, all in the text: whether one goes on from the place or from r, f ends the same.
 pub record Run (f : ℕ → ℕ) (s : List ℕ) (at r : ℕ) : Type 0 where
