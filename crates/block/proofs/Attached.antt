@@ -17,7 +17,7 @@ use lib.Seq.{take-length}
 use lib.Dec.{eqb, leb, ltb}
 use borrow.Author.Tests.{eq-eqb, ne-eqb}
 use Rattle.lists.specs.Pick.{pick}
-use Rattle.lists.specs.Test.{equals, both, each, flag, claim}
+use Rattle.lists.specs.Test.{_equals_, _and_, each, flag, claim}
 use Rattle.lists.proofs.Laws.{by-pick}
 use Rattle.lists.proofs.Tests.{answers}
 use Rattle.jkf.specs.Attaching.{near, hangOn, hangs, onHang, all, first, hungFrom, Play, play, playOf, starts, counts, parentIn, attachFrom, attach, allHung}
@@ -95,7 +95,7 @@ start-bound ps z n h g =
 hang-later : (start count parent : ℕ → ℕ) (k : ℕ) → 0 < k → onHang (hangs start count (start k) k) (λ p e. eqb (parent k) p) false ≡ true
     → claim (hangTest 1 start count parent k)
 hang-later start count parent k z h =
-    let main = flag (both (equals (start 0) 0) (equals (parent 0) 0)) in
+    let main = flag (start 0 equals 0 and parent 0 equals 0) in
     let later = onHang (hangs start count (start k) k) (λ p e. eqb (parent k) p) false in
     ap (λ (t : Bool). pick t main later) (ne-eqb k 0 (λ e. omega arith)) ∙ h
 
@@ -198,7 +198,7 @@ module _ (ps : List Play) where
   unfolding allHung
   line-hangs z g zero h =
       let p : lineOf (attach ps) 0 .parent ≡ 0 = ap (λ (l : Line). l .parent) (attach-line 0 h) ∙ parent-first in
-      answers (both (equals (lineOf (attach ps) 0 .start) 0) (equals (lineOf (attach ps) 0 .parent) 0)) (attach-start 0 ∙ z, p)
+      answers (lineOf (attach ps) 0 .start equals 0 and lineOf (attach ps) 0 .parent equals 0) (attach-start 0 ∙ z, p)
   line-hangs z g (suc k) h =
       let start : ℕ → ℕ = λ j. lineOf (attach ps) j .start in
       let count : ℕ → ℕ = λ j. length (lineOf (attach ps) j .entries) in

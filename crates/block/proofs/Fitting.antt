@@ -15,7 +15,7 @@ use lib.Seq.{take-add, length-take-le, getD-drop}
 use lib.Dec.{eqb, leb, ltb}
 use borrow.Author.Tests.{eq-eqb, ne-eqb, le-leb, lt-ltb, le-ltb, eqb-true, eqb-false, leb-true}
 use Rattle.lists.specs.Pick.{pick}
-use Rattle.lists.specs.Test.{Test, equals, holds, both, each, flag}
+use Rattle.lists.specs.Test.{Test, _equals_, holds, _and_, each, flag}
 use Rattle.lists.proofs.Laws.{drop-step, pick-both, range-at}
 use Rattle.lists.proofs.Tests.{says, answers}
 use Rattle.lent.specs.Bytes.{le16, bytes16}
@@ -34,8 +34,9 @@ use Rattle.block.specs.inner.Tests.{timeTest, moveTest, endTest, headTes
 use Rattle.block.specs.EntryBytes.{fromMark, sameMark, hourMark, timeMark, targetBytes, originBytes, clockBytes, timeBytes, entryHead, entryBytes, clockOf, timeIn, targetIn, originIn, moveIn, entryIn}
 use Rattle.jkf.specs.Entries.{specialNumber, specialOf, timeOf}
 use Rattle.block.specs.Decode.{run, movePlace, commentCount}
-use Rattle.block.specs.Sound.{same, kindTest, entryTest, commentsBefore}
-use Rattle.block.proofs.Orders.{same-length}
+use Rattle.text.specs.Text.{same}
+use Rattle.text.proofs.Laws.{lengths-differ}
+use Rattle.block.specs.Sound.{kindTest, entryTest, commentsBefore}
 use Rattle.block.proofs.LineTables.{le16-drop}
 
 -- ---- tests
@@ -84,9 +85,9 @@ zeros-then (x ∷ s) h zero l = eqb-true x 0 (pick-both (eqb x 0) (same s (repli
 zeros-then (x ∷ s) h (suc i) l = zeros-then s (pick-both (eqb x 0) (same s (replicate (length s) 0)) h .1) i (omega arith)
 
 -- as `all_zero` tests them
-pub zeros : (s : List ℕ) (n : ℕ) → length s ≡ n → flag (each (length s) (λ i. equals (getD s i 0) 0)) ≡ same s (replicate n 0)
+pub zeros : (s : List ℕ) (n : ℕ) → length s ≡ n → flag (each (length s) (λ i. getD s i 0 equals 0)) ≡ same s (replicate n 0)
 zeros s n e =
-    let t : Test = each (length s) (λ i. equals (getD s i 0) 0) in
+    let t : Test = each (length s) (λ i. getD s i 0 equals 0) in
     by-truth (flag t) (same s (replicate (length s) 0)) (λ h. zeros-if s (says t h)) (λ h. answers t (zeros-then s h))
     ∙ ap (λ (m : ℕ). same s (replicate m 0)) e
 
@@ -436,7 +437,7 @@ module _ (l : List ℕ) (h : 20 ≤ length l) where
 
   -- the bytes before the numbers, and the numbers
   row-is : (k n next : ℕ) → n ≡ le16 l 18 → ((i : ℕ) → getD l i 0 < 256)
-      → flag (both (kindTest k (entryIn l)) (holds (same (take 20 l) (entryBytes (entryIn l) (pick (eqb n 0) 0 next) n))))
+      → flag (kindTest k (entryIn l) and holds (same (take 20 l) (entryBytes (entryIn l) (pick (eqb n 0) 0 next) n)))
       ≡ pick (flag (headTestOf k l)) (flag (commentsTest next l)) false
   unfolding entryBytes
   row-is k n next e small =
@@ -472,13 +473,13 @@ module _ (b : List ℕ) (k : ℕ) where
   entry-short h =
       let n = commentCount b k in
       let f = pick (eqb n 0) 0 (commentsBefore b k) in
-      rw (same-length (take 20 L) (entryBytes (entryIn L) f n) (λ e. omega (arith, length-take 20 L, entry-length (entryIn L) f n)))
+      rw (lengths-differ (take 20 L) (entryBytes (entryIn L) f n) (λ e. omega (arith, length-take 20 L, entry-length (entryIn L) f n)))
       (pick-none (flag (kindTest k (entryIn L))))
 
   -- there are 20
   pub entry-is : (next : ℕ) → next ≡ commentsBefore b k → 20 ≤ length L → ((i : ℕ) → getD b i 0 < 256)
       → flag (entryTest b k) ≡ pick (flag (headTestOf k L)) (flag (commentsTest next L)) false
   entry-is next e h small =
-      ap (λ (i : ℕ). flag (both (kindTest k (entryIn L)) (holds (same (take 20 L) (entryBytes (entryIn L) (pick (eqb (commentCount b k) 0) 0 i) (commentCount b k)))))) (sym e)
+      ap (λ (i : ℕ). flag (kindTest k (entryIn L) and holds (same (take 20 L) (entryBytes (entryIn L) (pick (eqb (commentCount b k) 0) 0 i) (commentCount b k))))) (sym e)
       ∙ row-is L h k (commentCount b k) next (sym (le16-drop b (movePlace b k) 18))
       (λ i. subst (λ (x : ℕ). x < 256) (sym (getD-drop (movePlace b k) b i 0)) (small (movePlace b k + i)))

@@ -10,7 +10,7 @@ use lib.ListN.{drop}
 use lib.Dec.{eqb}
 use borrow.Author.Tests.{eqb-true, ne-eqb}
 use Rattle.lists.specs.Pick.{pick}
-use Rattle.lists.specs.Test.{equals, both, flag, claim}
+use Rattle.lists.specs.Test.{_equals_, _and_, flag, claim}
 use Rattle.lists.proofs.Tests.{says}
 use Rattle.jkf.specs.Attaching.{near, hangs, onHang}
 use Rattle.jkf.specs.Following.{startAt, parentAt}
@@ -24,11 +24,11 @@ use Rattle.block.proofs.LineTables.{table-start, table-parent}
 
 module _ (start count parent : ℕ → ℕ) where
   pub hang-first : claim (hangTest 1 start count parent 0) → (start 0 ≡ 0) × (parent 0 ≡ 0)
-  hang-first h = says (both (equals (start 0) 0) (equals (parent 0) 0)) h
+  hang-first h = says (start 0 equals 0 and parent 0 equals 0) h
 
   pub hang-says : (k : ℕ) → 0 < k → claim (hangTest 1 start count parent k) → (parent k ≡ near start (start k) k) × Hangs start count k
   hang-says k h c =
-      let main = flag (both (equals (start 0) 0) (equals (parent 0) 0)) in
+      let main = flag (start 0 equals 0 and parent 0 equals 0) in
       let later = onHang (hangs start count (start k) k) (λ p e. eqb (parent k) p) false in
       let e : pick (eqb k 0) main later ≡ later = ap (λ (u : Bool). pick u main later) (ne-eqb k 0 (λ e. omega arith)) in
       let (g, q) = hangs-says start count k (λ p e. eqb (parent k) p) false true false≢true (sym e ∙ c) in

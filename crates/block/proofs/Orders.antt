@@ -11,23 +11,12 @@ use lib.Dec.{eqb, ltb}
 use Rattle.lists.specs.Pick.{pick}
 use borrow.Author.Tests.{lt-ltb, le-ltb, eq-eqb, ne-eqb}
 use Rattle.lists.proofs.Laws.{drop-step}
-use Rattle.block.specs.Sound.{before, same}
+use Rattle.text.specs.Text.{before, same}
 
 before-nil : (a : List ℕ) → before a [] ≡ false
 unfolding before
 before-nil [] = refl
 before-nil (x ∷ a) = refl
-
-pub same-length : (a b : List ℕ) → (length a ≡ length b → ⊥) → same a b ≡ false
-unfolding same
-same-length [] [] h = absurd (h refl)
-same-length [] (y ∷ b) h = refl
-same-length (x ∷ a) [] h = refl
-same-length (x ∷ a) (y ∷ b) h = rw (same-length a b (λ e. h (ap suc e))) (neither (eqb x y))
-  where
-    neither : (u : Bool) → pick u false false ≡ false
-    neither true = refl
-    neither false = refl
 
 module _ (a b : List ℕ) (i : ℕ) where
   -- nothing is left of the second

@@ -15,13 +15,14 @@ use lib.Seq.{getD-drop}
 use lib.Dec.{leb, ltb}
 use borrow.Author.Tests.{lt-ltb, le-ltb, lt-leb, le-leb}
 use Rattle.lists.specs.Pick.{pick}
-use Rattle.lists.specs.Test.{Test, equals, holds, both, each, allBelow, flag, claim}
+use Rattle.lists.specs.Test.{Test, _equals_, holds, _and_, each, allBelow, flag, claim}
 use Rattle.lists.proofs.Laws.{pick-both}
 use Rattle.lists.proofs.Tests.{all-more, says, answers}
 use Rattle.text.specs.Utf8.{isNext, wellFormedBytes}
 use Rattle.text.proofs.Boundaries.{Boundary, atEnd}
 use Rattle.block.specs.Decode.{headersIn, commentsIn, textPlace, storedText, keyOffset, keyLength, valueOffset, valueLength, commentOffset, commentLength, keyOf, valueOf, commentOf}
-use Rattle.block.specs.Sound.{valid, before, headerBytes, commentBytes, ascends, headerTest, commentTest}
+use Rattle.text.specs.Text.{before}
+use Rattle.block.specs.Sound.{valid, headerBytes, commentBytes, ascends, headerTest, commentTest}
 use Rattle.block.proofs.Sums.{sum-none, sum-suc, sum-rises}
 use Rattle.block.proofs.Cuts.{text-in}
 use Rattle.block.proofs.Fitting.{by-truth}
@@ -34,13 +35,15 @@ startTest b at = holds (not (isNext (getD b at 0)))
 -- the texts of a header entry, or a comment, stand where those before them end, and begin so
 abbrev pub headerStands : List ℕ → ℕ → ℕ → Test
 headerStands b t k =
-    both (equals (keyOffset b k) (headerBytes b k))
-    (both (equals (valueOffset b k) (headerBytes b k + keyLength b k))
-    (both (startTest b (t + headerBytes b k)) (startTest b (t + (headerBytes b k + keyLength b k)))))
+    keyOffset b k equals headerBytes b k
+    and valueOffset b k equals headerBytes b k + keyLength b k
+    and startTest b (t + headerBytes b k)
+    and startTest b (t + (headerBytes b k + keyLength b k))
 
 abbrev pub commentStands : List ℕ → ℕ → ℕ → Test
 commentStands b t k =
-    both (equals (commentOffset b k) (headerBytes b (headersIn b) + commentBytes b k)) (startTest b (t + (headerBytes b (headersIn b) + commentBytes b k)))
+    commentOffset b k equals headerBytes b (headersIn b) + commentBytes b k
+    and startTest b (t + (headerBytes b (headersIn b) + commentBytes b k))
 
 -- the byte at a place by two bounds
 pub above : (x : ℕ) → leb 192 x ≡ not (ltb x 192)
@@ -75,7 +78,7 @@ ascends-all b n k e h l p = go (decLt k (headersIn b))
 -- ---- all texts
 
 -- the tests of the texts may go before those of lines and entries
-pub texts-first : (h l e c : Test) → flag (both h (both l (both e c))) ≡ flag (both (both h c) (both l e))
+pub texts-first : (h l e c : Test) → flag (h and l and e and c) ≡ flag ((h and c) and l and e)
 texts-first h l e c = go (flag h) (flag l) (flag e) (flag c)
   where
     go : (t u v w : Bool) → pick t (pick u (pick v w false) false) false ≡ pick (pick t w false) (pick u v false) false
@@ -232,17 +235,19 @@ module _ (b : List ℕ) (fills : textPlace b + headerBytes b (headersIn b) + com
         (piece-valid S (cs k) (commentLength b k) v i (comment-boundary k (omega arith)) (subst (Boundary S) n (comment-boundary (suc k) l)))
 
   -- both ways
-  pub texts-are : flag (both (each (headersIn b) (headerTest b)) (each (commentsIn b) (commentTest b)))
-      ≡ flag (both (valid S) (both (each (headersIn b) (headerStands b (textPlace b))) (both (each (headersIn b) (ascends b)) (each (commentsIn b) (commentStands b (textPlace b))))))
+  pub texts-are : flag (each (headersIn b) (headerTest b) and each (commentsIn b) (commentTest b))
+      ≡ flag (valid S and each (headersIn b) (headerStands b (textPlace b)) and each (headersIn b) (ascends b) and each (commentsIn b) (commentStands b (textPlace b)))
   texts-are = by-truth (flag tests) (flag stand) there back
     where
       tests : Test
-      tests = both (each (headersIn b) (headerTest b)) (each (commentsIn b) (commentTest b))
+      tests = each (headersIn b) (headerTest b) and each (commentsIn b) (commentTest b)
 
       stand : Test
       stand =
-          both (valid S)
-          (both (each (headersIn b) (headerStands b (textPlace b))) (both (each (headersIn b) (ascends b)) (each (commentsIn b) (commentStands b (textPlace b)))))
+          valid S
+          and each (headersIn b) (headerStands b (textPlace b))
+          and each (headersIn b) (ascends b)
+          and each (commentsIn b) (commentStands b (textPlace b))
 
       there : flag tests ≡ true → flag stand ≡ true
       there e =

@@ -7,11 +7,12 @@ use mathlib.Core.Bool.{true}
 use lib.ListN.{length, getD}
 use lib.Dec.{ltb}
 use Rattle.lists.specs.Pick.{pick}
-use Rattle.lists.specs.Test.{Test, atMost, holds, both, each, claim}
+use Rattle.lists.specs.Test.{Test, _atMost_, holds, _and_, each, claim}
 use Rattle.jkf.specs.declared.Entry.the-variants.{Slot}
 use Rattle.jkf.specs.Model.{Header, Noted, Line, Record}
 use Rattle.block.specs.Encode.{encode, entriesOf, commentsOf}
-use Rattle.block.specs.Sound.{valid, before, fitsTest, kindTest, hangTest}
+use Rattle.text.specs.Text.{before}
+use Rattle.block.specs.Sound.{valid, fitsTest, kindTest, hangTest}
 
 -- Element k of a list; past its end an empty one.
 abbrev pub headerOf : List Header → ℕ → Header
@@ -26,15 +27,15 @@ notedOf es k = getD es k (record { what = Slot; comments = [] })
 -- Texts are valid, and keys ascend by bytes.
 abbrev pub headerFits : List Header → ℕ → Test
 headerFits hs k =
-    both (valid (headerOf hs k .key))
-    (both (valid (headerOf hs k .value))
-    (holds (pick (ltb (k + 1) (length hs)) (before (headerOf hs k .key) (headerOf hs (k + 1) .key)) true)))
+    valid (headerOf hs k .key)
+    and valid (headerOf hs k .value)
+    and holds (pick (ltb (k + 1) (length hs)) (before (headerOf hs k .key) (headerOf hs (k + 1) .key)) true)
 
 -- A line is not empty, and hangs where a block of its version lets it.
 abbrev pub lineFits : ℕ → List Line → ℕ → Test
 lineFits version ls k =
-    both (atMost 1 (length (lineOf ls k .entries)))
-    (hangTest version (λ j. lineOf ls j .start) (λ j. length (lineOf ls j .entries)) (λ j. lineOf ls j .parent) k)
+    1 atMost length (lineOf ls k .entries)
+    and hangTest version (λ j. lineOf ls j .start) (λ j. length (lineOf ls j .entries)) (λ j. lineOf ls j .parent) k
 
 pub record Formed (r : Record) : Type 0 where
   pub version : r .version ≡ 1

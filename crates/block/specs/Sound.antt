@@ -2,13 +2,14 @@
 -- (01, The block; Attaching rule)
 -- Assumes nothing: these are definitions.
 use Prim.Native.Nat.{ℕ, zero, suc, _+_}
-use mathlib.Core.List.{List, [], _∷_}
+use mathlib.Core.List.{List}
 use mathlib.Core.Bool.{Bool, true, false}
 use lib.ListN.{length, take, drop, getD}
 use lib.Dec.{eqb, leb, ltb}
 use Rattle.lists.specs.Pick.{pick}
-use Rattle.lists.specs.Test.{Test, equals, atMost, holds, both, each, flag, claim}
+use Rattle.lists.specs.Test.{Test, _equals_, _atMost_, holds, _and_, each, flag}
 use Rattle.lent.specs.Bytes.{le16}
+use Rattle.text.specs.Text.{before, same}
 use Rattle.text.specs.Utf8.{wellFormedBytes}
 use Rattle.block.specs.EntryBytes.{entryIn, entryBytes}
 use Rattle.block.specs.PositionBytes.{positionIn}
@@ -25,42 +26,31 @@ unfoldable pub sum : (ℕ → ℕ) → ℕ → ℕ
 sum f zero = 0
 sum f (suc k) = sum f k + f k
 
--- One text before another by bytes.
-unfoldable pub before : List ℕ → List ℕ → Bool
-before a [] = false
-before [] (y ∷ b) = true
-before (x ∷ a) (y ∷ b) = let r = before a b in pick (ltb x y) true (pick (eqb x y) r false)
-
--- The same bytes.
-unfoldable pub same : List ℕ → List ℕ → Bool
-same [] [] = true
-same [] (y ∷ b) = false
-same (x ∷ a) [] = false
-same (x ∷ a) (y ∷ b) = let r = same a b in pick (eqb x y) r false
-
 -- A text is valid UTF-8.                                                                             (01, The block: sound)
 abbrev pub valid : List ℕ → Test
-valid t = equals (wellFormedBytes t) (length t)
+valid t = wellFormedBytes t equals length t
 
 -- ---- the head                                                                                       (01, The block: bytes 0 to 27)
 
 abbrev pub headTest : List ℕ → Test
 headTest b =
-    both (atMost 128 (length b))
-    (both (atMost (length b) 65535)
-    (both (equals (getD b 0 0) 75)
-    (both (equals (getD b 1 0) 66)
-    (both (equals (le16 b 2) 1)
-    (both (equals (le16 b 4) (length b))
-    (both (equals (le16 b 24) 0) (equals (le16 b 26) 0)))))))
+    128 atMost length b
+    and length b atMost 65535
+    and getD b 0 0 equals 75
+    and getD b 1 0 equals 66
+    and le16 b 2 equals 1
+    and le16 b 4 equals length b
+    and le16 b 24 equals 0
+    and le16 b 26 equals 0
 
 -- The five parts follow one another without gaps.                                                     (01, The block: the five parts)
 abbrev pub partsTest : List ℕ → Test
 partsTest b =
-    both (equals (le16 b 14) 128)
-    (both (equals (le16 b 16) (linePlace b 0))
-    (both (equals (le16 b 18) (movePlace b 0))
-    (both (equals (le16 b 20) (commentPlace b 0)) (equals (le16 b 22) (textPlace b)))))
+    le16 b 14 equals 128
+    and le16 b 16 equals linePlace b 0
+    and le16 b 18 equals movePlace b 0
+    and le16 b 20 equals commentPlace b 0
+    and le16 b 22 equals textPlace b
 
 -- ---- the position                                                                                   (01, The block: 100 bytes)
 
@@ -73,19 +63,23 @@ abbrev pub diagramTest : Position → Test
 diagramTest p =
     holds
     (pick (eqb (p .board) 0)
-    (flag (both (equals (p .turn) 0) (both (each 81 (λ i. equals (getD (p .cells) i 0) 0)) (each 14 (λ i. equals (getD (p .hands) i 0) 0)))))
+    (flag (p .turn equals 0 and each 81 (λ i. getD (p .cells) i 0 equals 0) and each 14 (λ i. getD (p .hands) i 0 equals 0)))
     (eqb (p .preset) 16))
 
 abbrev pub fitsTest : Position → Test
 fitsTest p =
-    both (atMost (p .preset) 16)
-    (both (atMost (p .board) 1)
-    (both (atMost (p .turn) 1)
-    (both (each 81 (λ i. holds (isCell (getD (p .cells) i 0)))) (diagramTest p))))
+    p .preset atMost 16
+    and p .board atMost 1
+    and p .turn atMost 1
+    and each 81 (λ i. holds (isCell (getD (p .cells) i 0)))
+    and diagramTest p
 
 -- The position that the bytes say, with a zero after the turn and one at the end.
 abbrev pub positionTest : List ℕ → Test
-positionTest b = both (equals (getD b 31 0) 0) (both (equals (getD b 127 0) 0) (fitsTest (positionIn (drop 28 b))))
+positionTest b =
+    getD b 31 0 equals 0
+    and getD b 127 0 equals 0
+    and fitsTest (positionIn (drop 28 b))
 
 -- ---- the header table                                                                               (01, The block: header entry)
 
@@ -99,9 +93,11 @@ ascends b k = holds (pick (ltb (k + 1) (headersIn b)) (before (keyOf b k) (keyOf
 
 abbrev pub headerTest : List ℕ → ℕ → Test
 headerTest b k =
-    both (equals (keyOffset b k) (headerBytes b k))
-    (both (equals (valueOffset b k) (headerBytes b k + keyLength b k))
-    (both (valid (keyOf b k)) (both (valid (valueOf b k)) (ascends b k))))
+    keyOffset b k equals headerBytes b k
+    and valueOffset b k equals headerBytes b k + keyLength b k
+    and valid (keyOf b k)
+    and valid (valueOf b k)
+    and ascends b k
 
 -- ---- the comments                                                                                   (01, The block: comment)
 
@@ -109,16 +105,23 @@ abbrev pub commentBytes : List ℕ → ℕ → ℕ
 commentBytes b = sum (λ k. commentLength b k)
 
 abbrev pub commentTest : List ℕ → ℕ → Test
-commentTest b k = both (equals (commentOffset b k) (headerBytes b (headersIn b) + commentBytes b k)) (valid (commentOf b k))
+commentTest b k =
+    commentOffset b k equals headerBytes b (headersIn b) + commentBytes b k
+    and valid (commentOf b k)
 
 -- ---- the entries                                                                                    (01, The block: move entry)
 
--- The slot is the first entry and no other; a move's colour, kind and promotion are in range.
+-- The slot is the first entry and no other; a move's colour, kind and promotion are in range. Ranges that no entry read from 20 bytes can
+-- leave, as an ending's number or a square's figures, are tested below: the bytes of that entry are then not the same.
 abbrev pub kindTest : ℕ → Entry → Test
-kindTest k Slot = equals k 0
+kindTest k Slot = k equals 0
 kindTest k (Moved m) =
-    both (atMost 1 k) (both (atMost (m .color) 1) (both (atMost 1 (m .piece)) (both (atMost (m .piece) 14) (atMost (m .promote) 2))))
-kindTest k (End s t) = atMost 1 k
+    1 atMost k
+    and m .color atMost 1
+    and 1 atMost m .piece
+    and m .piece atMost 14
+    and m .promote atMost 2
+kindTest k (End s t) = 1 atMost k
 
 abbrev pub commentsBefore : List ℕ → ℕ → ℕ
 commentsBefore b = sum (λ k. commentCount b k)
@@ -127,10 +130,10 @@ commentsBefore b = sum (λ k. commentCount b k)
 abbrev pub entryTest : List ℕ → ℕ → Test
 entryTest b k =
     let e = entryIn (drop (movePlace b k) b) in
-    both (kindTest k e)
-    (holds
+    kindTest k e
+    and holds
     (same (take 20 (drop (movePlace b k) b))
-    (entryBytes e (pick (eqb (commentCount b k) 0) 0 (commentsBefore b k)) (commentCount b k))))
+    (entryBytes e (pick (eqb (commentCount b k) 0) 0 (commentsBefore b k)) (commentCount b k)))
 
 -- ---- the lines                                                                                      (01, The block: line; Attaching rule)
 
@@ -142,43 +145,36 @@ abbrev pub hangTest : ℕ → (ℕ → ℕ) → (ℕ → ℕ) → (ℕ → ℕ) 
 hangTest version start count parent k =
     holds
     (pick (eqb k 0)
-    (flag (both (equals (start 0) 0) (equals (parent 0) 0)))
+    (flag (start 0 equals 0 and parent 0 equals 0))
     (onHang (hangs start count (start k) k) (λ p e. eqb (parent k) p) false))
 
 abbrev pub lineTest : List ℕ → ℕ → Test
 lineTest b k =
-    both (equals (firstEntry b k) (entriesBefore b k)) (both (atMost 1 (entryCount b k)) (hangTest (le16 b 2) (startOf b) (entryCount b) (parentOf b) k))
+    firstEntry b k equals entriesBefore b k
+    and 1 atMost entryCount b k
+    and hangTest (le16 b 2) (startOf b) (entryCount b) (parentOf b) k
 
 -- ---- the whole
 
 -- The counts of the head are those of the tables, and the texts end where the block does.
 abbrev pub totalsTest : List ℕ → Test
 totalsTest b =
-    both (atMost 1 (linesIn b))
-    (both (equals (entriesBefore b (linesIn b)) (movesIn b))
-    (both (equals (commentsBefore b (movesIn b)) (commentsIn b))
-    (equals (textPlace b + headerBytes b (headersIn b) + commentBytes b (commentsIn b)) (length b))))
+    1 atMost linesIn b
+    and entriesBefore b (linesIn b) equals movesIn b
+    and commentsBefore b (movesIn b) equals commentsIn b
+    and textPlace b + headerBytes b (headersIn b) + commentBytes b (commentsIn b) equals length b
 
-pub record Sound (b : List ℕ) : Type 0 where
-  pub head : claim (headTest b)
-  pub parts : claim (partsTest b)
-  pub totals : claim (totalsTest b)
-  pub position : claim (positionTest b)
-  pub headers : claim (each (headersIn b) (headerTest b))
-  pub lines : claim (each (linesIn b) (lineTest b))
-  pub entries : claim (each (movesIn b) (entryTest b))
-  pub comments : claim (each (commentsIn b) (commentTest b))
-
--- All of it as one test.
+-- All that 01 asks of a sound block, in one test.
 abbrev pub soundTest : List ℕ → Test
 soundTest b =
-    both (headTest b)
-    (both (partsTest b)
-    (both (totalsTest b)
-    (both (positionTest b)
-    (both (each (headersIn b) (headerTest b))
-    (both (each (linesIn b) (lineTest b))
-    (both (each (movesIn b) (entryTest b)) (each (commentsIn b) (commentTest b))))))))
+    headTest b
+    and partsTest b
+    and totalsTest b
+    and positionTest b
+    and each (headersIn b) (headerTest b)
+    and each (linesIn b) (lineTest b)
+    and each (movesIn b) (entryTest b)
+    and each (commentsIn b) (commentTest b)
 
 unfoldable pub soundb : List ℕ → Bool
 soundb b = flag (soundTest b)

@@ -12,7 +12,8 @@ ghost use Rattle.lists.specs.Test.{each, flag};
 ghost use Rattle.block.specs.inner.Tests.{timeTest, moveTest, endTest, headTestOf, commentsTest};
 ghost use Rattle.block.specs.EntryBytes.{targetBytes, originBytes, targetIn, originIn};
 ghost use Rattle.block.specs.Decode.{movesIn};
-ghost use Rattle.block.specs.Sound.{same, entryTest, commentsBefore};
+ghost use Rattle.text.specs.Text.{same};
+ghost use Rattle.block.specs.Sound.{entryTest, commentsBefore};
 
 // An hour without its mark is zero.
 fn hour_fits(marked: bool, hour: u8) -> bool

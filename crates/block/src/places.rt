@@ -7,14 +7,14 @@ use jkf::Position;
 ghost use mathlib.Core.Path.{_≡_};
 ghost use Prim.Native.Nat.{_<_};
 ghost use lib.ListN.{length, drop, getD};
-ghost use Rattle.lists.specs.Test.{equals, holds, each, flag};
+ghost use Rattle.lists.specs.Test.{_equals_, holds, each, flag};
 ghost use Rattle.lent.specs.Bytes.{le16};
 ghost use Rattle.jkf.specs.inner.Linked.{Linked};
 ghost use Rattle.block.specs.Decode.{linesIn, linePlace, startOf, entryCount, parentOf};
 ghost use Rattle.block.specs.Sound.{isCell, diagramTest, fitsTest, positionTest, hangTest, lineTest, entriesBefore};
 
 pub(crate) fn all_zero(s: &[u8]) -> bool
-    ensures { λ r. ⌜ r ≡ flag (each (length (now (s .entry))) (λ i. equals (getD (now (s .entry)) i 0) 0)) ⌝ }
+    ensures { λ r. ⌜ r ≡ flag (each (length (now (s .entry))) (λ i. getD (now (s .entry)) i 0 equals 0)) ⌝ }
 {
     let mut i = 0;
     while i < s.len() {

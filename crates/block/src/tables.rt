@@ -5,7 +5,7 @@ ghost use mathlib.Core.Path.{_≡_};
 ghost use mathlib.Core.Bool.{not};
 ghost use Prim.Native.Nat.{_+_, _*_, _≤_, _<_};
 ghost use lib.ListN.{length, getD};
-ghost use Rattle.lists.specs.Test.{both, each, flag};
+ghost use Rattle.lists.specs.Test.{_and_, each, flag};
 ghost use Rattle.text.specs.Utf8.{isNext};
 ghost use Rattle.block.specs.inner.Tests.{headerStands, commentStands};
 ghost use Rattle.block.specs.Decode.{headersIn, commentsIn, commentPlace, textPlace};
@@ -179,7 +179,7 @@ fn comments_stand(b: &[u8], t: usize, headers: usize) -> bool
 // The header table and the comments. Their texts fill the text part, so all of them are valid where it is and each begins where a character may.
 pub(crate) fn texts_sound(b: &[u8], headers: usize) -> bool
     requires { ⌜ (headers ≡ headerBytes (now b) (headersIn (now b))) × (headers < 8600000000) × (textPlace (now b) + headerBytes (now b) (headersIn (now b)) + commentBytes (now b) (commentsIn (now b)) ≡ length (now b)) ⌝ }
-    ensures { λ r. ⌜ r ≡ flag (both (each (headersIn (now (b .entry))) (headerTest (now (b .entry)))) (each (commentsIn (now (b .entry))) (commentTest (now (b .entry))))) ⌝ }
+    ensures { λ r. ⌜ r ≡ flag (each (headersIn (now (b .entry))) (headerTest (now (b .entry))) and each (commentsIn (now (b .entry))) (commentTest (now (b .entry)))) ⌝ }
 {
     let t = fields::text_place(b);
     if !texts::is_valid(texts::rest(b, t)) {

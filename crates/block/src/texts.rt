@@ -6,7 +6,8 @@ ghost use lib.ListN.{length, take, drop, getD};
 ghost use Rattle.lists.specs.Test.{flag};
 ghost use Rattle.lent.specs.Bytes.{le16};
 ghost use Rattle.block.specs.Decode.{storedText, keyOf, valueOf, commentOf};
-ghost use Rattle.block.specs.Sound.{valid, before, same};
+ghost use Rattle.text.specs.Text.{before, same};
+ghost use Rattle.block.specs.Sound.{valid};
 
 // The part of the block that holds a text; what would lie past the end is left out.
 pub(crate) fn text_of(b: &[u8], offset: usize, len: usize) -> &[u8]

@@ -11,7 +11,8 @@ use lib.Dec.{eqb, ltb}
 use borrow.Author.Tests.{lt-ltb, le-ltb, eq-eqb, ltb-true, eqb-true}
 use Rattle.lists.specs.Pick.{pick}
 use Rattle.block.specs.Decode.{headersIn, keyOf}
-use Rattle.block.specs.Sound.{Sound, before}
+use Rattle.text.specs.Text.{before}
+use Rattle.block.specs.inner.Sounds.{Sound}
 
 -- one text that begins with x before one that begins with y: x is the lower, or they are equal and the rests decide
 pub record Lower (x y : ℕ) (a b : List ℕ) : Type 0 where

@@ -10,7 +10,8 @@ use Rattle.block.specs.PositionBytes.{positionIn}
 use Rattle.jkf.specs.Model.{Noted, Line}
 use Rattle.block.specs.Encode.{concat}
 use Rattle.block.specs.Decode.{run, linesIn, entryCount, commentLength, commentOf, notedIn, lineIn, decode}
-use Rattle.block.specs.Sound.{Sound, entriesBefore}
+use Rattle.block.specs.inner.Sounds.{Sound}
+use Rattle.block.specs.Sound.{entriesBefore}
 use Rattle.block.proofs.Sums.{sum-more}
 use Rattle.block.proofs.Within.{some-line, some-entry, first-none, comment-most}
 use Rattle.block.proofs.Tabling.{run-first, concat-none, concat-longer}

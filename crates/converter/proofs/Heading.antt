@@ -24,7 +24,7 @@ use Rattle.block.specs.Encode.{concat}
 use Rattle.block.specs.Decode.{run, headersIn, headerIn, keyOf, textPlace, keyOffset, keyLength, valueOffset, valueLength}
 use Rattle.block.proofs.Cuts.{key-in, value-in}
 use Rattle.block.proofs.Tabling.{run-add, run-snoc, concat-append, concat-snoc, concat-more}
-use Rattle.block.specs.Sound.{Sound}
+use Rattle.block.specs.inner.Sounds.{Sound}
 use Rattle.converter.specs.Headers.{leadingNumber, numbered, headerLine, linesOf, range}
 use Rattle.converter.specs.inner.Places.{placedAt, storedHeaders, Placed}
 use Rattle.converter.proofs.Keyed.{one-key}

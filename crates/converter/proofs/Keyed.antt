@@ -13,9 +13,9 @@ use lib.Dec.{eqb, leb}
 use borrow.Author.Tests.{leb-true, eqb-true, eq-eqb}
 use Rattle.lists.specs.Pick.{pick}
 use Rattle.lists.proofs.Laws.{pick-both, range, range-at}
-use Rattle.block.specs.Sound.{same}
+use Rattle.text.specs.Text.{same}
 use Rattle.converter.specs.Headers.{leadingKeys, numberAmong, leadingNumber}
-use Rattle.block.proofs.Deciding.{same-is, same-refl}
+use Rattle.text.proofs.Laws.{same-is, same-refl}
 
 -- ---- a number among some keys
 

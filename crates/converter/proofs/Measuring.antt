@@ -12,7 +12,8 @@ use Rattle.text.specs.Text.{wideColon}
 use Rattle.jkf.specs.Model.{Header}
 use Rattle.block.specs.Encode.{concat}
 use Rattle.block.specs.Decode.{run, headersIn, headerIn, keyLength, valueLength}
-use Rattle.block.specs.Sound.{Sound, headerBytes}
+use Rattle.block.specs.inner.Sounds.{Sound}
+use Rattle.block.specs.Sound.{headerBytes}
 use Rattle.block.proofs.Sums.{sum-none, sum-suc}
 use Rattle.block.proofs.Tabling.{run-snoc, concat-snoc, concat-none}
 use Rattle.block.proofs.Within.{key-length, value-length}

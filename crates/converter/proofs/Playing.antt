@@ -10,7 +10,7 @@ use Rattle.block.specs.EntryBytes.{entryIn}
 use Rattle.jkf.specs.Model.{Noted, Line}
 use Rattle.block.specs.Encode.{concat}
 use Rattle.block.specs.Decode.{decode, run, movePlace, linesIn, startOf, firstEntry, entryCount, firstComment, commentCount, commentOf, notedIn, lineIn}
-use Rattle.block.specs.Sound.{Sound}
+use Rattle.block.specs.inner.Sounds.{Sound}
 use Rattle.block.proofs.LineTables.{le16-drop}
 use Rattle.block.proofs.Within.{some-line, some-entry, first-none}
 use Rattle.block.proofs.Tabling.{run-first}

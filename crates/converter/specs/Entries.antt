@@ -7,7 +7,7 @@ use lib.ListN.{length, getD, replicate}
 use lib.Dec.{eqb, leb}
 use Rattle.lists.specs.Pick.{pick}
 use Rattle.lent.specs.Numbers.{decimal, padded}
-use Rattle.text.specs.Text.{wideSpace}
+use Rattle.text.specs.Text.{wideSpace, same}
 use Rattle.spell.specs.Tables.{moveKinds, specials, writtenSpecials, numerals, files}
 use Rattle.spell.specs.Spell.{spelled}
 use Rattle.jkf.specs.Entries.{specialNumber, timeOf}
@@ -25,7 +25,6 @@ use Rattle.jkf.specs.declared.Entry.{Entry}
 use Rattle.jkf.specs.declared.Entry.the-variants.{Slot, Moved, End}
 use Rattle.jkf.specs.Model.{Noted}
 use Rattle.block.specs.Encode.{concat}
-use Rattle.block.specs.Sound.{same}
 use Rattle.spell.specs.Words.{sameWord, promotes, drops}
 
 -- ---- a move

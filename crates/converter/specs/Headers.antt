@@ -4,11 +4,10 @@ use Prim.Native.Nat.{ℕ, _+_}
 use mathlib.Core.List.{List, [], _∷_, _++_}
 use lib.Dec.{eqb}
 use Rattle.lists.specs.Pick.{pick}
-use Rattle.text.specs.Text.{wideColon}
+use Rattle.text.specs.Text.{wideColon, same}
 use Rattle.jkf.specs.Model.{Header}
 use Rattle.block.specs.Encode.{concat}
 use Rattle.block.specs.Decode.{run}
-use Rattle.block.specs.Sound.{same}
 
 -- 開始日時 終了日時 表題 棋戦 戦型 持ち時間 秒読み 場所 先手 下手 後手 上手.                          (the Rust's HEADER_ORDER)
 abbrev pub leadingKeys : List (List ℕ)

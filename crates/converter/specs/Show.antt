@@ -103,10 +103,10 @@ pub data Shown : Type 0 where
   text : List ℕ → ℕ → Shown
   refused : Answer → Shown
 
--- The entries.
+-- Where no entry stands in the way, the whole text.                                                     (01, Numbers of refusal: 9)
 unfoldable pub showLines : Record → Shown
 showLines r = onObstacle (linesObstacle (r .lines)) (λ line entry. refused (CannotWrite line entry)) (text (recordText r) (leftOut (r .lines)))
 
--- The hands before the entries.                                                                        (01, Numbers of refusal: order)
+-- The hands are looked at before the entries.                                                          (01, Numbers of refusal: order)
 unfoldable pub show : Record → Shown
 show r = let s = showLines r in onObstacle (handsObstacle (r .position)) (λ side kind. refused (HandCount side kind)) s

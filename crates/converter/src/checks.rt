@@ -11,7 +11,7 @@ ghost use mathlib.Core.Path.{_≡_};
 ghost use Prim.Native.Nat.{_+_, _<_};
 ghost use Rattle.block.specs.EntryBytes.{entryIn};
 ghost use Rattle.block.specs.Decode.{run, notedIn, decode};
-ghost use Rattle.block.specs.Sound.{Sound};
+ghost use Rattle.block.specs.inner.Sounds.{Sound};
 ghost use Rattle.converter.specs.Entries.{within, targetFits, timeFits, canWrite};
 ghost use Rattle.converter.specs.Show.{handObstacle, handsObstacle, entryObstacle, linesObstacle};
 ghost use Rattle.converter.specs.inner.Lines.{ShownLines};

@@ -4,7 +4,7 @@ ghost use mathlib.Core.List.{[]};
 ghost use Prim.Native.Nat.{_-_, _≤_};
 ghost use lib.ListN.{getD};
 ghost use Rattle.lists.specs.Pick.{pick};
-ghost use Rattle.block.specs.Sound.{same};
+ghost use Rattle.text.specs.Text.{same};
 ghost use Rattle.converter.specs.Headers.{leadingKeys, leadingNumber};
 
 // A row is a key's length and its bytes, with zeros to 13.

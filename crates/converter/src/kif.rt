@@ -17,7 +17,7 @@ ghost use Rattle.block.specs.EntryBytes.{entryIn};
 ghost use Rattle.jkf.specs.Entries.{specialOf};
 ghost use Rattle.block.specs.Encode.{concat};
 ghost use Rattle.block.specs.Decode.{run, movesIn, linesIn, commentOf, notedIn, lineIn, decode};
-ghost use Rattle.block.specs.Sound.{Sound};
+ghost use Rattle.block.specs.inner.Sounds.{Sound};
 ghost use Rattle.converter.specs.Entries.{targetText, promoteText, originText, moveText, kindWidth, promoteWidth, originWidth, moveWidth, specialWidth, hour, minute, second, figureText, nowText, totalText, timePadding, timeText, playText, widthOf, entryLine, starText, remarkText, remarksText, notedText, entriesText};
 ghost use Rattle.converter.specs.Show.{mainText, variationHead, variationText, linesText};
 ghost use Rattle.converter.specs.inner.Lines.{ShownLines};

@@ -24,7 +24,7 @@ ghost use Rattle.block.specs.EntryBytes.{entryIn};
 ghost use Rattle.jkf.specs.Entries.{specialOf};
 ghost use Rattle.block.specs.Encode.{concat};
 ghost use Rattle.block.specs.Decode.{run, movesIn, linesIn, entryCount, commentOf, notedIn, lineIn, decode};
-ghost use Rattle.block.specs.Sound.{Sound};
+ghost use Rattle.block.specs.inner.Sounds.{Sound};
 ghost use Rattle.converter.specs.Headers.{headersText};
 ghost use Rattle.converter.specs.inner.Places.{storedHeaders};
 ghost use Rattle.converter.specs.Diagrams.{positionText};

@@ -19,7 +19,7 @@ ghost use Prim.Native.Nat.{_≤_};
 ghost use lib.ListN.{length};
 ghost use Rattle.lent.specs.Bytes.{Wrote};
 ghost use Rattle.block.specs.Decode.{decode};
-ghost use Rattle.block.specs.Sound.{Sound};
+ghost use Rattle.block.specs.inner.Sounds.{Sound};
 ghost use Rattle.converter.specs.Show.{recordText, leftOut, showLines, show};
 ghost use Rattle.converter.specs.inner.Lines.{ShownLines};
 ghost use Rattle.converter.specs.Writing.{textStored, shownOf, writeOf};

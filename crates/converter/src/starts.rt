@@ -11,7 +11,7 @@ ghost use Rattle.spell.specs.Tables.{kinds, numerals};
 ghost use Rattle.spell.specs.Spell.{spelled};
 ghost use Rattle.spell.specs.Count.{countText};
 ghost use Rattle.block.specs.Encode.{concat};
-ghost use Rattle.block.specs.Sound.{Sound};
+ghost use Rattle.block.specs.inner.Sounds.{Sound};
 ghost use Rattle.converter.specs.Headers.{headerLine, linesOf, headersText, range};
 ghost use Rattle.converter.specs.inner.Places.{storedHeaders, Placed};
 ghost use Rattle.converter.specs.Diagrams.{presetLine, heldText, allHeld, orNone, handLineText, cellText, cellsText, boardRow, boardRows, boardText, turnText, diagramText, positionText};

@@ -13,7 +13,7 @@ use Rattle.lists.specs.Pick.{pick}
 use Rattle.jkf.specs.Attaching.{Play, attach}
 use Rattle.block.specs.Encode.{table, lineRow, lineStep}
 use Rattle.block.specs.Decode.{linesIn, decode}
-use Rattle.block.specs.Sound.{Sound}
+use Rattle.block.specs.inner.Sounds.{Sound}
 use Rattle.plays.specs.Plays.{plyAt}
 use Rattle.plays.specs.Counted.{extentAt}
 use Rattle.plays.specs.declared.Extent.{Extent}

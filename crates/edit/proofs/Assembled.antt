@@ -20,7 +20,8 @@ use Rattle.jkf.specs.Attaching.{Play, attach}
 use Rattle.block.specs.PositionBytes.{positionBytes, positionIn}
 use Rattle.block.specs.Encode.{table, lineRow, lineStep, blockLength, concat, headerText, entriesOf, commentsOf, commentText, encodeFlat, encode}
 use Rattle.block.specs.Decode.{run, headersIn, linesIn, movesIn, keyLength, valueLength, keyOf, valueOf, headerIn, notedIn, decode}
-use Rattle.block.specs.Sound.{Sound, headerBytes, entriesBefore}
+use Rattle.block.specs.inner.Sounds.{Sound}
+use Rattle.block.specs.Sound.{headerBytes, entriesBefore}
 use Rattle.block.proofs.ByteArrays.{bytes-length}
 use Rattle.block.proofs.PositionsBack.{position-length}
 use Rattle.block.proofs.Sums.{sum-none, sum-suc}

@@ -19,7 +19,8 @@ use Rattle.jkf.proofs.Nears.{near-before, near-same, Hangs}
 use Rattle.jkf.specs.Model.{Noted, Line}
 use Rattle.block.specs.Encode.{concat, entriesOf}
 use Rattle.block.specs.Decode.{run, linesIn, movesIn, startOf, firstEntry, entryCount, parentOf, notedIn, lineIn, decode}
-use Rattle.block.specs.Sound.{Sound, sum, entriesBefore}
+use Rattle.block.specs.inner.Sounds.{Sound}
+use Rattle.block.specs.Sound.{sum, entriesBefore}
 use Rattle.block.specs.Formed.{lineOf}
 use Rattle.block.proofs.Sums.{sum-more, sum-rises, sum-within, sum-some}
 use Rattle.block.proofs.Hanging.{hang-first, hang-says}

@@ -23,7 +23,8 @@ playsIn = map (λ l. play (l .start) (l .entries))
 abbrev pub hung : ℕ → List Line → List Line
 hung version ls = attach (playsIn ls)
 
--- A record with other lines, hung afresh: the one step in which both edits end.
+-- A record with other lines, hung afresh: the one step in which both edits end. In a block of version 1 each is hung by the attaching rule,
+-- whatever parent it is given here (`hung`).
 unfoldable pub fresh : Record → List Line → Record
 fresh r ls = record { version = r .version; headers = r .headers; position = r .position; lines = hung (r .version) ls }
 

@@ -7,7 +7,7 @@ ghost use lib.Dec.{eqb};
 ghost use mathlib.Core.Bool.{false};
 ghost use Rattle.lists.specs.Pick.{pick};
 ghost use Rattle.block.specs.Decode.{linesIn, startOf, parentOf, decode};
-ghost use Rattle.block.specs.Sound.{Sound};
+ghost use Rattle.block.specs.inner.Sounds.{Sound};
 ghost use Rattle.plays.specs.Plays.{entriesAt};
 ghost use Rattle.edit.specs.Edit.{playsIn, isVariation, isPlyOf, carries, placeOf, removedFrom};
 

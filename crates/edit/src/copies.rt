@@ -6,7 +6,7 @@ ghost use Prim.Native.Nat.{_+_, _*_, _≤_, _<_};
 ghost use lib.ListN.{length};
 ghost use Rattle.block.specs.Encode.{commentText};
 ghost use Rattle.block.specs.Decode.{run, movesIn, commentOf, notedIn};
-ghost use Rattle.block.specs.Sound.{Sound};
+ghost use Rattle.block.specs.inner.Sounds.{Sound};
 ghost use Rattle.filling.specs.Filling.{putComments, putNoted, putEntries};
 ghost use Rattle.edit.specs.inner.Splicing.{commentsWithin, bytesWithin, headersPut};
 

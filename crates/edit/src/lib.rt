@@ -21,7 +21,7 @@ ghost use mathlib.Core.Bool.{true};
 ghost use Prim.Native.Nat.{_≤_, _<_};
 ghost use Rattle.block.specs.Decode.{linesIn, decode};
 ghost use Rattle.block.specs.Encode.{encode};
-ghost use Rattle.block.specs.Sound.{Sound};
+ghost use Rattle.block.specs.inner.Sounds.{Sound};
 ghost use Rattle.plays.specs.Plays.{plyAt};
 ghost use Rattle.plays.specs.Counted.{extentAt};
 ghost use Rattle.edit.specs.Edit.{playsIn, isVariation, variationOf, putIn, insertOn, insert, removedFrom, remove};

@@ -6,10 +6,10 @@ use mathlib.Core.Path.{_≡_, refl, sym, ap, _∙_}
 use mathlib.Core.List.{List, [], _∷_, _++_}
 use mathlib.Core.Bool.{true, false}
 use lib.ListN.{length, length-append}
-use lib.Seq.{sets, length-sets}
 use Rattle.lists.specs.Repeat.{more, stop, Ended}
 use Rattle.lists.proofs.Repeats.{many-more, many-stop}
-use Rattle.lent.proofs.Regions.{sets-more}
+use Rattle.lent.specs.Stored.{put}
+use Rattle.lent.proofs.Regions.{put-none, put-more, length-put}
 use Rattle.text.specs.Text.{cursor}
 use Rattle.text.specs.declared.Cursor.{Cursor}
 use Rattle.kakinoki.specs.Informations.{headerAt, Said, informationAt, isLine, saidOf, hashLinesAt, informationItem, informationsAt, faultOf, faultAt, tell, tellAll, untold, keyedPlace, headerPlacesAt, low16}
@@ -38,7 +38,7 @@ pub record Saying (s : List ℕ) (start : ℕ) (o₀ : List ℕ) (t : Told) (n a
   pub says : tellAll untold (informationsAt s start .state) ≡ tellAll t (informationsAt s at .state)
   pub ends : informationsAt s start .at ≡ informationsAt s at .at
   pub counts : length (headerPlacesAt s start) ≡ n + length (headerPlacesAt s at)
-  pub keeps : sets o₀ 0 (low16 (headerPlacesAt s start)) ≡ sets o n (low16 (headerPlacesAt s at))
+  pub keeps : put o₀ 0 (low16 (headerPlacesAt s start)) ≡ put o n (low16 (headerPlacesAt s at))
 
 pub saying-none : (s : List ℕ) (at : ℕ) (o : List ℕ) → Saying s at o untold 0 at o
 saying-none s at o = record { says = refl; ends = refl; counts = omega arith; keeps = refl }
@@ -46,7 +46,7 @@ saying-none s at o = record { says = refl; ends = refl; counts = omega arith; ke
 module _ {s : List ℕ} {start : ℕ} {o₀ : List ℕ} {t : Told} {n at : ℕ} {o : List ℕ} (w : Saying s start o₀ t n at o) where
   pub saying-length : length o ≡ length o₀
   saying-length =
-      sym (length-sets o n (low16 (headerPlacesAt s at))) ∙ sym (ap length (w .keeps)) ∙ length-sets o₀ 0 (low16 (headerPlacesAt s start))
+      sym (length-put o n (low16 (headerPlacesAt s at))) ∙ sym (ap length (w .keeps)) ∙ length-put o₀ 0 (low16 (headerPlacesAt s start))
 
   -- no more header lines than bytes
   pub saying-few : n ≤ length s
@@ -69,7 +69,7 @@ module _ {s : List ℕ} {start : ℕ} {o₀ : List ℕ} {t : Told} {n at : ℕ} 
       saying-within = item s at _ _ here .within
 
       pub saying-more : {t′ : Told} {n′ : ℕ} {o′ : List ℕ} → t′ ≡ tell t (saidOf (i .info) (i .counts) (headerAt s h))
-          → n′ ≡ n + length (keyedPlace (i .info) h) → o′ ≡ sets o n (low16 (keyedPlace (i .info) h)) → Saying s start o₀ t′ n′ (i .next .at) o′
+          → n′ ≡ n + length (keyedPlace (i .info) h) → o′ ≡ put o n (low16 (keyedPlace (i .info) h)) → Saying s start o₀ t′ n′ (i .next .at) o′
       unfolding informationsAt tellAll
       saying-more {t′} {n′} {o′} f g r =
           let next : ℕ = i .next .at in
@@ -84,17 +84,17 @@ module _ {s : List ℕ} {start : ℕ} {o₀ : List ℕ} {t : Told} {n at : ℕ} 
             ends = w .ends ∙ ap (λ (b : Ended (List Said)). b .at) m;
             counts = omega (arith, w .counts, ap length d, length-append ps qs);
             keeps =
-                w .keeps ∙ ap (λ (l : List ℕ). sets o n (low16 l)) d ∙ ap (λ (l : List ℕ). sets o n l) (low-append ps qs)
-                ∙ sym (sets-more (low16 ps) (low16 qs) o n) ∙ ap (λ (j : ℕ). sets (sets o n (low16 ps)) j (low16 qs)) e
-                ∙ ap (λ (l : List ℕ). sets l n′ (low16 qs)) (sym r);
+                w .keeps ∙ ap (λ (l : List ℕ). put o n (low16 l)) d ∙ ap (λ (l : List ℕ). put o n l) (low-append ps qs)
+                ∙ sym (put-more o (low16 ps) (low16 qs) n) ∙ ap (λ (j : ℕ). put (put o n (low16 ps)) j (low16 qs)) e
+                ∙ ap (λ (l : List ℕ). put l n′ (low16 qs)) (sym r);
           }
 
     module _ (none : isLine (i .info) ≡ false) where
       over : informationItem s at ≡ stop
       over = item-stop s at (rw read at none)
 
-      pub saying-kept : o ≡ sets o₀ 0 (low16 (headerPlacesAt s start))
-      saying-kept = sym (w .keeps ∙ ap (λ (l : List ℕ). sets o n (low16 l)) (places-stop s at over))
+      pub saying-kept : o ≡ put o₀ 0 (low16 (headerPlacesAt s start))
+      saying-kept = sym (w .keeps ∙ ap (λ (l : List ℕ). put o n (low16 l)) (places-stop s at over) ∙ put-none o n)
 
       pub saying-all : made t n (faultOf (i .info) h) (cursor at) ≡ blockAt s start
       unfolding blockAt informationsAt faultAt tellAll

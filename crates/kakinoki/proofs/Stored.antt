@@ -9,6 +9,7 @@ use lib.ListN.{length, take, drop, set, take-append-drop}
 use lib.Seq.{set-out, sets, length-take-le}
 use borrow.Rule.Slice.PartMut.{midOf, putMid}
 use Rattle.lent.proofs.Writes.{rest, back}
+use Rattle.lent.specs.Stored.{put}
 use Rattle.lent.proofs.Regions.{sets-more}
 
 sets-cons : (x : ℕ) (l : List ℕ) (i : ℕ) (u : List ℕ) → sets (x ∷ l) (suc i) u ≡ x ∷ sets l i u
@@ -38,8 +39,9 @@ sets-min o u n = go (decLe n (length o))
     go (yes h) = let e : min n (length o) ≡ n = omega arith in ap (λ (k : ℕ). sets o k u) e
     go (no h) = sets-out u o (min n (length o)) (omega arith) ∙ sym (sets-out u o n (omega arith))
 
-pub two-parts : (t u o o₁ o₂ : List ℕ) (k : ℕ) → o₁ ≡ sets o 0 t → k ≡ min (length t) (length o₁) → o₂ ≡ sets (midOf k (length o₁ - k) o₁) 0 u
-    → putMid k (length o₁ - k) o₁ o₂ ≡ sets o 0 (t ++ u)
+pub two-parts : (t u o o₁ o₂ : List ℕ) (k : ℕ) → o₁ ≡ put o 0 t → k ≡ min (length t) (length o₁) → o₂ ≡ put (midOf k (length o₁ - k) o₁) 0 u
+    → putMid k (length o₁ - k) o₁ o₂ ≡ put o 0 (t ++ u)
+unfolding put
 two-parts t u o o₁ o₂ k e m f =
     let z : 0 + length t ≡ length t = omega arith in
     back o₁ o₂ k ∙ ap (λ (l : List ℕ). take k o₁ ++ l) (f ∙ ap (λ (l : List ℕ). sets l 0 u) (rest o₁ k)) ∙ sets-rest o₁ u k (omega arith)

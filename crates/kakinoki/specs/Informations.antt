@@ -186,7 +186,7 @@ isLine Keyed = true
 isLine Refused = false
 isLine Nothing = false
 
--- What it says; the header entry is a key and value's.
+-- What it says; the header entry is a key and value's. The last two cases are not met: they are no line (`isLine`).
 abbrev pub saidOf : Info → List ℕ → Header → Said
 saidOf (Preset n) counts h = ofPreset n
 saidOf (Turn n) counts h = ofTurn n

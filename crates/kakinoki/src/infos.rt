@@ -15,7 +15,7 @@ use text::Place;
 ghost use mathlib.Core.Path.{_≡_};
 ghost use Prim.Native.Nat.{_+_, _<_};
 ghost use lib.ListN.{length, drop};
-ghost use lib.Seq.{sets};
+ghost use Rattle.lent.specs.Stored.{put};
 ghost use Rattle.text.specs.Text.{endsKey, keyAt};
 ghost use Rattle.jkf.specs.Model.{Header};
 ghost use Rattle.kakinoki.specs.Informations.{hashLineAt, hashLinesAt, endsLine, presetLineAt, turnLineAt, valueAt, keyValueAt, emptyHand, information, keyedAt, handsOrKeyedAt, informationAt, isLine, saidOf, faultOf, tell, keyedPlace, headerPlacesAt, low16};
@@ -255,7 +255,7 @@ fn tell(told: Told, info: Info, counts: [u8; 7]) -> Told
 fn keep(info: Info, c: Cursor, n: usize, places: &mut [u16]) -> usize
     requires { ⌜ n + 1 < 18446744073709551616 ⌝ }
     ensures { λ r. ⌜ r ≡ n + length (keyedPlace info (c .at)) ⌝ }
-    ensures { λ r. ⌜ now (places .exit) ≡ sets (now (places .entry)) n (low16 (keyedPlace info (c .at))) ⌝ }
+    ensures { λ r. ⌜ now (places .exit) ≡ put (now (places .entry)) n (low16 (keyedPlace info (c .at))) ⌝ }
 {
     match info {
         Info::Keyed => {
@@ -271,7 +271,7 @@ fn keep(info: Info, c: Cursor, n: usize, places: &mut [u16]) -> usize
 // An information block: what it says, and the places of its header lines.   (the Rust's informations)
 pub(crate) fn informations(c: Cursor, s: &[u8], places: &mut [u16]) -> InformationBlock
     ensures { λ r. ⌜ r ≡ blockAt (now (s .entry)) (c .at) ⌝ }
-    ensures { λ r. ⌜ now (places .exit) ≡ sets (now (places .entry)) 0 (low16 (headerPlacesAt (now (s .entry)) (c .at))) ⌝ }
+    ensures { λ r. ⌜ now (places .exit) ≡ put (now (places .entry)) 0 (low16 (headerPlacesAt (now (s .entry)) (c .at))) ⌝ }
 {
     let mut told = Told {
         preset: Named::Unsaid,

@@ -10,7 +10,7 @@ use text::Cursor;
 ghost use mathlib.Core.Path.{_≡_};
 ghost use Prim.Native.Nat.{min};
 ghost use mathlib.Core.List.{_++_};
-ghost use lib.Seq.{sets};
+ghost use Rattle.lent.specs.Stored.{put};
 ghost use Rattle.lists.specs.Pick.{pick};
 ghost use Rattle.kakinoki.specs.Informations.{low16};
 ghost use Rattle.kakinoki.specs.Starts.{named, either, addCounts, addHands, merged, positionOf, headerPlaces, startRead};
@@ -148,7 +148,7 @@ fn smaller(a: usize, b: usize) -> usize
 // Both blocks, the board between them, and the places of the header lines.   (the Rust's parse_without_moves)
 pub fn parse_without_moves(s: &[u8], places: &mut [u16]) -> Start
     ensures { λ r. ⌜ r ≡ startRead (now (s .entry)) ⌝ }
-    ensures { λ r. ⌜ now (places .exit) ≡ sets (now (places .entry)) 0 (low16 (headerPlaces (now (s .entry)))) ⌝ }
+    ensures { λ r. ⌜ now (places .exit) ≡ put (now (places .entry)) 0 (low16 (headerPlaces (now (s .entry)))) ⌝ }
 {
     let first = informations(Cursor { at: 0 }, s, places);
     let diagram = board(first.next, s);

@@ -29,12 +29,12 @@ use Rattle.jkf.proofs.Nears.{near-same, hangs-made}
 use Rattle.jkf.specs.Model.{Line, Record}
 use Rattle.block.specs.Encode.{encode}
 use Rattle.block.specs.Decode.{decode, linesIn, startOf, entryCount}
-use Rattle.block.specs.Sound.{Sound}
+use Rattle.block.specs.inner.Sounds.{Sound}
 use Rattle.block.specs.Formed.{lineOf, Formed}
 use Rattle.block.proofs.Deciding.{sound-answers}
 use Rattle.plays.specs.Plays.{entriesAt, plyAt}
 use Rattle.block.proofs.Attached.{attach-length, attach-line}
-use Rattle.edit.specs.Edit.{Edited, edited, playsIn, variationOf, renumbered, removedFrom, lowered, Kept, remove}
+use Rattle.edit.specs.Edit.{Edited, edited, playsIn, reparented, variationOf, renumbered, removedFrom, lowered, Kept, remove}
 use Rattle.edit.specs.inner.Splicing.{relined, without}
 use Rattle.edit.specs.Outcomes.{editStored, editedOf, putInOf, cutOf}
 use Rattle.edit.proofs.Played.{starts-is, counts-is, plays-long}
@@ -45,7 +45,7 @@ use Rattle.edit.proofs.Sounds.{lines-afresh, plays-back, parent-is}
 use Rattle.edit.proofs.Parents.{cut-fresh}
 use Rattle.edit.proofs.Undoing.{cut-undoes}
 use Rattle.laws.specs.Blocks.{Bytes, frontOf}
-use Rattle.laws.specs.Edits.{withParent, HangsFrom, itself, on, PutHolds, NoParentRefused, CutHolds, NoCutTooLong}
+use Rattle.laws.specs.Edits.{HangsFrom, itself, on, putBlock, cutBlock, PutHolds, NoParentRefused, CutHolds, NoCutTooLong}
 use Rattle.laws.proofs.Fields.{lines-are, start-is, entry-count-is}
 use Rattle.laws.proofs.Decoded.{formed-fits, decode-encode}
 use Rattle.laws.proofs.Encoded.{encode-decode}
@@ -61,11 +61,11 @@ playsOf b = playsIn (decode b .lines)
 
 -- line l is now line r
 line-moved : (ps qs : List Play) (f : ℕ → ℕ) (l r : ℕ) → l < length ps → r < length qs → playOf qs r ≡ playOf ps l → parentIn qs r ≡ f (parentIn ps l)
-    → lineOf (attach qs) r ≡ withParent (f (lineOf (attach ps) l .parent)) (lineOf (attach ps) l)
+    → lineOf (attach qs) r ≡ reparented f (lineOf (attach ps) l)
 line-moved ps qs f l r h h′ e p =
     attach-line qs r h′
     ∙ ap₂ (λ (x : Play) (y : ℕ). record { start = x .start; parent = y; entries = x .entries }) e p
-    ∙ sym (ap (λ (x : Line). withParent (f (x .parent)) x) (attach-line ps l h))
+    ∙ sym (ap (λ (x : Line). reparented f x) (attach-line ps l h))
 
 module _ (b : List ℕ) (qs : List Play) (c : List ℕ) (g : Formed (relined (decode b) qs)) (e : c ≡ encode (relined (decode b) qs)) where
   relined-sound : Sound c
@@ -111,52 +111,52 @@ remove-made r k z h =
 -- ---- put-in
 
 module _ (b t o : List ℕ) (bs : Bytes b) (ts : Bytes t) (k n i : ℕ) (done : putInOf b k t o .answer ≡ Done n i) where
-  puts : PutDone b k t (frontOf n (putInOf b k t o)) i
+  puts : PutDone b k t (putBlock b t o k n) i
   puts = put-done b t o bs ts k n i done
 
   put-long : length (putLines b k t) ≡ linesIn b + 1
   put-long = put-length (playsOf b) (putPlace b k t) (variationOf t) (place-within (playsOf b) k (plyAt t 0) (puts .put)) ∙ ap (λ (x : ℕ). x + 1) (plays-long b)
 
-  pub put-sound : Sound (frontOf n (putInOf b k t o))
-  put-sound = relined-sound b (putLines b k t) (frontOf n (putInOf b k t o)) (puts .formed) (puts .front)
+  pub put-sound : Sound (putBlock b t o k n)
+  put-sound = relined-sound b (putLines b k t) (putBlock b t o k n) (puts .formed) (puts .front)
 
-  pub put-rest : (linesIn (frontOf n (putInOf b k t o)) ≡ linesIn b + 1)
-      × (decode (frontOf n (putInOf b k t o)) .headers ≡ decode b .headers)
-      × (decode (frontOf n (putInOf b k t o)) .position ≡ decode b .position)
+  pub put-rest : (linesIn (putBlock b t o k n) ≡ linesIn b + 1)
+      × (decode (putBlock b t o k n) .headers ≡ decode b .headers)
+      × (decode (putBlock b t o k n) .position ≡ decode b .position)
   put-rest =
-      let c = frontOf n (putInOf b k t o) in
+      let c = putBlock b t o k n in
       let (h, p) = relined-rest b (putLines b k t) c (puts .formed) (puts .front) in
       (relined-many b (putLines b k t) c (puts .formed) (puts .front) ∙ put-long, h, p)
 
   pub put-keeps : (l : ℕ) → l < linesIn b
-      → lineOf (decode (frontOf n (putInOf b k t o)) .lines) (renumbered i l)
-      ≡ withParent (renumbered i (lineOf (decode b .lines) l .parent)) (lineOf (decode b .lines) l)
+      → lineOf (decode (putBlock b t o k n) .lines) (renumbered i l)
+      ≡ reparented (renumbered i) (lineOf (decode b .lines) l)
   put-keeps l h =
-      let c = frontOf n (putInOf b k t o) in
+      let c = putBlock b t o k n in
       let a : l < length (playsOf b) = omega (arith, plays-long b) in
       let (e, p) = kept-after-put (playsOf b) k (variationOf t) (puts .put) l (play 0 []) a in
-      subst (λ (x : ℕ). lineOf (decode c .lines) (renumbered x l) ≡ withParent (renumbered x (lineOf (decode b .lines) l .parent)) (lineOf (decode b .lines) l)) (sym (puts .place))
+      subst (λ (x : ℕ). lineOf (decode c .lines) (renumbered x l) ≡ reparented (renumbered x) (lineOf (decode b .lines) l)) (sym (puts .place))
       (ap (λ (ls : List Line). lineOf ls (renumbered (putPlace b k t) l)) (relined-lines b (putLines b k t) c (puts .formed) (puts .front))
       ∙ line-moved (playsOf b) (putLines b k t) (renumbered (putPlace b k t)) l (renumbered (putPlace b k t) l) a within e p
-      ∙ sym (ap (λ (ls : List Line). withParent (renumbered (putPlace b k t) (lineOf ls l .parent)) (lineOf ls l)) (lines-afresh b (puts .sound))))
+      ∙ sym (ap (λ (ls : List Line). reparented (renumbered (putPlace b k t)) (lineOf ls l)) (lines-afresh b (puts .sound))))
     where
       within : renumbered (putPlace b k t) l < length (putLines b k t)
       within =
           by-pick (λ (q : ℕ). q < length (putLines b k t)) (leb (putPlace b k t) l) (l + 1) l (λ _. omega (arith, put-long)) (λ _. omega (arith, put-long))
 
   -- the new line
-  new-line : lineOf (decode (frontOf n (putInOf b k t o)) .lines) (putPlace b k t)
+  new-line : lineOf (decode (putBlock b t o k n) .lines) (putPlace b k t)
       ≡ record { start = plyAt t 0; parent = k; entries = entriesAt t 0 .state }
   new-line =
       let qs = putLines b k t in
       let fits = place-within (playsOf b) k (plyAt t 0) (puts .put) in
-      ap (λ (ls : List Line). lineOf ls (putPlace b k t)) (relined-lines b qs (frontOf n (putInOf b k t o)) (puts .formed) (puts .front))
+      ap (λ (ls : List Line). lineOf ls (putPlace b k t)) (relined-lines b qs (putBlock b t o k n) (puts .formed) (puts .front))
       ∙ attach-line qs (putPlace b k t) (omega (arith, put-long, plays-long b))
       ∙ ap₂ (λ (x : Play) (y : ℕ). record { start = x .start; parent = y; entries = x .entries })
       (put-list (playsOf b) (putPlace b k t) (variationOf t) fits (play 0 []) .new) (new-parent (playsOf b) k (variationOf t) (puts .put))
 
   -- where the attaching rule finds that it hangs
-  new-hang : hangs (startOf (frontOf n (putInOf b k t o))) (entryCount (frontOf n (putInOf b k t o))) (plyAt t 0) (putPlace b k t)
+  new-hang : hangs (startOf (putBlock b t o k n)) (entryCount (putBlock b t o k n)) (plyAt t 0) (putPlace b k t)
       ≡ On k (plyAt t 0 - startOf b k)
   new-hang =
       let v = variationOf t in
@@ -170,7 +170,7 @@ module _ (b t o : List ℕ) (bs : Bytes b) (ts : Bytes t) (k n i : ℕ) (done : 
       ∙ simp (le-leb (startOf b k) (plyAt t 0) (omega (arith, ply-low (playsOf b) k (plyAt t 0) (puts .put))), lt-ltb (plyAt t 0 - startOf b k) (entryCount b k) (omega (arith, ply-within (playsOf b) k (plyAt t 0) (puts .put))))
     where
       c : List ℕ
-      c = frontOf n (putInOf b k t o)
+      c = putBlock b t o k n
 
       qs : List Play
       qs = putLines b k t
@@ -187,16 +187,16 @@ module _ (b t o : List ℕ) (bs : Bytes b) (ts : Bytes t) (k n i : ℕ) (done : 
       ct : (j : ℕ) → j < length qs → entryCount c j ≡ counts qs j
       ct = relined-counts b qs c (puts .formed) (puts .front)
 
-  pub put-hangs : (lineOf (decode (frontOf n (putInOf b k t o)) .lines) i ≡ record { start = plyAt t 0; parent = k; entries = entriesAt t 0 .state })
-      × (hangs (startOf (frontOf n (putInOf b k t o))) (entryCount (frontOf n (putInOf b k t o))) (plyAt t 0) i ≡ On k (plyAt t 0 - startOf b k))
+  pub put-hangs : (lineOf (decode (putBlock b t o k n) .lines) i ≡ record { start = plyAt t 0; parent = k; entries = entriesAt t 0 .state })
+      × (hangs (startOf (putBlock b t o k n)) (entryCount (putBlock b t o k n)) (plyAt t 0) i ≡ On k (plyAt t 0 - startOf b k))
   put-hangs =
-      let c = frontOf n (putInOf b k t o) in (
+      let c = putBlock b t o k n in (
         subst (λ (x : ℕ). lineOf (decode c .lines) x ≡ record { start = plyAt t 0; parent = k; entries = entriesAt t 0 .state }) (sym (puts .place)) new-line,
         subst (λ (x : ℕ). hangs (startOf c) (entryCount c) (plyAt t 0) x ≡ On k (plyAt t 0 - startOf b k)) (sym (puts .place)) new-hang,
       )
 
   -- cut, the new line leaves the record that there was
-  taken-back : remove (decode (frontOf n (putInOf b k t o))) (putPlace b k t) ≡ edited (decode b) 1
+  taken-back : remove (decode (putBlock b t o k n)) (putPlace b k t) ≡ edited (decode b) 1
   unfolding relined
   taken-back =
       let qs = putLines b k t in
@@ -205,17 +205,17 @@ module _ (b t o : List ℕ) (bs : Bytes b) (ts : Bytes t) (k n i : ℕ) (done : 
       let past = place-past (playsOf b) k (plyAt t 0) (puts .put) in
       let fits = place-within (playsOf b) k (plyAt t 0) (puts .put) in
       let (alone, back) = cut-undoes (playsOf b) k (variationOf t) (puts .put) in
-      ap (λ (x : Record). remove x i) (relined-is b qs (frontOf n (putInOf b k t o)) (puts .formed) (puts .front))
+      ap (λ (x : Record). remove x i) (relined-is b qs (putBlock b t o k n) (puts .formed) (puts .front))
       ∙ remove-made r i (omega arith) (omega (arith, attach-length qs, put-long, plays-long b))
       ∙ ap (λ (l : List Play). edited (relined r (without i (removedFrom l i) l)) (removedFrom l i)) (plays-back qs)
       ∙ ap (λ (m : ℕ). edited (relined r (without i m qs)) m) alone
       ∙ ap (λ (l : List Play). edited (relined r l) 1) back
       ∙ ap (λ (x : Record). edited x 1) (same-record b (puts .sound))
 
-  pub put-undone : (o′ : List ℕ) → cutOf (frontOf n (putInOf b k t o)) i o′ ≡ editStored b 1 o′
+  pub put-undone : (o′ : List ℕ) → cutOf (putBlock b t o k n) i o′ ≡ editStored b 1 o′
   unfolding cutOf editedOf
   put-undone o′ =
-      let c = frontOf n (putInOf b k t o) in
+      let c = putBlock b t o k n in
       ap (λ (x : Bool). pick x (editedOf (remove (decode c) i) o′) (refuse NotSound o′)) (sound-answers c put-sound)
       ∙ ap (λ (x : ℕ). editedOf (remove (decode c) x) o′) (puts .place)
       ∙ ap (λ (x : Edited). editedOf x o′) taken-back
@@ -232,7 +232,7 @@ unfolding figures
 no-cut-too-long b o k n bs e = cut-not-long b o bs k (ap (λ (x : Answer). figures x .number) e)
 
 module _ (b o : List ℕ) (bs : Bytes b) (k n m : ℕ) (done : cutOf b k o .answer ≡ Done n m) where
-  cuts : CutDone b k (frontOf n (cutOf b k o)) m
+  cuts : CutDone b k (cutBlock b o k n) m
   cuts = cut-done b o bs k n m done
 
   cut-within : k + cutMany b k ≤ length (playsOf b)
@@ -249,27 +249,27 @@ module _ (b o : List ℕ) (bs : Bytes b) (k n m : ℕ) (done : cutOf b k o .answ
 
   -- ---- the block after it
 
-  pub cut-sound : Sound (frontOf n (cutOf b k o))
-  cut-sound = relined-sound b (cutLines b k) (frontOf n (cutOf b k o)) (cuts .formed) (cuts .front)
+  pub cut-sound : Sound (cutBlock b o k n)
+  cut-sound = relined-sound b (cutLines b k) (cutBlock b o k n) (cuts .formed) (cuts .front)
 
-  pub cut-rest : (linesIn (frontOf n (cutOf b k o)) + m ≡ linesIn b)
-      × (decode (frontOf n (cutOf b k o)) .headers ≡ decode b .headers)
-      × (decode (frontOf n (cutOf b k o)) .position ≡ decode b .position)
+  pub cut-rest : (linesIn (cutBlock b o k n) + m ≡ linesIn b)
+      × (decode (cutBlock b o k n) .headers ≡ decode b .headers)
+      × (decode (cutBlock b o k n) .position ≡ decode b .position)
   cut-rest =
-      let c = frontOf n (cutOf b k o) in
+      let c = cutBlock b o k n in
       let (h, p) = relined-rest b (cutLines b k) c (cuts .formed) (cuts .front) in
       (omega (arith, relined-many b (cutLines b k) c (cuts .formed) (cuts .front), cut-long, cut-within, cuts .many, plays-long b), h, p)
 
   pub cut-keeps : (l : ℕ) → l < linesIn b → Kept k m l
-      → (lineOf (decode (frontOf n (cutOf b k o)) .lines) (lowered k m l)
-      ≡ withParent (lowered k m (lineOf (decode b .lines) l .parent)) (lineOf (decode b .lines) l))
+      → (lineOf (decode (cutBlock b o k n) .lines) (lowered k m l)
+      ≡ reparented (lowered k m) (lineOf (decode b .lines) l))
       × Kept k m (lineOf (decode b .lines) l .parent)
   cut-keeps l h =
-      subst (λ (x : ℕ). Kept k x l → (lineOf (decode c .lines) (lowered k x l) ≡ withParent (lowered k x (lineOf (decode b .lines) l .parent)) (lineOf (decode b .lines) l)) × Kept k x (lineOf (decode b .lines) l .parent))
+      subst (λ (x : ℕ). Kept k x l → (lineOf (decode c .lines) (lowered k x l) ≡ reparented (lowered k x) (lineOf (decode b .lines) l)) × Kept k x (lineOf (decode b .lines) l .parent))
       (sym (cuts .many)) keeps
     where
       c : List ℕ
-      c = frontOf n (cutOf b k o)
+      c = cutBlock b o k n
 
       a : l < length (playsOf b)
       a = omega (arith, plays-long b)
@@ -281,13 +281,13 @@ module _ (b o : List ℕ) (bs : Bytes b) (k n m : ℕ) (done : cutOf b k o .answ
           (λ e. omega (arith, cut-long, cut-within, leb-false k l e))
 
       keeps : Kept k (cutMany b k) l
-          → (lineOf (decode c .lines) (lowered k (cutMany b k) l) ≡ withParent (lowered k (cutMany b k) (lineOf (decode b .lines) l .parent)) (lineOf (decode b .lines) l))
+          → (lineOf (decode c .lines) (lowered k (cutMany b k) l) ≡ reparented (lowered k (cutMany b k)) (lineOf (decode b .lines) l))
           × Kept k (cutMany b k) (lineOf (decode b .lines) l .parent)
       keeps g =
           let (e, stays, p) = kept-after-cut (playsOf b) k (cuts .cut) l (play 0 []) a g in (
             ap (λ (ls : List Line). lineOf ls (lowered k (cutMany b k) l)) (relined-lines b (cutLines b k) c (cuts .formed) (cuts .front))
                 ∙ line-moved (playsOf b) (cutLines b k) (lowered k (cutMany b k)) l (lowered k (cutMany b k) l) a (low g) e p
-                ∙ sym (ap (λ (ls : List Line). withParent (lowered k (cutMany b k) (lineOf ls l .parent)) (lineOf ls l)) (lines-afresh b (cuts .sound))),
+                ∙ sym (ap (λ (ls : List Line). reparented (lowered k (cutMany b k)) (lineOf ls l)) (lines-afresh b (cuts .sound))),
             subst (Kept k (cutMany b k)) (sym (ap (λ (x : Line). x .parent) (line-is l h))) stays,
           )
 
@@ -314,7 +314,7 @@ module _ (b o : List ℕ) (bs : Bytes b) (k n m : ℕ) (done : cutOf b k o .answ
 pub put-holds : PutHolds
 put-holds b t o bs ts k n i done =
     record {
-      put-sound = put-sound b t o bs ts k n i done;
+      put-sound = sound-answers (putBlock b t o k n) (put-sound b t o bs ts k n i done);
       put-rest = put-rest b t o bs ts k n i done;
       put-keeps = put-keeps b t o bs ts k n i done;
       put-hangs = put-hangs b t o bs ts k n i done;
@@ -324,7 +324,7 @@ put-holds b t o bs ts k n i done =
 pub cut-holds : CutHolds
 cut-holds b o bs k n m done =
     record {
-      cut-sound = cut-sound b o bs k n m done;
+      cut-sound = sound-answers (cutBlock b o k n) (cut-sound b o bs k n m done);
       cut-rest = cut-rest b o bs k n m done;
       cut-keeps = cut-keeps b o bs k n m done;
       cut-takes = cut-takes b o bs k n m done;

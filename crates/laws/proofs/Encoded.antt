@@ -17,7 +17,8 @@ use Rattle.block.specs.PositionBytes.{positionBytes, positionIn}
 use Rattle.jkf.specs.Model.{Header, Noted}
 use Rattle.block.specs.Encode.{encode, encodeFlat, headBytes, blockLength, table, headerRow, headerStep, lineRow, lineStep, entryRow, entryStep, commentRow, commentStep, headerText, commentsOf, commentText}
 use Rattle.block.specs.Decode.{decode, headersIn, linesIn, movesIn, commentsIn, headerPlace, linePlace, commentPlace, textPlace, keyLength, valueLength, startOf, firstEntry, entryCount, parentOf, firstComment, commentCount, commentOffset, commentLength, keyOf, valueOf, commentOf, headerIn, notedIn, lineIn, run}
-use Rattle.block.specs.Sound.{sum, Sound, headerBytes, commentBytes, commentsBefore, entriesBefore}
+use Rattle.block.specs.inner.Sounds.{Sound}
+use Rattle.block.specs.Sound.{sum, headerBytes, commentBytes, commentsBefore, entriesBefore}
 use Rattle.block.proofs.Sums.{sum-none, sum-suc}
 use Rattle.block.proofs.Tabling.{length-run, table-grows, concat-grows}
 use Rattle.block.proofs.Within.{key-length, value-length}

@@ -10,7 +10,7 @@ use Rattle.jkf.specs.Model.{Noted, Line, Record}
 use Rattle.jkf.specs.Attaching.{Play}
 use Rattle.block.specs.Encode.{concat, encode, blockLength, headerText, commentsOf, commentText}
 use Rattle.block.specs.Decode.{decode}
-use Rattle.block.specs.Sound.{Sound}
+use Rattle.block.specs.inner.Sounds.{Sound}
 use Rattle.block.proofs.Tabling.{concat-append}
 use Rattle.block.proofs.Lengths.{block-length}
 use Rattle.plays.specs.inner.Entries.{playEntries}

@@ -7,7 +7,7 @@ use mathlib.Core.List.{List}
 use lib.ListN.{length}
 use Rattle.block.specs.Encode.{encode}
 use Rattle.block.specs.Decode.{decode}
-use Rattle.block.specs.Sound.{Sound}
+use Rattle.block.specs.inner.Sounds.{Sound}
 use Rattle.block.specs.Formed.{Formed}
 use Rattle.edit.specs.Edit.{playsIn}
 use Rattle.edit.specs.inner.Splicing.{relined}

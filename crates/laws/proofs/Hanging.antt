@@ -9,7 +9,7 @@ use mathlib.Core.Bool.{Bool, true, false}
 use lib.Dec.{eqb}
 use borrow.Author.Tests.{eqb-false}
 use Rattle.lists.specs.Pick.{pick}
-use Rattle.lists.specs.Test.{equals, both, flag, claim}
+use Rattle.lists.specs.Test.{_equals_, _and_, flag, claim}
 use Rattle.jkf.specs.Attaching.{near, hangOn, hangs, onHang}
 use Rattle.block.specs.Sound.{sum, hangTest}
 use Rattle.block.proofs.Hanging.{hang-first, hang-says}
@@ -51,7 +51,7 @@ zero-or k x y x′ y′ f g h = go (eqb k 0) refl h
     go false e h = let z : k ≡ 0 → ⊥ = eqb-false k 0 e in g (omega arith) h
 
 module _ (f g c d p q : ℕ → ℕ) (k : ℕ) (e₁ : (j : ℕ) → j ≤ k → f j ≡ g j) (e₂ : (j : ℕ) → j ≤ k → c j ≡ d j) (e₃ : (j : ℕ) → j ≤ k → p j ≡ q j) where
-  first-same : flag (both (equals (f 0) 0) (equals (p 0) 0)) ≡ true → flag (both (equals (g 0) 0) (equals (q 0) 0)) ≡ true
+  first-same : flag (f 0 equals 0 and p 0 equals 0) ≡ true → flag (g 0 equals 0 and q 0 equals 0) ≡ true
   first-same h = rw (← e₁ 0 (omega arith), ← e₃ 0 (omega arith)) h
 
   later-same : 0 < k → onHang (hangs f c (f k) k) (λ i e. eqb (p k) i) false ≡ true → onHang (hangs g d (g k) k) (λ i e. eqb (q k) i) false ≡ true
@@ -65,5 +65,5 @@ module _ (f g c d p q : ℕ → ℕ) (k : ℕ) (e₁ : (j : ℕ) → j ≤ k →
 
   pub hang-same : claim (hangTest 1 f c p k) → claim (hangTest 1 g d q k)
   hang-same h =
-      zero-or k (flag (both (equals (f 0) 0) (equals (p 0) 0))) (onHang (hangs f c (f k) k) (λ i e. eqb (p k) i) false)
-      (flag (both (equals (g 0) 0) (equals (q 0) 0))) (onHang (hangs g d (g k) k) (λ i e. eqb (q k) i) false) first-same later-same h
+      zero-or k (flag (f 0 equals 0 and p 0 equals 0)) (onHang (hangs f c (f k) k) (λ i e. eqb (p k) i) false)
+      (flag (g 0 equals 0 and q 0 equals 0)) (onHang (hangs g d (g k) k) (λ i e. eqb (q k) i) false) first-same later-same h

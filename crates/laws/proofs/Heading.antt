@@ -14,7 +14,7 @@ use Rattle.lists.specs.All.{All, none, next}
 use Rattle.lists.specs.Pick.{pick}
 use Rattle.lists.specs.Test.{each, claim}
 use Rattle.lists.proofs.Laws.{by-pick}
-use Rattle.text.specs.Text.{keyAt}
+use Rattle.text.specs.Text.{keyAt, before}
 use Rattle.text.specs.Utf8.{wellFormedBytes}
 use Rattle.text.proofs.Laws.{tail-from, break-after}
 use Rattle.text.proofs.Boundaries.{boundary-colon, boundary-tail, part-well, key-part, key-well}
@@ -26,7 +26,7 @@ use Rattle.sorted.proofs.Orders.{bytes-chain, bytes-flip}
 use Rattle.sorted.proofs.Kept.{enterAll-all, enterAll-ascending}
 use Rattle.jkf.specs.Model.{Header}
 use Rattle.block.specs.Encode.{table, headerRow, headerStep, headerText}
-use Rattle.block.specs.Sound.{before, valid}
+use Rattle.block.specs.Sound.{valid}
 use Rattle.block.specs.Formed.{headerOf, headerFits}
 use Rattle.moves.proofs.Smalls.{Bytes, empty, bytes-join, bytes-16, bytes-from, bytes-take, bytes-drop}
 use Rattle.kakinoki.specs.Informations.{onKeyValue, textBetween, keyValueAt, headerAt}

@@ -16,8 +16,9 @@ use Rattle.block.specs.EntryBytes.{entryIn, entryBytes}
 use Rattle.jkf.specs.Model.{Noted, Line}
 use Rattle.block.specs.Encode.{entriesOf, commentsOf}
 use Rattle.block.specs.Decode.{headersIn, linesIn, movesIn, commentsIn, movePlace, textPlace, keyOffset, keyLength, valueOffset, valueLength, firstEntry, entryCount, firstComment, commentCount, commentOffset, commentLength, keyOf, valueOf, commentOf, notedIn, lineIn, run}
-use Rattle.block.specs.Sound.{Sound, headerBytes, commentBytes, commentsBefore, entriesBefore}
-use Rattle.block.proofs.Deciding.{same-is}
+use Rattle.block.specs.inner.Sounds.{Sound}
+use Rattle.block.specs.Sound.{headerBytes, commentBytes, commentsBefore, entriesBefore}
+use Rattle.text.proofs.Laws.{same-is}
 use Rattle.block.proofs.Sums.{sum-none, sum-suc, sum-within}
 use Rattle.block.proofs.Tabling.{run-none, run-add, concat-grows}
 use Rattle.block.proofs.Within.{first-comment}

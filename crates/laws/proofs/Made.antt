@@ -21,9 +21,11 @@ use Rattle.jkf.specs.declared.Position.{Position}
 use Rattle.jkf.specs.Model.{Header, Noted, Line, Record}
 use Rattle.block.specs.Encode.{encode, headBytes, concat, headerText, entriesOf, commentsOf, commentText}
 use Rattle.block.specs.Decode.{headersIn, linesIn, movesIn, commentsIn, linePlace, movePlace, commentPlace, textPlace, keyLength, valueLength, startOf, entryCount, parentOf, commentCount, commentLength, keyOf}
-use Rattle.block.specs.Sound.{same, before, valid, headTest, partsTest, totalsTest, positionTest, headerTest, lineTest, entryTest, commentTest, fitsTest, kindTest, ascends, headerBytes, commentBytes, commentsBefore, entriesBefore, Sound}
+use Rattle.text.specs.Text.{same, before}
+use Rattle.block.specs.inner.Sounds.{Sound}
+use Rattle.block.specs.Sound.{valid, headTest, partsTest, totalsTest, positionTest, headerTest, lineTest, entryTest, commentTest, fitsTest, kindTest, ascends, headerBytes, commentBytes, commentsBefore, entriesBefore}
 use Rattle.block.specs.Formed.{headerOf, lineOf, notedOf, headerFits, lineFits, Formed}
-use Rattle.block.proofs.Deciding.{same-refl}
+use Rattle.text.proofs.Laws.{same-refl}
 use Rattle.block.proofs.Tabling.{concat-sum}
 use Rattle.laws.proofs.Parts.{from-part}
 use Rattle.block.proofs.Lengths.{block-length}

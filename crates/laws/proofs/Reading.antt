@@ -5,7 +5,7 @@ use mathlib.Core.Path.{_≡_, sym, subst}
 use mathlib.Core.List.{List}
 use lib.ListN.{take, getD}
 use Rattle.jkf.specs.declared.Answer.the-variants.{Done}
-use Rattle.block.specs.Sound.{Sound}
+use Rattle.block.specs.inner.Sounds.{Sound}
 use Rattle.parser.specs.Parse.{parse, recordOf}
 use Rattle.parser.specs.Read.{readOf}
 use Rattle.laws.proofs.Made.{sound-encode}

@@ -28,7 +28,9 @@ use Rattle.jkf.specs.Model.{Header, Noted}
 use Rattle.jkf.specs.Attaching.{Play, play, counts, attach}
 use Rattle.block.specs.Encode.{encode, entryRow, entryStep, entriesOf, commentsOf, headerText}
 use Rattle.block.specs.Decode.{decode, run, headersIn, linesIn, movesIn, commentsIn, movePlace, textPlace, keyOffset, keyLength, valueOffset, valueLength, firstEntry, entryCount, firstComment, commentCount, commentOffset, commentLength, storedText, keyOf, valueOf, commentOf, headerIn, notedIn}
-use Rattle.block.specs.Sound.{Sound, valid, before, kindTest, commentsBefore}
+use Rattle.text.specs.Text.{before}
+use Rattle.block.specs.inner.Sounds.{Sound}
+use Rattle.block.specs.Sound.{valid, kindTest, commentsBefore}
 use Rattle.block.specs.Formed.{headerOf, notedOf, headerFits, Formed}
 use Rattle.block.proofs.Sums.{sum-within}
 use Rattle.block.proofs.Tabling.{length-run, run-getD}

@@ -1,7 +1,9 @@
 -- The theorems of the block, together.
 -- Assumes nothing.
 use Rattle.block.proofs.Deciding.{sound-says, sound-answers}
-use Rattle.laws.specs.Blocks.{BlockTheorems}
+use Rattle.block.specs.Encode.{encode}
+use Rattle.parser.specs.Read.{readOf}
+use Rattle.laws.specs.Blocks.{frontOf, BlockTheorems}
 use Rattle.laws.proofs.Made.{sound-encode}
 use Rattle.laws.proofs.Decoded.{decode-encode}
 use Rattle.laws.proofs.Encoded.{encode-decode}
@@ -12,12 +14,10 @@ use Rattle.laws.proofs.Reading.{read-sound}
 pub blocks-hold : BlockTheorems
 blocks-hold =
     record {
-      sound-says = sound-says;
-      sound-answers = sound-answers;
-      sound-encode = sound-encode;
+      sound-encode = λ r f. sound-answers (encode r) (sound-encode r f);
       decode-encode = decode-encode;
-      decode-formed = decode-formed;
-      encode-decode = encode-decode;
+      decode-formed = λ b bs h. decode-formed b bs (sound-says b h);
+      encode-decode = λ b bs h. encode-decode b (sound-says b h) bs;
       read-done = read-done;
-      read-sound = read-sound;
+      read-sound = λ s o bs t m e. sound-answers (frontOf m (readOf s o)) (read-sound s o bs t m e);
     }

@@ -3,6 +3,7 @@
 -- Assumes nothing: these are definitions.
 use Prim.Native.Nat.{ℕ, _≤_}
 use mathlib.Core.Path.{_≡_}
+use mathlib.Core.Bool.{true}
 use mathlib.Core.List.{List, _++_}
 use lib.ListN.{length, drop}
 use Rattle.jkf.specs.Answers.{Outcome}
@@ -11,7 +12,7 @@ use Rattle.jkf.specs.declared.Answer.the-variants.{Done}
 use Rattle.jkf.specs.Model.{Record}
 use Rattle.block.specs.Encode.{encode}
 use Rattle.block.specs.Decode.{decode}
-use Rattle.block.specs.Sound.{Sound}
+use Rattle.block.specs.Sound.{soundb}
 use Rattle.block.specs.Formed.{Formed}
 use Rattle.kakinoki.specs.Starts.{startRead}
 use Rattle.kakinoki.specs.declared.Fault.the-variants.{NoFault}
@@ -88,7 +89,7 @@ ReadsBackIn =
 -- refuse: its whole text, where it is within the limit, is read to the block itself.
 abbrev pub RestoresByHand : Type 0
 RestoresByHand =
-    (b : List ℕ) → Bytes b → Sound b → ByHand (decode b) → ColorsFollow (decode b) → AllWritten whole (decode b)
+    (b : List ℕ) → Bytes b → soundb b ≡ true → ByHand (decode b) → ColorsFollow (decode b) → AllWritten whole (decode b)
     → handsObstacle (decode b .position) ≡ Clear → linesObstacle (decode b .lines) ≡ Clear
     → length (wholeText (decode b)) ≤ 65535 → (o : List ℕ) → length b ≤ length o
     → readOf (wholeText (decode b)) o ≡ record { answer = Done (length (wholeText (decode b))) (length b); buffer = b ++ drop (length b) o }

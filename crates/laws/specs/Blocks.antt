@@ -10,7 +10,7 @@ use Rattle.jkf.specs.Answers.{Outcome}
 use Rattle.jkf.specs.Model.{Record}
 use Rattle.block.specs.Encode.{encode}
 use Rattle.block.specs.Decode.{decode}
-use Rattle.block.specs.Sound.{Sound, soundb}
+use Rattle.block.specs.Sound.{soundb}
 use Rattle.block.specs.Formed.{Formed}
 use Rattle.parser.specs.Parse.{parse, recordOf}
 use Rattle.parser.specs.Read.{readOf}
@@ -28,16 +28,13 @@ frontOf n x = take n (x .buffer)
 -- ---- the theorems
 
 pub record BlockTheorems : Type 0 where
-  -- The test of soundness answers true exactly where a block is sound.
-  pub sound-says : (b : List ℕ) → soundb b ≡ true → Sound b
-  pub sound-answers : (b : List ℕ) → Sound b → soundb b ≡ true
   -- The block of a well-formed record is sound, and what is read off it is the record.
-  pub sound-encode : (r : Record) → Formed r → Sound (encode r)
+  pub sound-encode : (r : Record) → Formed r → soundb (encode r) ≡ true
   pub decode-encode : (r : Record) → Formed r → decode (encode r) ≡ r
   -- The record of a sound block is well formed, and what is made of it is the block.
-  pub decode-formed : (b : List ℕ) → Bytes b → Sound b → Formed (decode b)
-  pub encode-decode : (b : List ℕ) → Sound b → Bytes b → encode (decode b) ≡ b
+  pub decode-formed : (b : List ℕ) → Bytes b → soundb b ≡ true → Formed (decode b)
+  pub encode-decode : (b : List ℕ) → Bytes b → soundb b ≡ true → encode (decode b) ≡ b
   -- Where a text is read, the front of the buffer is the block of the record that it says, which is well formed, and so is sound.
   pub read-done : (s o : List ℕ) → Bytes s → (t m : ℕ) → readOf s o .answer ≡ Done t m
       → (frontOf m (readOf s o) ≡ encode (recordOf (parse s))) × Formed (recordOf (parse s))
-  pub read-sound : (s o : List ℕ) → Bytes s → (t m : ℕ) → readOf s o .answer ≡ Done t m → Sound (frontOf m (readOf s o))
+  pub read-sound : (s o : List ℕ) → Bytes s → (t m : ℕ) → readOf s o .answer ≡ Done t m → soundb (frontOf m (readOf s o)) ≡ true

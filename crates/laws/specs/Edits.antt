@@ -3,24 +3,20 @@
 -- Assumes nothing: these are definitions.
 use Prim.Native.Nat.{ℕ, _+_, _-_, _≤_, _<_}
 use mathlib.Core.Path.{_≡_}
+use mathlib.Core.Bool.{true}
 use mathlib.Core.List.{List}
 use Rattle.jkf.specs.declared.Answer.the-variants.{Done, BlockTooLong, ParentChanges}
 use Rattle.jkf.specs.declared.Hang.the-variants.{On}
 use Rattle.jkf.specs.Attaching.{hangs}
-use Rattle.jkf.specs.Model.{Line}
 use Rattle.block.specs.Decode.{decode, linesIn, startOf, entryCount, parentOf}
-use Rattle.block.specs.Sound.{Sound}
+use Rattle.block.specs.Sound.{soundb}
 use Rattle.block.specs.Formed.{lineOf}
 use Rattle.plays.specs.Plays.{entriesAt, plyAt}
-use Rattle.edit.specs.Edit.{renumbered, lowered, Kept}
+use Rattle.edit.specs.Edit.{reparented, renumbered, lowered, Kept}
 use Rattle.edit.specs.Outcomes.{editStored, putInOf, cutOf}
 use Rattle.laws.specs.Blocks.{Bytes, frontOf}
 
 -- ---- words
-
--- A line with this parent.
-abbrev pub withParent : ℕ → Line → Line
-withParent p l = record { start = l .start; parent = p; entries = l .entries }
 
 -- Line l is line k, or its parent hangs from line k.
 pub data HangsFrom (b : List ℕ) (k : ℕ) : ℕ → Type 0 where
@@ -38,7 +34,7 @@ cutBlock b o k n = frontOf n (cutOf b k o)
 
 pub record PutTheorems (b t o : List ℕ) (k n i : ℕ) : Type 0 where
   -- The new block is sound.
-  pub put-sound : Sound (putBlock b t o k n)
+  pub put-sound : soundb (putBlock b t o k n) ≡ true
   -- It has one line more, and the header entries and the position that there were.
   pub put-rest : (linesIn (putBlock b t o k n) ≡ linesIn b + 1)
       × (decode (putBlock b t o k n) .headers ≡ decode b .headers)
@@ -46,7 +42,7 @@ pub record PutTheorems (b t o : List ℕ) (k n i : ℕ) : Type 0 where
   -- Each line that was there is there with its start and its entries, on its parent, by their new numbers.
   pub put-keeps : (l : ℕ) → l < linesIn b
       → lineOf (decode (putBlock b t o k n) .lines) (renumbered i l)
-      ≡ withParent (renumbered i (lineOf (decode b .lines) l .parent)) (lineOf (decode b .lines) l)
+      ≡ reparented (renumbered i) (lineOf (decode b .lines) l)
   -- Line i is the text's line of play, and hangs on line k at the entry whose ply is the text's first number.
   pub put-hangs : (lineOf (decode (putBlock b t o k n) .lines) i ≡ record { start = plyAt t 0; parent = k; entries = entriesAt t 0 .state })
       × (hangs (startOf (putBlock b t o k n)) (entryCount (putBlock b t o k n)) (plyAt t 0) i ≡ On k (plyAt t 0 - startOf b k))
@@ -64,7 +60,7 @@ NoParentRefused = (b t o : List ℕ) (k i : ℕ) → putInOf b k t o .answer ≡
 
 pub record CutTheorems (b o : List ℕ) (k n m : ℕ) : Type 0 where
   -- The new block is sound.
-  pub cut-sound : Sound (cutBlock b o k n)
+  pub cut-sound : soundb (cutBlock b o k n) ≡ true
   -- It has m lines less, and the header entries and the position that there were.
   pub cut-rest : (linesIn (cutBlock b o k n) + m ≡ linesIn b)
       × (decode (cutBlock b o k n) .headers ≡ decode b .headers)
@@ -72,7 +68,7 @@ pub record CutTheorems (b o : List ℕ) (k n m : ℕ) : Type 0 where
   -- Each line that is kept is there with its start and its entries, on its parent, which is kept too, by their new numbers.
   pub cut-keeps : (l : ℕ) → l < linesIn b → Kept k m l
       → (lineOf (decode (cutBlock b o k n) .lines) (lowered k m l)
-      ≡ withParent (lowered k m (lineOf (decode b .lines) l .parent)) (lineOf (decode b .lines) l))
+      ≡ reparented (lowered k m) (lineOf (decode b .lines) l))
       × Kept k m (lineOf (decode b .lines) l .parent)
   -- The m lines from line k on are line k and all that hangs from it, and nothing else.
   pub cut-takes : (l : ℕ) → (HangsFrom b k l → (k ≤ l) × (l < k + m)) × ((k ≤ l) × (l < k + m) → HangsFrom b k l)

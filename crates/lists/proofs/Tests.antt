@@ -8,7 +8,7 @@ use native.Mathlib.Decide.{decLt}
 use mathlib.Core.Path.{_≡_, refl, sym, ap, _∙_}
 use mathlib.Core.Bool.{Bool, true, false, false≢true}
 use borrow.Author.Tests.{eq-eqb, le-leb, eqb-true, leb-true}
-use Rattle.lists.specs.Test.{Test, equals, atMost, holds, both, each, allBelow, flag, claim}
+use Rattle.lists.specs.Test.{Test, _equals_, _atMost_, holds, _and_, each, allBelow, flag, claim}
 use Rattle.lists.proofs.Laws.{pick-both}
 
 -- ---- of each number below n
@@ -46,25 +46,25 @@ all-of f (suc n) h = rw (h n (omega arith), all-of f n (λ k l. h k (omega arith
 -- ---- a test and its claim
 
 pub says : (t : Test) → flag t ≡ true → claim t
-says (equals a b) h = eqb-true a b h
-says (atMost a b) h = leb-true a b h
+says (a equals b) h = eqb-true a b h
+says (a atMost b) h = leb-true a b h
 says (holds t) h = h
-says (both s t) h = let (p, q) = pick-both (flag s) (flag t) h in (says s p, says t q)
+says (s and t) h = let (p, q) = pick-both (flag s) (flag t) h in (says s p, says t q)
 says (each n f) h = λ k l. says (f k) (all-at (λ k. flag (f k)) n h k l)
 
 pub answers : (t : Test) → claim t → flag t ≡ true
-answers (equals a b) h = eq-eqb a b h
-answers (atMost a b) h = le-leb a b h
+answers (a equals b) h = eq-eqb a b h
+answers (a atMost b) h = le-leb a b h
 answers (holds t) h = h
-answers (both s t) h = rw (answers s (h .0), answers t (h .1))
+answers (s and t) h = rw (answers s (h .0), answers t (h .1))
 answers (each n f) h = all-of (λ k. flag (f k)) n (λ k l. answers (f k) (h k l))
 
 -- ---- one test after another
 
 -- the first passed, so the second decides
-pub goes : (s t : Test) → flag s ≡ true → flag (both s t) ≡ flag t
+pub goes : (s t : Test) → flag s ≡ true → flag (s and t) ≡ flag t
 goes s t h = rw h
 
 -- the first failed
-pub fails : (s t : Test) → flag s ≡ false → flag (both s t) ≡ false
+pub fails : (s t : Test) → flag s ≡ false → flag (s and t) ≡ false
 fails s t h = rw h

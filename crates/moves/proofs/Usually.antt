@@ -1,5 +1,5 @@
 -- A move in the usual form is read by the rules as its bytes say.
---     stands-three, by-key                     three bytes stand at a place
+--     stands-three, by-three                   three bytes stand at a place
 --     same-aimed, square-aimed                 the target
 --     short-named, marked-named, long-named    the kind, the mark and the origin
 --     usual-what, usual-played                 the whole, and the line with a usual time after it
@@ -7,22 +7,20 @@
 use Prim.Native.Nat.{ℕ, _+_, _-_, _/_, _%_, _≤_, _<_}
 use native.Mathlib.Omega.{arith}
 use mathlib.Core.Path.{_≡_, refl, sym, ap, _∙_}
-use mathlib.Core.List.{List, [], _∷_}
+use mathlib.Core.List.{List, [], _∷_, _++_}
 use mathlib.Core.Bool.{Bool, true, false}
 use lib.ListN.{length, getD}
 use lib.Dec.{eqb}
 use borrow.Author.Tests.{eq-eqb, ne-eqb, eqb-true}
 use Rattle.lists.specs.Pick.{pick}
 use Rattle.lists.proofs.Laws.{drop-step, pick-both}
-use Rattle.text.specs.Text.{cursor, onPlace, onNumber, prefixFrom, standsAt, tagAt, blanksAt, lineEndAt, digitsAt}
+use Rattle.text.specs.Text.{cursor, onPlace, onNumber, prefixFrom, standsAt, tagAt, same, blanksAt, lineEndAt, digitsAt}
 use Rattle.text.specs.declared.Place.the-variants.{Past}
 use Rattle.text.proofs.Laws.{digit-bounds}
-use Rattle.spell.specs.Spell.{firstOf, codeOf}
-use Rattle.spell.specs.inner.Codes.{codeAt}
-use Rattle.spell.specs.Tables.{kinds}
-use Rattle.spell.specs.Slots.{numberIn, numeralSlots, kindSlots, promotedIn}
+use Rattle.spell.specs.Spell.{firstOf, numberOf}
+use Rattle.spell.specs.inner.Codes.{threeAt}
+use Rattle.spell.specs.Tables.{kinds, numerals}
 use Rattle.spell.specs.declared.Spelled.the-variants.{As}
-use Rattle.spell.proofs.Codes.{key-of}
 use Rattle.spell.proofs.Lookups.{numeral-known, kind-known, file-known, promoted-known}
 use Rattle.jkf.specs.declared.Origin.the-variants.{From}
 use Rattle.moves.specs.Moves.{mark, squareAt, moveToAt, promoteAt, originAt, moveFromAt, kindToOriginAt, whatAt, timeAt, colorOf, finished, moveLineAt, playedLine}
@@ -58,9 +56,9 @@ module _ (s : List ℕ) where
       let (q, r) = pick-both (eqb (getD s (at + 1) 0) b) (eqb (getD s (at + 2) 0) c) e₁ in
       (eqb-true _ _ p, eqb-true _ _ q, eqb-true _ _ r)
 
-  -- what is made of three bytes is made of the key at their place
-  pub by-key : (f : ℕ → ℕ) (at a b n : ℕ) → a ≡ at + 1 → b ≡ at + 2 → n ≡ f (codeOf (getD s at 0) (getD s a 0) (getD s b 0)) → n ≡ f (codeAt s at)
-  by-key f at a b n p q e = e ∙ ap f (sym (key-of s at a b p q))
+  -- the byte at a place and the two after it
+  pub by-three : (f : List ℕ → ℕ) (at a b n : ℕ) → a ≡ at + 1 → b ≡ at + 2 → n ≡ f (getD s at 0 ∷ getD s a 0 ∷ getD s b 0 ∷ []) → n ≡ f (threeAt s at)
+  by-three f at a b n p q e = rw (← p, ← q) e
 
   -- ---- the target
 
@@ -80,15 +78,14 @@ module _ (s : List ℕ) where
   -- ---- the kind, the mark and the origin
 
   -- what is a kind is not 成
-  alone : (at : ℕ) → at + 3 ≤ length s → (numberIn kindSlots 35 (codeAt s at) ≡ 0 → ⊥) → standsAt promotes s at ≡ false
-  unfolding numberIn
+  alone : (at : ℕ) → at + 3 ≤ length s → (numberOf kinds (threeAt s at) ≡ 0 → ⊥) → standsAt promotes s at ≡ false
+  unfolding numberOf same
   alone at h n = go (standsAt promotes s at) refl
     where
       go : (u : Bool) → standsAt promotes s at ≡ u → u ≡ false
       go true e =
           let (p, q, r) = stands-back 230 136 144 at h e in
-          let k : codeAt s at ≡ 15108240 = omega (arith, key-of s at (at + 1) (at + 2) refl refl) in
-          absurd (n (ap (numberIn kindSlots 35) k))
+          absurd (n (rw (p, q, r)))
       go false e = refl
 
   unmarked : (at : ℕ) → at < length s → getD s at 0 ≡ 40 → promoteAt s at ≡ mark 0 (cursor at)
@@ -112,7 +109,7 @@ module _ (s : List ℕ) where
 -- n is what the code makes of three bytes, and not 0
 module _ (s : List ℕ) (bytes : (i : ℕ) → getD s i 0 < 256) (at n : ℕ) (z : n ≡ 0 → ⊥) where
   pub square-aimed : at + 6 ≤ length s → getD s at 0 ≡ 239 → getD s (at + 1) 0 ≡ 188 → 145 ≤ getD s (at + 2) 0 → getD s (at + 2) 0 ≤ 153
-      → n ≡ numberIn numeralSlots 17 (codeAt s (at + 3)) → UsualTarget s at
+      → n ≡ numberOf numerals (threeAt s (at + 3)) → UsualTarget s at
   unfolding moveToAt squareAt aimOf
   square-aimed h a b l u e =
       let m : getD s at 0 ≡ 229 → ⊥ = λ k. omega arith in
@@ -123,10 +120,10 @@ module _ (s : List ℕ) (bytes : (i : ℕ) → getD s i 0 < 256) (at n : ℕ) (z
       }
 
   -- a kind of one character
-  kind-three : n ≡ numberIn kindSlots 35 (codeAt s (at + 6)) → firstOf kinds s (at + 6) ≡ As (numberIn kindSlots 35 (codeAt s (at + 6))) (cursor (at + 9))
+  kind-three : n ≡ numberOf kinds (threeAt s (at + 6)) → firstOf kinds s (at + 6) ≡ As (numberOf kinds (threeAt s (at + 6))) (cursor (at + 9))
   kind-three e = let p : at + 6 + 3 ≡ at + 9 = omega arith in rw p at (kind-known s (at + 6) bytes (λ k. z (e ∙ k)))
 
-  pub short-named : at + 13 ≤ length s → Bracketed s (at + 9) → n ≡ numberIn kindSlots 35 (codeAt s (at + 6)) → UsualKind s at 13
+  pub short-named : at + 13 ≤ length s → Bracketed s (at + 9) → n ≡ numberOf kinds (threeAt s (at + 6)) → UsualKind s at 13
   unfolding kindOf markOf
   short-named h b e =
       record {
@@ -138,7 +135,7 @@ module _ (s : List ℕ) (bytes : (i : ℕ) → getD s i 0 < 256) (at n : ℕ) (z
 
   -- with 成 after it
   pub marked-named : at + 16 ≤ length s → Bracketed s (at + 12) → standsAt promotes s (at + 6) ≡ false → standsAt promotes s (at + 9) ≡ true
-      → n ≡ numberIn kindSlots 35 (codeAt s (at + 6)) → UsualKind s at 16
+      → n ≡ numberOf kinds (threeAt s (at + 6)) → UsualKind s at 16
   unfolding kindOf markOf promoteAt tagAt
   marked-named h b p q e =
       let r : at + 9 + 3 ≡ at + 12 = omega arith in
@@ -150,7 +147,7 @@ module _ (s : List ℕ) (bytes : (i : ℕ) → getD s i 0 < 256) (at n : ℕ) (z
       }
 
   -- with 成 before it
-  pub long-named : at + 16 ≤ length s → Bracketed s (at + 12) → standsAt promotes s (at + 6) ≡ true → n ≡ promotedIn (codeAt s (at + 9)) → UsualKind s at 16
+  pub long-named : at + 16 ≤ length s → Bracketed s (at + 12) → standsAt promotes s (at + 6) ≡ true → n ≡ numberOf kinds (promotes ++ threeAt s (at + 9)) → UsualKind s at 16
   unfolding kindOf markOf
   long-named h b p e =
       let (x, y, w) = stands-back s 230 136 144 (at + 6) (omega arith) p in

@@ -10,7 +10,7 @@ use lib.ListN.{length, getD, replicate, length-append}
 use lib.Dec.{eqb, leb, ltb}
 use borrow.Author.Tests.{leb-true, ltb-false}
 use Rattle.lists.specs.All.{All, none, next}
-use Rattle.lists.specs.Test.{equals, both, each, claim}
+use Rattle.lists.specs.Test.{_equals_, _and_, each, claim}
 use Rattle.lists.specs.Repeat.{stop}
 use Rattle.lists.proofs.Laws.{by-pick}
 use Rattle.lists.proofs.Tests.{answers}
@@ -244,7 +244,7 @@ module _ (b : Board) (t : Told) (c : Filled Cell 81 (b .cells)) (f : Fine t) whe
               omega arith,
               (
                 λ i l. cells′ .each i,
-                answers (both (equals 0 0) (both (each 81 (λ i. equals (getD noCells i 0) 0)) (each 14 (λ i. equals (getD (replicate 14 0) i 0) 0))))
+                answers (0 equals 0 and each 81 (λ i. getD noCells i 0 equals 0) and each 14 (λ i. getD (replicate 14 0) i 0 equals 0))
                     (refl, (λ i l. cells .each i, λ i l. counts .each i)),
               ),
             ),

@@ -7,8 +7,9 @@ use native.Mathlib.Omega.{arith}
 use mathlib.Core.Path.{_≡_, refl, sym, ap, _∙_}
 use mathlib.Core.List.{List, [], _∷_, _++_}
 use lib.ListN.{length, getD, take, drop, replicate, length-append, length-replicate}
-use lib.Seq.{sets, sets-eq, take-at, take-append-le, length-take-le}
+use lib.Seq.{sets-eq, take-at, take-append-le, length-take-le}
 use borrow.Author.Tests.{le-ltb}
+use Rattle.lent.specs.Stored.{put}
 use Rattle.sorted.specs.Sorted.{kept, keptCount, keptBuffer}
 use Rattle.sorted.specs.inner.Orders.{Leads}
 use Rattle.kakinoki.specs.Informations.{low16}
@@ -24,7 +25,8 @@ low-same [] h = refl
 low-same (x ∷ l) h =
     ap (λ (n : ℕ). n ∷ low16 l) (mod-eq-of-lt (h 0 (omega arith))) ∙ ap (λ (r : List ℕ). x ∷ r) (low-same l (λ i n. h (suc i) (omega arith)))
 
-front-of : (l o : List ℕ) (n : ℕ) → length l ≤ length o → length l ≡ n → take n (sets o 0 l) ≡ l
+front-of : (l o : List ℕ) (n : ℕ) → length l ≤ length o → length l ≡ n → take n (put o 0 l) ≡ l
+unfolding put
 front-of l o n h e = ap (take n) (sets-eq l o 0 (omega arith)) ∙ take-at l (drop (0 + length l) o) n e
 
 -- places that have room are sorted into the front
@@ -55,7 +57,7 @@ leads-then {l} {o} {r} q w =
 -- ---- what was read before the moves
 
 abbrev pub Begun : List ℕ → Start → List ℕ → Type 0
-Begun s start places = (length s ≤ 65535) × (start ≡ startRead s) × (places ≡ sets noPlaces 0 (low16 (headerPlaces s)))
+Begun s start places = (length s ≤ 65535) × (start ≡ startRead s) × (places ≡ put noPlaces 0 (low16 (headerPlaces s)))
 
 module _ (s : List ℕ) (start : Start) (places : List ℕ) (b : Begun s start places) where
   places-few : length (headerPlaces s) ≤ 13107
@@ -73,7 +75,7 @@ module _ (s : List ℕ) (start : Start) (places : List ℕ) (b : Begun s start p
 
   places-taken : take (start .headers) places ≡ headerPlaces s
   places-taken =
-      ap (take (start .headers)) (b .2 ∙ ap (sets noPlaces 0) places-low) ∙ front-of (headerPlaces s) noPlaces (start .headers) room counted
+      ap (take (start .headers)) (b .2 ∙ ap (put noPlaces 0) places-low) ∙ front-of (headerPlaces s) noPlaces (start .headers) room counted
 
   pub taken-count : start .headers ≡ length (take (start .headers) places)
   taken-count = sym counted ∙ sym (ap length places-taken)

@@ -6,7 +6,7 @@ use kakinoki::Start;
 ghost use mathlib.Core.Path.{_≡_};
 ghost use Prim.Native.Nat.{_≤_};
 ghost use lib.ListN.{length};
-ghost use lib.Seq.{sets};
+ghost use Rattle.lent.specs.Stored.{put};
 ghost use Rattle.kakinoki.specs.Informations.{low16};
 ghost use Rattle.kakinoki.specs.Starts.{startRead, headerPlaces};
 ghost use Rattle.parser.specs.Parse.{parse};
@@ -15,7 +15,7 @@ ghost use Rattle.parser.specs.inner.Stores.{noPlaces};
 
 // What stands before the moves was read without a fault: its header lines are sorted by key.
 fn read_start(s: &[u8], start: Start, places: &[u16], out: &mut [u8]) -> Answer
-    requires { ⌜ (length (now s) ≤ 65535) × (start ≡ startRead (now s)) × (now places ≡ sets noPlaces 0 (low16 (headerPlaces (now s)))) ⌝ }
+    requires { ⌜ (length (now s) ≤ 65535) × (start ≡ startRead (now s)) × (now places ≡ put noPlaces 0 (low16 (headerPlaces (now s)))) ⌝ }
     ensures { λ r. ⌜ r ≡ readStored (parse (now (s .entry))) (now (out .entry)) .answer ⌝ }
     ensures { λ r. ⌜ now (out .exit) ≡ readStored (parse (now (s .entry))) (now (out .entry)) .buffer ⌝ }
 {

@@ -12,7 +12,7 @@ use lib.Dec.{eqb, leb, ltb}
 use lib.Seq.{getD-drop}
 use borrow.Author.Tests.{eq-eqb, ne-eqb, eqb-true, eqb-false, ltb-true, leb-true}
 use Rattle.lists.specs.Pick.{pick}
-use Rattle.lists.specs.Test.{Test, equals, holds, both, each, allBelow, flag}
+use Rattle.lists.specs.Test.{Test, _equals_, holds, _and_, each, allBelow, flag}
 use Rattle.lists.proofs.Laws.{drop-step, pick-both}
 use Rattle.lists.proofs.Tests.{says}
 use Rattle.text.specs.Text.{prefixFrom, standsAt}
@@ -107,7 +107,7 @@ bytes-key a b c p q r =
     let e₂ : k % 256 ≡ c = omega arith in
     ap (λ (i : ℕ). i ∷ k / 256 % 256 ∷ k % 256 ∷ []) e₀ ∙ ap (λ (i : ℕ). a ∷ i ∷ k % 256 ∷ []) e₁ ∙ ap (λ (i : ℕ). a ∷ b ∷ i ∷ []) e₂
 
-key-bytes : (t : List ℕ) → length t ≡ 3 → allBytes t ≡ true → bytesOf (code t) ≡ t
+pub key-bytes : (t : List ℕ) → length t ≡ 3 → allBytes t ≡ true → bytesOf (code t) ≡ t
 key-bytes [] h b = absurd (omega arith)
 key-bytes (x ∷ []) h b = absurd (omega arith)
 key-bytes (x ∷ y ∷ []) h b = absurd (omega arith)
@@ -118,7 +118,7 @@ key-bytes (x ∷ y ∷ z ∷ w ∷ t) h b = absurd (omega arith)
 
 -- the numbers 1 to 9 of a table have three bytes each
 abbrev threes : List Spelling → Test
-threes es = each 9 (λ i. both (equals (length (spelled es (suc i))) 3) (holds (allBytes (spelled es (suc i)))))
+threes es = each 9 (λ i. length (spelled es (suc i)) equals 3 and holds (allBytes (spelled es (suc i))))
 
 -- so each is the bytes of its code
 key-spelled : (es : List Spelling) → flag (threes es) ≡ true → (n : ℕ) → 1 ≤ n → n ≤ 9 → bytesOf (code (spelled es n)) ≡ spelled es n

@@ -12,9 +12,10 @@ use borrow.Author.Tests.{eqb-true, eqb-false, eq-eqb, ne-eqb}
 use Rattle.lists.specs.Pick.{pick}
 use Rattle.lists.proofs.Laws.{pick-both, pick-none, range-at}
 use Rattle.lists.proofs.Stand.{Stands, Reads, Any, stands-past}
-use Rattle.text.specs.Text.{cursor, prefixFrom, standsAt}
+use Rattle.text.specs.Text.{cursor, prefixFrom, standsAt, same}
+use Rattle.text.proofs.Laws.{same-is}
 use Rattle.spell.specs.Tables.{Spelling, moveKinds, kinds, specials, presets, numerals, files}
-use Rattle.spell.specs.Spell.{firstOf, spelled, hasNumber}
+use Rattle.spell.specs.Spell.{firstOf, numberOf, spelled, hasNumber}
 use Rattle.spell.specs.declared.Spelled.the-variants.{As, Not}
 
 -- ---- the tests
@@ -34,12 +35,6 @@ clear a (e ∷ es) = pick (clash a (e .bytes)) false (clear a es)
 abbrev pub alone : List Spelling → Bool
 alone [] = true
 alone (e ∷ es) = pick (clear (e .bytes) es) (alone es) false
-
-abbrev pub same : List ℕ → List ℕ → Bool
-same [] [] = true
-same [] (y ∷ b) = false
-same (x ∷ a) [] = false
-same (x ∷ a) (y ∷ b) = pick (eqb x y) (same a b) false
 
 -- a table spells a number so
 abbrev pub holds : List Spelling → ℕ → List ℕ → Bool
@@ -62,14 +57,6 @@ clash-sym (x ∷ a) (y ∷ b) = go (eqb x y) refl (clash-sym a b)
     go : (u : Bool) → eqb x y ≡ u → clash a b ≡ clash b a → pick u (clash a b) false ≡ pick (eqb y x) (clash b a) false
     go true e ih = rw (eq-eqb y x (sym (eqb-true x y e))) ih
     go false e ih = rw (ne-eqb y x (λ q. eqb-false x y e (sym q)))
-
-same-is : (a b : List ℕ) → same a b ≡ true → a ≡ b
-same-is [] [] h = refl
-same-is [] (y ∷ b) h = absurd (false≢true h)
-same-is (x ∷ a) [] h = absurd (false≢true h)
-same-is (x ∷ a) (y ∷ b) h =
-    let (p, q) = pick-both (eqb x y) (same a b) h in
-    ap (λ (z : ℕ). z ∷ a) (eqb-true x y p) ∙ ap (λ (l : List ℕ). y ∷ l) (same-is a b q)
 
 -- a text stands at the start of itself
 prefix-here : (t r : List ℕ) → prefixFrom t (t ++ r) ≡ true
@@ -127,6 +114,26 @@ found (e ∷ es) n b h k {s} {at} r st = go (pick (eqb (e .number) n) (same (e .
         rw (same-is (e .bytes) b y, stands-here b r st, eqb-true (e .number) n x)
     go false w ih k = rw (stands-other (e .bytes) b r st (clear-held (e .bytes) es n b (p .0) k)) (ih k)
 
+clash-self : (t : List ℕ) → clash t t ≡ true
+clash-self [] = refl
+clash-self (x ∷ t) = rw (eq-eqb x x refl) (clash-self t)
+
+-- and has its number
+pub number-held : (es : List Spelling) (n : ℕ) (b : List ℕ) → alone es ≡ true → holds es n b ≡ true → numberOf es b ≡ n
+unfolding numberOf
+number-held [] n b h k = absurd (false≢true k)
+number-held (e ∷ es) n b h k = go (eqb (e .number) n) (same (e .bytes) b) refl refl (number-held es n b (p .1)) k
+  where
+    p : (clear (e .bytes) es ≡ true) × (alone es ≡ true)
+    p = pick-both (clear (e .bytes) es) (alone es) h
+
+    go : (u v : Bool) → eqb (e .number) n ≡ u → same (e .bytes) b ≡ v → (holds es n b ≡ true → numberOf es b ≡ n) → pick (pick u v false) true (holds es n b) ≡ true
+        → pick v (e .number) (numberOf es b) ≡ n
+    go true true w s ih k = eqb-true (e .number) n w
+    go false true w s ih k = absurd (true≢false (sym (clash-self b) ∙ ap (λ (t : List ℕ). clash t b) (sym (same-is (e .bytes) b s)) ∙ clear-held (e .bytes) es n b (p .0) k))
+    go true false w s ih k = ih k
+    go false false w s ih k = ih k
+
 covers-spelled : (es ws : List Spelling) (n : ℕ) → covers es ws ≡ true → hasNumber ws n ≡ true → holds es n (spelled ws n) ≡ true
 unfolding hasNumber spelled
 covers-spelled es [] n h k = absurd (false≢true k)
@@ -158,31 +165,37 @@ first-fails (e ∷ es) t h r st =
 
 module _ (n : ℕ) where
   pub move-kind-reads : hasNumber moveKinds n ≡ true → Reads (firstOf kinds) (λ e. As n (cursor e)) (spelled moveKinds n) Any
+  unfolding same
   move-kind-reads h = spelled-reads kinds moveKinds n refl refl h
 
   pub board-kind-reads : hasNumber kinds n ≡ true → Reads (firstOf kinds) (λ e. As n (cursor e)) (spelled kinds n) Any
+  unfolding same
   board-kind-reads h = spelled-reads kinds kinds n refl refl h
 
   pub special-reads : hasNumber specials n ≡ true → Reads (firstOf specials) (λ e. As n (cursor e)) (spelled specials n) Any
+  unfolding same
   special-reads h = spelled-reads specials specials n refl refl h
 
   pub preset-reads : hasNumber presets n ≡ true → Reads (firstOf presets) (λ e. As n (cursor e)) (spelled presets n) Any
+  unfolding same
   preset-reads h = spelled-reads presets presets n refl refl h
 
   pub numeral-reads : hasNumber numerals n ≡ true → Reads (firstOf numerals) (λ e. As n (cursor e)) (spelled numerals n) Any
+  unfolding same
   numeral-reads h = spelled-reads numerals numerals n refl refl h
 
   pub file-reads : hasNumber files n ≡ true → Reads (firstOf files) (λ e. As n (cursor e)) (spelled files n) Any
+  unfolding same
   file-reads h = spelled-reads files files n refl refl h
 
 -- ---- the bytes that are written
 
 module _ (n : ℕ) where
   pub file-bytes : 1 ≤ n → n ≤ 9 → spelled files n ≡ 239 ∷ 188 ∷ (144 + n) ∷ []
-  unfolding spelled
+  unfolding spelled same
   file-bytes h k = same-is _ _ (range-at (λ i. same (spelled files i) (239 ∷ 188 ∷ (144 + i) ∷ [])) 9 1 n refl h (omega arith))
 
   -- a promoted 香, 桂 or 銀 has 成 before it
   pub promoted-bytes : 10 ≤ n → n ≤ 12 → spelled moveKinds n ≡ 230 ∷ 136 ∷ 144 ∷ spelled moveKinds (n - 8)
-  unfolding spelled
+  unfolding spelled same
   promoted-bytes h k = same-is _ _ (range-at (λ i. same (spelled moveKinds i) (230 ∷ 136 ∷ 144 ∷ spelled moveKinds (i - 8))) 3 10 n refl h (omega arith))

@@ -6,7 +6,7 @@ use mathlib.Core.Bool.{Bool, true, false}
 use lib.ListN.{length, getD}
 use lib.Dec.{eqb}
 use Rattle.lists.specs.Pick.{pick}
-use Rattle.text.specs.Text.{cursor, standsAt}
+use Rattle.text.specs.Text.{cursor, standsAt, same}
 use Rattle.text.specs.declared.Cursor.{Cursor}
 use Rattle.spell.specs.Tables.{Spelling}
 use Rattle.spell.specs.declared.Spelled.{Spelled}
@@ -23,6 +23,11 @@ firstOf [] s at = Not
 firstOf (e ∷ es) s at =
     let r = firstOf es s at in pick (standsAt (e .bytes) s at) (As (e .number) (cursor (at + length (e .bytes)))) r
 
+-- The number of the spelling that some bytes are, no more and no fewer; 0 where they are none.         (01, Reading rules)
+unfoldable pub numberOf : List Spelling → List ℕ → ℕ
+numberOf [] t = 0
+numberOf (e ∷ es) t = let r = numberOf es t in pick (same (e .bytes) t) (e .number) r
+
 -- A number is written by its first spelling in a table; one that is not in it is not written.        (01, Writing)
 unfoldable pub spelled : List Spelling → ℕ → List ℕ
 spelled [] n = []
@@ -33,9 +38,7 @@ unfoldable pub hasNumber : List Spelling → ℕ → Bool
 hasNumber [] n = false
 hasNumber (e ∷ es) n = let r = hasNumber es n in pick (eqb (e .number) n) true r
 
--- ---- how the code holds a table
-
--- Three bytes as one number, and the bytes of such a number.
+-- Three bytes as one number.
 abbrev pub codeOf : ℕ → ℕ → ℕ → ℕ
 codeOf a b c = a * 65536 + b * 256 + c
 

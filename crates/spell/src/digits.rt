@@ -2,14 +2,14 @@
 use crate::Spelled;
 use text::Cursor;
 ghost use mathlib.Core.Path.{_≡_};
-ghost use mathlib.Core.List.{List};
+ghost use mathlib.Core.List.{List, [], _∷_};
 ghost use Prim.Native.Nat.{_+_, _≤_, _<_};
 ghost use lib.Dec.{ltb};
 ghost use lib.ListN.{length};
 ghost use Rattle.lent.specs.Bytes.{Wrote, fitting};
 ghost use Rattle.spell.specs.Tables.{Spelling, numerals, files};
-ghost use Rattle.spell.specs.Slots.{look, numberIn, numeralSlots};
-ghost use Rattle.spell.specs.Spell.{code, codeOf, firstOf, spelled};
+ghost use Rattle.spell.specs.inner.Slots.{look, numeralSlots};
+ghost use Rattle.spell.specs.Spell.{firstOf, numberOf, spelled, code, codeOf};
 ghost use Rattle.spell.specs.inner.Codes.{Digits, IsDigits, codeAt};
 
 // 一 to 九
@@ -90,7 +90,7 @@ fn numeral_row(h: u32) -> u32
 
 // The number of the numeral that three bytes are; 0 where they are none.
 pub fn numeral_of(a: u8, b: u8, c: u8) -> u8
-    ensures { λ r. ⌜ r ≡ numberIn numeralSlots 17 (codeOf a b c) ⌝ }
+    ensures { λ r. ⌜ r ≡ numberOf numerals (a ∷ b ∷ c ∷ []) ⌝ }
 {
     let x = code(a, b, c);
     let row = numeral_row(x % 17);

@@ -3,15 +3,15 @@
 use Prim.Native.Nat.{ℕ, suc, _+_, _*_, _-_, _≤_, _<_, max}
 use native.Mathlib.Nat.{le-refl}
 use native.Mathlib.Omega.{arith}
-use mathlib.Core.Path.{_≡_, refl, sym, ap}
+use mathlib.Core.Path.{_≡_, refl, sym, ap, ap₂}
 use mathlib.Core.List.{List, [], _∷_}
 use mathlib.Core.Bool.{Bool, true, false, false≢true}
 use lib.ListN.{length, getD, drop, length-drop, drop-of-length-le}
 use lib.Dec.{ltb, leb, eqb}
 use borrow.Author.Tests.{ltb-false, leb-true, eqb-true, eq-eqb, ne-eqb}
 use Rattle.lists.specs.Pick.{pick}
-use Rattle.lists.proofs.Laws.{drop-step, head-at, class-in, in-list}
-use Rattle.text.specs.Text.{cursor, onPlace, isText, isDigit, spanFrom, spanAt, prefixFrom, standsAt, tagAt, textAt, breakAt, tailAt, lineEndAt, numberFrom, numberAt}
+use Rattle.lists.proofs.Laws.{pick-both, drop-step, head-at, class-in, in-list}
+use Rattle.text.specs.Text.{cursor, onPlace, isText, isDigit, spanFrom, spanAt, prefixFrom, standsAt, tagAt, same, textAt, breakAt, tailAt, lineEndAt, numberFrom, numberAt}
 use Rattle.text.specs.declared.Cursor.{Cursor}
 use Rattle.text.specs.declared.Place.{Place}
 use Rattle.text.specs.declared.Place.the-variants.{Past, Absent}
@@ -216,3 +216,29 @@ unfolding lineEndAt tailAt breakAt
 line-end-here s at e =
     let h : at < length s = in-list s at (omega arith) in
     rw (span-off isText s at h (rw (eq-eqb (getD s at 0) 10 e)), ne-eqb (getD s at 0) 13 (λ q. omega arith), eq-eqb (getD s at 0) 10 e)
+
+-- ---- two texts are the same bytes exactly where they are equal
+
+pub same-is : (a b : List ℕ) → same a b ≡ true → a ≡ b
+unfolding same
+same-is [] [] h = refl
+same-is [] (y ∷ b) h = absurd (false≢true h)
+same-is (x ∷ a) [] h = absurd (false≢true h)
+same-is (x ∷ a) (y ∷ b) h = let (p, q) = pick-both (eqb x y) (same a b) h in ap₂ _∷_ (eqb-true x y p) (same-is a b q)
+
+pub same-refl : (a : List ℕ) → same a a ≡ true
+unfolding same
+same-refl [] = refl
+same-refl (x ∷ a) = rw (eq-eqb x x refl, same-refl a)
+
+-- and not where they are not as long
+pub lengths-differ : (a b : List ℕ) → (length a ≡ length b → ⊥) → same a b ≡ false
+unfolding same
+lengths-differ [] [] h = absurd (h refl)
+lengths-differ [] (y ∷ b) h = refl
+lengths-differ (x ∷ a) [] h = refl
+lengths-differ (x ∷ a) (y ∷ b) h = rw (lengths-differ a b (λ e. h (ap suc e))) (neither (eqb x y))
+  where
+    neither : (u : Bool) → pick u false false ≡ false
+    neither true = refl
+    neither false = refl

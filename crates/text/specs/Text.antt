@@ -65,6 +65,21 @@ standsAt t s at = prefixFrom t (drop at s)
 unfoldable pub tagAt : List ℕ → List ℕ → ℕ → Place
 tagAt t s at = pick (standsAt t s at) (Past (cursor (at + length t))) Absent
 
+-- ---- two texts                                                                                      (01, The block: header entry)
+
+-- One text before another by bytes.
+unfoldable pub before : List ℕ → List ℕ → Bool
+before a [] = false
+before [] (y ∷ b) = true
+before (x ∷ a) (y ∷ b) = let r = before a b in pick (ltb x y) true (pick (eqb x y) r false)
+
+-- The same bytes.
+unfoldable pub same : List ℕ → List ℕ → Bool
+same [] [] = true
+same [] (y ∷ b) = false
+same (x ∷ a) [] = false
+same (x ∷ a) (y ∷ b) = let r = same a b in pick (eqb x y) r false
+
 -- ---- one character after another
 
 -- One character more, as wide as the width function says; a width of 0 says that there is none.

@@ -10,29 +10,29 @@ use borrow.Author.Needs.{needs}
 use Rattle.block.specs.Sound.{soundb, headTest, partsTest, totalsTest, positionTest, headerTest, lineTest, entryTest, commentTest}
 use Rattle.block.specs.Decode.{headersIn, linesIn, movesIn, commentsIn}
 use Rattle.lists.proofs.Tests.{says, goes, fails}
-use Rattle.lists.specs.Test.{each, Test, both}
+use Rattle.lists.specs.Test.{each, Test, _and_}
 use Rattle.block.proofs.Spans.{texts-first}
 use Rattle.block.proofs.sound.Statement.{statement}
 use Rattle.block.proofs.sound.Tie as tie
 
 -- the texts, and what is left to test after each part
 abbrev T : List ℕ → Test
-T b = both (each (headersIn b) (headerTest b)) (each (commentsIn b) (commentTest b))
+T b = each (headersIn b) (headerTest b) and each (commentsIn b) (commentTest b)
 
 abbrev R5 : List ℕ → Test
-R5 b = both (each (linesIn b) (lineTest b)) (each (movesIn b) (entryTest b))
+R5 b = each (linesIn b) (lineTest b) and each (movesIn b) (entryTest b)
 
 abbrev R4 : List ℕ → Test
-R4 b = both (each (headersIn b) (headerTest b)) (both (each (linesIn b) (lineTest b)) (both (each (movesIn b) (entryTest b)) (each (commentsIn b) (commentTest b))))
+R4 b = each (headersIn b) (headerTest b) and each (linesIn b) (lineTest b) and each (movesIn b) (entryTest b) and each (commentsIn b) (commentTest b)
 
 abbrev R3 : List ℕ → Test
-R3 b = both (positionTest b) (R4 b)
+R3 b = positionTest b and R4 b
 
 abbrev R2 : List ℕ → Test
-R2 b = both (totalsTest b) (R3 b)
+R2 b = totalsTest b and R3 b
 
 abbrev R1 : List ℕ → Test
-R1 b = both (partsTest b) (R2 b)
+R1 b = partsTest b and R2 b
 
 head-sound-requires : tie.Need-head-sound-requires
 head-sound-requires c κs = search needs

@@ -6,40 +6,51 @@ use mathlib.Core.List.{List, [], _∷_, _++_}
 use lib.ListN.{take, drop, getD}
 use lib.Dec.{eqb}
 use Rattle.lists.specs.Pick.{pick}
-use Rattle.lists.specs.Test.{Test, equals, atMost, holds, both}
+use Rattle.lists.specs.Test.{Test, _equals_, _atMost_, holds, _and_}
 use Rattle.lent.specs.Bytes.{le16}
 use Rattle.text.specs.Utf8.{isNext}
 use Rattle.jkf.specs.Entries.{timeOf}
 use Rattle.block.specs.EntryBytes.{timeMark, targetBytes, originBytes, timeBytes, entryHead, timeIn, targetIn, originIn, entryIn}
 use Rattle.block.specs.Decode.{headersIn, keyOffset, keyLength, valueOffset, commentOffset}
-use Rattle.block.specs.Sound.{same, kindTest, headerBytes, commentBytes}
+use Rattle.text.specs.Text.{same}
+use Rattle.block.specs.Sound.{kindTest, headerBytes, commentBytes}
 
 -- ---- a row of 20 bytes
 
 -- The marks of the time are right, and so are its bytes.
 abbrev pub timeTest : List ℕ → Test
-timeTest l = both (equals (getD l 8 0) (getD l 8 0 % 4 + timeMark (timeIn l))) (holds (same (take 6 (drop 9 l)) (timeBytes (timeIn l))))
+timeTest l =
+    getD l 8 0 equals getD l 8 0 % 4 + timeMark (timeIn l)
+    and holds (same (take 6 (drop 9 l)) (timeBytes (timeIn l)))
 
 -- A move's colour, kind and promotion are in range, and squares that are not used are zero.
 abbrev pub moveTest : List ℕ → Test
 moveTest l =
-    both (atMost (getD l 1 0) 1)
-    (both (atMost 1 (getD l 2 0))
-    (both (atMost (getD l 2 0) 14)
-    (both (atMost (getD l 3 0) 2)
-    (both (holds (same (take 2 (drop 4 l)) (targetBytes (targetIn l)))) (holds (same (take 2 (drop 6 l)) (originBytes (originIn l))))))))
+    getD l 1 0 atMost 1
+    and 1 atMost getD l 2 0
+    and getD l 2 0 atMost 14
+    and getD l 3 0 atMost 2
+    and holds (same (take 2 (drop 4 l)) (targetBytes (targetIn l)))
+    and holds (same (take 2 (drop 6 l)) (originBytes (originIn l)))
 
 -- An ending has its number, no mark but those of the time, and zeros.
 abbrev pub endTest : List ℕ → Test
-endTest l = both (atMost (getD l 1 0) 13) (both (equals (getD l 8 0 % 4) 0) (holds (same (take 6 (drop 2 l)) (0 ∷ 0 ∷ 0 ∷ 0 ∷ 0 ∷ 0 ∷ []))))
+endTest l =
+    getD l 1 0 atMost 13
+    and getD l 8 0 % 4 equals 0
+    and holds (same (take 6 (drop 2 l)) (0 ∷ 0 ∷ 0 ∷ 0 ∷ 0 ∷ 0 ∷ []))
 
 -- The 15 bytes before the numbers are those of the entry k that they say.
 abbrev pub headTestOf : ℕ → List ℕ → Test
-headTestOf k l = both (kindTest k (entryIn l)) (holds (same (take 15 l) (entryHead (entryIn l) ++ timeBytes (timeOf (entryIn l)))))
+headTestOf k l =
+    kindTest k (entryIn l)
+    and holds (same (take 15 l) (entryHead (entryIn l) ++ timeBytes (timeOf (entryIn l))))
 
 -- A zero, and the number of the first comment, which is 0 where there is none.
 abbrev pub commentsTest : ℕ → List ℕ → Test
-commentsTest next l = both (equals (getD l 15 0) 0) (equals (le16 l 16) (pick (eqb (le16 l 18) 0) 0 (next % 65536)))
+commentsTest next l =
+    getD l 15 0 equals 0
+    and le16 l 16 equals pick (eqb (le16 l 18) 0) 0 (next % 65536)
 
 -- ---- texts, of which the part begins at t
 
@@ -50,11 +61,13 @@ begins b t at = holds (not (isNext (getD b (t + at) 0)))
 -- The key and the value of header entry k stand behind those before, and each begins where a character may.
 abbrev pub headerStands : List ℕ → ℕ → ℕ → Test
 headerStands b t k =
-    both (equals (keyOffset b k) (headerBytes b k))
-    (both (equals (valueOffset b k) (headerBytes b k + keyLength b k))
-    (both (begins b t (headerBytes b k)) (begins b t (headerBytes b k + keyLength b k))))
+    keyOffset b k equals headerBytes b k
+    and valueOffset b k equals headerBytes b k + keyLength b k
+    and begins b t (headerBytes b k)
+    and begins b t (headerBytes b k + keyLength b k)
 
 -- Comment k stands behind those before, and begins where a character may.
 abbrev pub commentStands : List ℕ → ℕ → ℕ → Test
 commentStands b t k =
-    both (equals (commentOffset b k) (headerBytes b (headersIn b) + commentBytes b k)) (begins b t (headerBytes b (headersIn b) + commentBytes b k))
+    commentOffset b k equals headerBytes b (headersIn b) + commentBytes b k
+    and begins b t (headerBytes b (headersIn b) + commentBytes b k)

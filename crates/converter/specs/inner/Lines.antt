@@ -4,7 +4,7 @@ use Prim.Native.Nat.{ℕ, _-_, _≤_}
 use mathlib.Core.Path.{_≡_}
 use mathlib.Core.List.{List}
 use Rattle.block.specs.Decode.{run, linesIn, lineIn}
-use Rattle.block.specs.Sound.{Sound}
+use Rattle.block.specs.inner.Sounds.{Sound}
 use Rattle.converter.specs.Show.{shown}
 
 -- The first n lines of a sound block are those that are shown.

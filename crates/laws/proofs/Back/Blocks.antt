@@ -15,7 +15,8 @@ use Rattle.jkf.specs.declared.Answer.the-variants.{Done, BufferShort, NotSound,
 use Rattle.jkf.specs.Model.{Record}
 use Rattle.block.specs.Encode.{encode}
 use Rattle.block.specs.Decode.{decode}
-use Rattle.block.specs.Sound.{Sound, soundb}
+use Rattle.block.specs.inner.Sounds.{Sound}
+use Rattle.block.specs.Sound.{soundb}
 use Rattle.block.specs.Formed.{Formed}
 use Rattle.parser.specs.Parse.{parse, recordOf}
 use Rattle.plays.specs.Plays.{plyAt}

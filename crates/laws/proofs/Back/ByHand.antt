@@ -26,7 +26,9 @@ use Rattle.jkf.specs.declared.Entry.{Entry}
 use Rattle.jkf.specs.declared.Entry.the-variants.{Slot, Moved, End}
 use Rattle.jkf.specs.Model.{Noted, Line, Record}
 use Rattle.block.specs.Decode.{decode}
-use Rattle.block.specs.Sound.{Sound, kindTest}
+use Rattle.block.specs.inner.Sounds.{Sound}
+use Rattle.block.proofs.Deciding.{sound-says}
+use Rattle.block.specs.Sound.{kindTest}
 use Rattle.moves.proofs.Smalls.{Bytes as AllBytes, each, empty}
 use Rattle.moves.specs.Fits.{ClockFits, hmsFits, msFits, TimeFits, untimedFits, timedFits, TargetFits, sameFits, squareFits, EntryFits, playFits, endFits}
 use Rattle.converter.specs.Entries.{within, targetFits, canWrite}
@@ -132,7 +134,8 @@ hand-sayable b bs s h c z =
     record { headers = h .headers; plays = plays-sayable (decode b .lines) (block-lines b s bs) (h .entries) (all-clear (decode b .lines) c z) }
 
 pub restores-by-hand : RestoresByHand
-restores-by-hand b bs s h c z hands lines short o room =
+restores-by-hand b bs t h c z hands lines short o room =
+    let s = sound-says b t in
     let e = encode-decode b s bs in
     let n = ap length e in
     reads-back-in whole (decode b) (decode-formed b bs s) (hand-sayable b bs s h lines z) c hands z short o (omega arith)

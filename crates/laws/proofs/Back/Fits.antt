@@ -13,7 +13,7 @@ use lib.Dec.{eqb, ltb}
 use borrow.Author.Tests.{ne-eqb, eqb-true, eqb-false, ltb-false, lt-ltb, le-ltb}
 use Rattle.lists.specs.All.{All, none, next, Led, leads}
 use Rattle.lists.specs.Pick.{pick}
-use Rattle.lists.specs.Test.{claim, each, both, equals, flag}
+use Rattle.lists.specs.Test.{claim, each, _and_, _equals_, flag}
 use Rattle.lists.proofs.Tests.{says}
 use Rattle.jkf.specs.declared.Position.{Position}
 use Rattle.jkf.specs.declared.Entry.the-variants.{Slot}
@@ -21,7 +21,8 @@ use Rattle.jkf.specs.Attaching.{near}
 use Rattle.jkf.proofs.Nears.{near-before}
 use Rattle.jkf.specs.Model.{Header, Noted, Line, Record}
 use Rattle.block.specs.Encode.{concat, entriesOf}
-use Rattle.block.specs.Sound.{before, isCell, fitsTest}
+use Rattle.text.specs.Text.{before}
+use Rattle.block.specs.Sound.{isCell, fitsTest}
 use Rattle.block.specs.Formed.{headerOf, lineOf, headerFits, lineFits, Formed}
 use Rattle.block.proofs.Hanging.{hang-first, hang-says}
 use Rattle.kakinoki.specs.Boards.{noCells}
@@ -97,10 +98,10 @@ unfolding handsObstacle
 position-fitted p c n f o = go (eqb (p .board) 0) refl (f .1 .1 .1 .1) o
   where
     go : (t : Bool) → eqb (p .board) 0 ≡ t
-        → pick t (flag (both (equals (p .turn) 0) (both (each 81 (λ i. equals (getD (p .cells) i 0) 0)) (each 14 (λ i. equals (getD (p .hands) i 0) 0))))) (eqb (p .preset) 16) ≡ true
+        → pick t (flag (p .turn equals 0 and each 81 (λ i. getD (p .cells) i 0 equals 0) and each 14 (λ i. getD (p .hands) i 0 equals 0))) (eqb (p .preset) 16) ≡ true
         → pick t Clear (handObstacle (p .hands) 0 14) ≡ Clear → PositionFits p
     go true e d o =
-        let (t₀, z) = says (both (equals (p .turn) 0) (both (each 81 (λ i. equals (getD (p .cells) i 0) 0)) (each 14 (λ i. equals (getD (p .hands) i 0) 0)))) d in
+        let (t₀, z) = says (p .turn equals 0 and each 81 (λ i. getD (p .cells) i 0 equals 0) and each 14 (λ i. getD (p .hands) i 0 equals 0)) d in
         let b₀ : p .board ≡ 0 = eqb-true (p .board) 0 e in
         let cs : p .cells ≡ noCells = all-zero 81 (p .cells) c (z .0) in
         let hs : p .hands ≡ replicate 14 0 = all-zero 14 (p .hands) n (z .1) in

@@ -10,7 +10,7 @@ use lib.Dec.{eqb}
 use Rattle.lists.specs.Repeat.{more}
 use Rattle.lists.proofs.Laws.{range-at}
 use Rattle.lists.proofs.Stand.{Stands, Reads, Any, then, came}
-use Rattle.text.specs.Text.{cursor, tagAt}
+use Rattle.text.specs.Text.{cursor, tagAt, same}
 use Rattle.text.specs.declared.Place.the-variants.{Absent}
 use Rattle.spell.specs.Tables.{presets, sides}
 use Rattle.spell.specs.Spell.{firstOf, spelled, hasNumber}
@@ -50,7 +50,7 @@ preset-item n h = record {
 -- ---- the side to move
 
 pub turn-item : Reads informationItem (λ e. more e (ofTurn 1)) ((spelled sides 1 ++ turnTag) ++ (10 ∷ [])) Any
-unfolding informationItem informationAt presetLineAt turnLineAt paddedEndAt spelled hasNumber
+unfolding informationItem informationAt presetLineAt turnLineAt paddedEndAt spelled hasNumber same
 turn-item = record {
   run = λ s at r st c.
       let z = hash-none st refl in
@@ -68,7 +68,7 @@ pub data Side : ℕ → Type 0 where
   white : Side 1
 
 side-reads : {side : ℕ} → Side side → Reads (firstOf sides) (λ e. As side (cursor e)) (spelled sides side) Any
-unfolding hasNumber
+unfolding hasNumber same
 side-reads black = spelled-reads sides sides 0 refl refl refl
 side-reads white = spelled-reads sides sides 1 refl refl refl
 

@@ -15,7 +15,7 @@ use Rattle.lists.proofs.Laws.{by-pick, range-at}
 use Rattle.jkf.specs.Model.{Header}
 use Rattle.block.specs.Encode.{concat}
 use Rattle.block.specs.Decode.{run}
-use Rattle.block.specs.Sound.{same}
+use Rattle.text.specs.Text.{same}
 use Rattle.sorted.specs.declared.Order.{Order}
 use Rattle.sorted.specs.declared.Order.the-variants.{Less, Greater}
 use Rattle.sorted.specs.Sorted.{enter, enterAll}

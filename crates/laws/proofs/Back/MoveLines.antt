@@ -12,11 +12,12 @@ use Rattle.lists.specs.Pick.{pick}
 use Rattle.lists.proofs.Laws.{range-at, pick-both}
 use Rattle.lists.proofs.Stand.{Stands, Came, Reads, Any, Off, then, came}
 use Rattle.lent.specs.Numbers.{decimal}
-use Rattle.text.specs.Text.{cursor, isBlank, wideSpace}
+use Rattle.text.specs.Text.{cursor, isBlank, wideSpace, same}
 use Rattle.spell.specs.Tables.{moveKinds, specials, writtenSpecials, numerals, files}
 use Rattle.spell.specs.Spell.{firstOf, spelled, hasNumber}
 use Rattle.spell.specs.declared.Spelled.the-variants.{Not}
-use Rattle.spell.proofs.Written.{same, first-fails, move-kind-reads, special-reads, numeral-reads, file-reads, file-bytes}
+use Rattle.text.proofs.Laws.{same-is}
+use Rattle.spell.proofs.Written.{first-fails, move-kind-reads, special-reads, numeral-reads, file-reads, file-bytes}
 use Rattle.spell.proofs.Counts.{tag-reads}
 use Rattle.jkf.specs.Entries.{specialNumber, specialOf, timeOf}
 use Rattle.jkf.specs.declared.Special.{Special}
@@ -172,16 +173,8 @@ special-back Tsumi = refl
 special-back Fuzumi = refl
 special-back Error = refl
 
-same-is : (a b : List ℕ) → same a b ≡ true → a ≡ b
-same-is [] [] h = refl
-same-is [] (y ∷ b) h = absurd (false≢true h)
-same-is (x ∷ a) [] h = absurd (false≢true h)
-same-is (x ∷ a) (y ∷ b) h =
-    let (p, q) = pick-both (eqb x y) (same a b) h in
-    ap (λ (z : ℕ). z ∷ a) (eqb-true x y p) ∙ ap (λ (l : List ℕ). y ∷ l) (same-is a b q)
-
 special-test : (n : ℕ) → n ≤ 13 → pick (hasNumber specials n) (same (spelled writtenSpecials n) (spelled specials n)) true ≡ true
-unfolding hasNumber spelled
+unfolding hasNumber spelled same
 special-test n l = range-at (λ n. pick (hasNumber specials n) (same (spelled writtenSpecials n) (spelled specials n)) true) 14 0 n refl (omega arith) (omega arith)
 
 -- an ending that is read is written by the table that it is read by

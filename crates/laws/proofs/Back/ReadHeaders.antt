@@ -14,7 +14,7 @@ use Rattle.lists.specs.Pick.{pick}
 use Rattle.lists.specs.Repeat.{Step, more, stop, onStep}
 use Rattle.lists.proofs.Laws.{pick-both, head-at}
 use Rattle.lists.proofs.Stand.{Stands, then, stands-past, stands-same, byte-0, byte-1}
-use Rattle.text.specs.Text.{cursor, onPlace, isText, prefixFrom, standsAt, breakAt, tailAt, textAt, lineEndAt, wideColon, keyFrom, keyAt}
+use Rattle.text.specs.Text.{cursor, onPlace, isText, prefixFrom, standsAt, breakAt, tailAt, textAt, lineEndAt, wideColon, keyFrom, keyAt, same}
 use Rattle.text.specs.declared.Cursor.{Cursor}
 use Rattle.text.specs.declared.Place.{Place}
 use Rattle.text.specs.declared.Place.the-variants.{Past, Absent}
@@ -219,7 +219,7 @@ unfolding headerLine
 line-stands k v = record { rest = refl; within = omega arith }
 
 pub header-sayable : (s : List ℕ) (at : ℕ) → informationAt s at .info ≡ Keyed → hashLineAt s at ≡ Absent → HeaderSayable (headerAt s at)
-unfolding headerAt
+unfolding headerAt same
 header-sayable s at e n = go (headerAt s at .value) (p .is)
   where
     p : Parts s at

@@ -3,7 +3,7 @@
 use Rattle.lists.specs.Repeat.{repeatFrom, manyFrom}
 use Rattle.lists.specs.Test.{allBelow}
 use Rattle.lent.specs.Numbers.{digitsFrom, decimal}
-use Rattle.text.specs.Text.{spanFrom, spanAt, prefixFrom, standsAt, tagAt, pastAll, breakAt, tailAt, lineEndAt, padWidth, numberFrom, numberAt, digitsAt, keyFrom, keyAt}
+use Rattle.text.specs.Text.{spanFrom, spanAt, prefixFrom, standsAt, tagAt, pastAll, breakAt, tailAt, lineEndAt, padWidth, numberFrom, numberAt, digitsAt, keyFrom, keyAt, before, same}
 use Rattle.text.specs.Utf8.{sizeOf, lowestOf, highestOf, secondOf, isNext, charWidth, characterAt}
 use Rattle.spell.specs.Spell.{firstOf}
 use Rattle.spell.specs.Count.{tensAt, handCountAt}
@@ -14,7 +14,7 @@ use Rattle.block.specs.EntryBytes.{entryHead, entryBytes, timeIn, targetIn, ori
 use Rattle.block.specs.PositionBytes.{positionBytes, bytesAt, positionIn}
 use Rattle.block.specs.Decode.{run, keyOf, valueOf, commentOf, decode}
 use Rattle.block.specs.Encode.{table, concat, headBytes, encode}
-use Rattle.block.specs.Sound.{sum, before, same, soundb}
+use Rattle.block.specs.Sound.{sum, soundb}
 use Rattle.moves.specs.Moves.{squareAt, moveToAt, promoteAt, originAt, moveFromAt, kindToOriginAt, moveAt, whatAt, figureAt, hmsAt, msAt, clockAt, spacedAt, clocksAt, timeAt, finished, moveLineAt, remarkFrom, keptAt, commentLineAt, beginsNoSkip, skipLineAt}
 use Rattle.kakinoki.specs.Informations.{hashLineAt, hashLinesAt, paddedEndAt, presetLineAt, turnLineAt, pieceAt, pieceStep, piecesAt, handAt, heldAt, handLineAt, valueAt, keyValueAt, headerAt, keyedAt, handsOrKeyedAt, informationAt, informationItem, informationsAt, faultAt, tell, tellAll, pairsOf, headerPlacesFrom, headerPlacesAt}
 use Rattle.kakinoki.specs.Boards.{whiteAt, cellAt, cellsFrom, rowEndAt, rowAt, rowsFrom, boardAt}

@@ -2,16 +2,15 @@
 -- Assumes nothing: these are definitions.
 use Prim.Native.Nat.{ℕ, _+_, _*_, _-_, _≤_}
 use mathlib.Core.Path.{_≡_}
-use mathlib.Core.List.{List}
+use mathlib.Core.List.{List, _++_}
 use mathlib.Core.Bool.{true}
 use lib.ListN.{length, getD}
 use lib.Dec.{eqb}
 use Rattle.lists.specs.Pick.{pick}
 use Rattle.text.specs.Text.{cursor, isDigit, standsAt}
-use Rattle.spell.specs.Spell.{firstOf}
-use Rattle.spell.specs.inner.Codes.{codeAt}
-use Rattle.spell.specs.Tables.{kinds}
-use Rattle.spell.specs.Slots.{numberIn, numeralSlots, kindSlots, promotedIn}
+use Rattle.spell.specs.Spell.{firstOf, numberOf}
+use Rattle.spell.specs.inner.Codes.{threeAt}
+use Rattle.spell.specs.Tables.{kinds, numerals}
 use Rattle.spell.specs.declared.Spelled.the-variants.{As}
 use Rattle.jkf.specs.declared.Target.{Target}
 use Rattle.jkf.specs.declared.Target.the-variants.{Same, Square}
@@ -57,11 +56,11 @@ pub record Usual (s : List ℕ) (at : ℕ) : Type 0 where
 
 -- The target at a place: 同, or a full-width digit and a numeral.
 unfoldable pub aimOf : List ℕ → ℕ → Target
-aimOf s at = pick (eqb (getD s at 0) 229) Same (Square (getD s (at + 2) 0 - 144) (numberIn numeralSlots 17 (codeAt s (at + 3))))
+aimOf s at = pick (eqb (getD s at 0) 229) Same (Square (getD s (at + 2) 0 - 144) (numberOf numerals (threeAt s (at + 3))))
 
 -- The kind after it: 成 and the kind that was promoted, or a kind of one character.
 unfoldable pub kindOf : List ℕ → ℕ → ℕ
-kindOf s at = pick (standsAt promotes s (at + 6)) (promotedIn (codeAt s (at + 9))) (numberIn kindSlots 35 (codeAt s (at + 6)))
+kindOf s at = pick (standsAt promotes s (at + 6)) (numberOf kinds (promotes ++ threeAt s (at + 9))) (numberOf kinds (threeAt s (at + 6)))
 
 -- The mark of a move of so many bytes: 13 leave room for none, and 成 before the kind is none.
 unfoldable pub markOf : List ℕ → ℕ → ℕ → ℕ

@@ -7,9 +7,7 @@ use lib.ListN.{length}
 use denote.Ref.{now}
 use borrow.Author.Tests.{ltb-true, ltb-false}
 use Rattle.spell.specs.Tables.{kinds}
-use Rattle.spell.specs.inner.Codes.{codeAt}
-use Rattle.spell.specs.Slots.{kindSlots}
-use Rattle.spell.proofs.Codes.{near}
+use Rattle.spell.specs.inner.Slots.{kindSlots}
 use Rattle.spell.proofs.Lookups.{short-first, slot-first, slot-longer}
 use borrow.Author.Needs.{needs}
 use Rattle.spell.proofs.kind.Statement.{statement}
@@ -47,23 +45,19 @@ promoted-requires : tie.Need-promoted-requires
 promoted-requires c κs = tt
 
 returns-2 : tie.Need-returns-2
-unfolding codeAt
 returns-2 c =
     let k = c .before .before .before .before .before .before .before .before in
     let a = k .before .args in
-    let near₁ = near (now (a .s)) (a .c .at) (λ i. omega (arith, k .shared-slice-known .given i)) in
-    c .promoted .ensures ∙ sym (slot-longer kinds kindSlots 35 refl refl refl (now (a .s)) (a .c .at) near₁ _ (c .before .before .kind-of .ensures) (c .before .if2 .taken))
+    c .promoted .ensures ∙ sym (slot-longer kinds kindSlots 35 refl refl refl (now (a .s)) (a .c .at) (λ i. omega (arith, k .shared-slice-known .given i)) _ (c .before .before .kind-of .ensures) (c .before .if2 .taken))
 
 add-t8 : tie.Need-add-t8
 add-t8 c = omega (arith, room (c .before .before .before .before .before))
 
 returns-3 : tie.Need-returns-3
-unfolding codeAt
 returns-3 c =
     let k = c .before .before .before .before .before .before .before in
     let a = k .before .args in
-    let near₁ = near (now (a .s)) (a .c .at) (λ i. omega (arith, k .shared-slice-known .given i)) in
-    sym (slot-first kinds kindSlots 35 refl refl refl (now (a .s)) (a .c .at) near₁ _ (c .before .kind-of .ensures) (c .if2 .left))
+    sym (slot-first kinds kindSlots 35 refl refl refl (now (a .s)) (a .c .at) (λ i. omega (arith, k .shared-slice-known .given i)) _ (c .before .kind-of .ensures) (c .if2 .left))
 
 pub kind-spec : {M : Type 1} → statement M
 kind-spec =

@@ -43,6 +43,10 @@ abbrev pub codes : List Spelling → List ℕ
 codes [] = []
 codes (e ∷ es) = code (e .bytes) ∷ codes es
 
+-- The three bytes at a place, 0 past the end of a text.
+abbrev pub threeAt : List ℕ → ℕ → List ℕ
+threeAt s at = getD s at 0 ∷ getD s (at + 1) 0 ∷ getD s (at + 2) 0 ∷ []
+
 -- The three bytes at a place, as one number.
 unfoldable pub codeAt : List ℕ → ℕ → ℕ
 codeAt s at = codeOf (getD s at 0) (getD s (at + 1) 0) (getD s (at + 2) 0)

@@ -7,13 +7,13 @@ use mathlib.Core.Bool.{true}
 use lib.ListN.{length, getD}
 use denote.Ref.{now}
 use borrow.Author.Tests.{eq-eqb, ne-eqb}
-use Rattle.lists.specs.Test.{equals, allBelow, flag}
+use Rattle.lists.specs.Test.{_equals_, allBelow, flag}
 use Rattle.lists.proofs.Tests.{all-none, all-more, all-not}
 use Rattle.block.proofs.places.all_zero.Statement.{statement}
 use Rattle.block.proofs.places.all_zero.Tie as tie
 
 abbrev Inv-loop : tie.InvT-loop
-Inv-loop s i₀ i = (i ≤ length s) × (allBelow (λ (j : ℕ). flag (equals (getD s j 0) 0)) i ≡ true)
+Inv-loop s i₀ i = (i ≤ length s) × (allBelow (λ (j : ℕ). flag (getD s j 0 equals 0)) i ≡ true)
 
 abbrev μ-loop : tie.MeasureT-loop
 μ-loop s i₀ i = length s - i
@@ -28,7 +28,7 @@ returns : tie.Need-returns Inv-loop μ-loop
 returns c =
     let l = c .before .before .before in
     let s = now (l .before .args .s) in
-    sym (all-not (λ (j : ℕ). flag (equals (getD s j 0) 0)) (length s) (l .loop .i) (omega arith) (ne-eqb _ _ (c .if1 .taken)))
+    sym (all-not (λ (j : ℕ). flag (getD s j 0 equals 0)) (length s) (l .loop .i) (omega arith) (ne-eqb _ _ (c .if1 .taken)))
 
 add-i : tie.Need-add-i Inv-loop μ-loop
 add-i c = omega arith

@@ -5,7 +5,7 @@ use native.Mathlib.Omega.{arith}
 use mathlib.Core.Path.{_≡_, refl, sym, _∙_}
 use lib.ListN.{drop}
 use denote.Ref.{now}
-use Rattle.block.specs.Sound.{before}
+use Rattle.text.specs.Text.{before}
 use Rattle.block.proofs.Orders.{four-same, four-order}
 use borrow.Author.Needs.{needs}
 use Rattle.block.proofs.texts.is_before.Statement.{statement}

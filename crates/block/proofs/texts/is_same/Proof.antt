@@ -5,8 +5,9 @@ use native.Mathlib.Omega.{arith}
 use mathlib.Core.Path.{_≡_, refl, sym, _∙_}
 use lib.ListN.{length, drop}
 use denote.Ref.{now}
-use Rattle.block.specs.Sound.{same}
-use Rattle.block.proofs.Orders.{same-length, same-end, same-off, same-on}
+use Rattle.text.specs.Text.{same}
+use Rattle.text.proofs.Laws.{lengths-differ}
+use Rattle.block.proofs.Orders.{same-end, same-off, same-on}
 use Rattle.block.proofs.texts.is_same.Statement.{statement}
 use Rattle.block.proofs.texts.is_same.Tie as tie
 
@@ -17,7 +18,7 @@ abbrev μ-loop : tie.MeasureT-loop
 μ-loop a b i₀ i = length a - i
 
 returns : tie.Need-returns Inv-loop μ-loop
-returns c = sym (same-length (now (c .before .args .a)) (now (c .before .args .b)) (c .if1 .taken))
+returns c = sym (lengths-differ (now (c .before .args .a)) (now (c .before .args .b)) (c .if1 .taken))
 
 loop-holds : tie.Need-loop-holds Inv-loop μ-loop
 loop-holds c = refl

@@ -5,7 +5,7 @@ use native.Mathlib.Omega.{arith}
 use mathlib.Core.Path.{_≡_, refl, sym, _∙_}
 use lib.ListN.{length, drop}
 use denote.Ref.{now}
-use Rattle.block.specs.Sound.{before}
+use Rattle.text.specs.Text.{before}
 use Rattle.block.proofs.Orders.{before-end, before-short, before-less, before-more, before-on}
 use Rattle.block.proofs.texts.rest_before.Statement.{statement}
 use Rattle.block.proofs.texts.rest_before.Tie as tie

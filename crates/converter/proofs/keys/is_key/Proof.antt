@@ -7,7 +7,7 @@ use mathlib.Core.Path.{refl, ap, _∙_}
 use lib.ListN.{getD}
 use denote.Ref.{now}
 use borrow.Author.Needs.{needs}
-use Rattle.block.specs.Sound.{same}
+use Rattle.text.specs.Text.{same}
 use Rattle.converter.specs.Headers.{leadingKeys}
 use Rattle.converter.proofs.Keyed.{keyRows, row-size, row-word}
 use Rattle.converter.proofs.keys.is_key.Statement.{statement}

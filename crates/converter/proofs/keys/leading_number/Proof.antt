@@ -9,7 +9,7 @@ use lib.ListN.{getD}
 use denote.Ref.{now}
 use borrow.Author.Needs.{needs}
 use Rattle.lists.specs.Pick.{pick}
-use Rattle.block.specs.Sound.{same}
+use Rattle.text.specs.Text.{same}
 use Rattle.converter.specs.Headers.{leadingKeys}
 use Rattle.converter.proofs.keys.leading_number.Statement.{statement}
 use Rattle.converter.proofs.keys.leading_number.Tie as tie

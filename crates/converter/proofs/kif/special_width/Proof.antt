@@ -3,7 +3,7 @@
 use native.Mathlib.Omega.{arith}
 use mathlib.Core.Path.{refl, sym}
 use Rattle.spell.specs.Spell.{spelled}
-use Rattle.block.specs.Sound.{same}
+use Rattle.text.specs.Text.{same}
 use Rattle.converter.specs.Entries.{specialText, specialWidth}
 use Rattle.converter.proofs.Worded.{special-else}
 use Rattle.converter.proofs.kif.special_width.Statement.{statement}

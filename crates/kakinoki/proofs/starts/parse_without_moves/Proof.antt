@@ -5,10 +5,11 @@ use Prim.Native.Nat.{ℕ, _-_, min}
 use native.Mathlib.Omega.{arith}
 use mathlib.Core.Path.{_≡_, sym, ap, _∙_}
 use lib.ListN.{length}
-use lib.Seq.{sets, length-sets}
 use denote.Ref.{now}
 use borrow.Rule.Slice.PartMut.{putMid}
 use borrow.Author.Needs.{needs}
+use Rattle.lent.specs.Stored.{put}
+use Rattle.lent.proofs.Regions.{length-put}
 use Rattle.kakinoki.specs.Informations.{headerPlacesAt, low16}
 use Rattle.kakinoki.specs.Starts.{headerPlaces}
 use Rattle.kakinoki.proofs.Blocks.{low-length}
@@ -59,7 +60,7 @@ add-t14 c =
 -- the buffer, filled in two parts
 filled : (c : tie.After-struct-known2) →
     putMid (c .before .before .before .before .before .before .before .before .before .before .before .before .smaller .result) (length (c .before .before .before .before .before .before .before .before .before .before .before .before .before .before .before .before .informations .last .1 .1 .0) - c .before .before .before .before .before .before .before .before .before .before .before .before .smaller .result) (c .before .before .before .before .before .before .before .before .before .before .before .before .before .before .before .before .informations .last .1 .1 .0) (c .before .before .before .before .before .before .before .before .before .informations2 .last .1 .1 .0)
-    ≡ sets (now (c .before .before .before .before .before .before .before .before .before .before .before .before .before .before .before .before .before .before .before .before .args .places)) 0 (low16 (headerPlaces (now (c .before .before .before .before .before .before .before .before .before .before .before .before .before .before .before .before .before .before .before .before .args .s))))
+    ≡ put (now (c .before .before .before .before .before .before .before .before .before .before .before .before .before .before .before .before .before .before .before .before .args .places)) 0 (low16 (headerPlaces (now (c .before .before .before .before .before .before .before .before .before .before .before .before .before .before .before .before .before .before .before .before .args .s))))
 filled c =
     let s = now (c .before .before .before .before .before .before .before .before .before .before .before .before .before .before .before .before .before .before .before .before .args .s) in
     let o = now (c .before .before .before .before .before .before .before .before .before .before .before .before .before .before .before .before .before .before .before .before .args .places) in
@@ -69,10 +70,10 @@ filled c =
     let n = block-headers s 0 (f .result) p ∙ sym (low-length (headerPlacesAt s 0)) in
     two-parts (low16 (headerPlacesAt s 0)) (low16 (headerPlacesAt s at)) o _ _ _ (f .ensures .1)
     (c .before .before .before .before .before .before .before .before .before .before .before .before .smaller .ensures ∙ ap (λ (i : ℕ). min i (length (f .last .1 .1 .0))) n) (c .before .before .before .before .before .before .before .before .before .informations2 .ensures .1)
-    ∙ ap (sets o 0) (places-all s (f .result) (c .before .before .before .before .before .before .before .before .before .before .before .before .before .board .result) at p (c .before .before .before .before .before .before .before .before .before .before .before .before .before .board .ensures) (c .before .before .before .before .before .before .before .before .before .before .before .past-board .ensures))
+    ∙ ap (put o 0) (places-all s (f .result) (c .before .before .before .before .before .before .before .before .before .before .before .before .before .board .result) at p (c .before .before .before .before .before .before .before .before .before .before .before .before .before .board .ensures) (c .before .before .before .before .before .before .before .before .before .before .before .past-board .ensures))
 
 same-length : tie.Need-same-length
-same-length c = ap length (filled c) ∙ length-sets (now (c .before .before .before .before .before .before .before .before .before .before .before .before .before .before .before .before .before .before .before .before .args .places)) 0 (low16 (headerPlaces (now (c .before .before .before .before .before .before .before .before .before .before .before .before .before .before .before .before .before .before .before .before .args .s))))
+same-length c = ap length (filled c) ∙ length-put (now (c .before .before .before .before .before .before .before .before .before .before .before .before .before .before .before .before .before .before .before .before .args .places)) 0 (low16 (headerPlaces (now (c .before .before .before .before .before .before .before .before .before .before .before .before .before .before .before .before .before .before .before .before .args .s))))
 
 returns : tie.Need-returns
 returns c =

@@ -7,9 +7,7 @@ use lib.ListN.{length}
 use denote.Ref.{now}
 use borrow.Author.Tests.{ltb-true, ltb-false}
 use Rattle.spell.specs.Tables.{numerals}
-use Rattle.spell.specs.inner.Codes.{codeAt}
-use Rattle.spell.specs.Slots.{numeralSlots}
-use Rattle.spell.proofs.Codes.{near}
+use Rattle.spell.specs.inner.Slots.{numeralSlots}
 use Rattle.spell.proofs.Lookups.{short-first, slot-first, slot-not}
 use borrow.Author.Needs.{needs}
 use Rattle.spell.proofs.digits.numeral.Statement.{statement}
@@ -44,23 +42,19 @@ numeral-of-requires : tie.Need-numeral-of-requires
 numeral-of-requires c κs = tt
 
 returns-2 : tie.Need-returns-2
-unfolding codeAt
 returns-2 c =
     let k = c .before .before .before .before .before .before .before in
     let a = k .before .args in
-    let near₁ = near (now (a .s)) (a .c .at) (λ i. omega (arith, k .shared-slice-known .given i)) in
-    sym (slot-not numerals numeralSlots 17 refl refl refl (now (a .s)) (a .c .at) near₁ _ (c .before .numeral-of .ensures) refl (c .if2 .taken))
+    sym (slot-not numerals numeralSlots 17 refl refl refl (now (a .s)) (a .c .at) (λ i. omega (arith, k .shared-slice-known .given i)) _ (c .before .numeral-of .ensures) refl (c .if2 .taken))
 
 add-t8 : tie.Need-add-t8
 add-t8 c = omega (arith, room (c .before .before .before .before .before))
 
 returns-3 : tie.Need-returns-3
-unfolding codeAt
 returns-3 c =
     let k = c .before .before .before .before .before .before .before in
     let a = k .before .args in
-    let near₁ = near (now (a .s)) (a .c .at) (λ i. omega (arith, k .shared-slice-known .given i)) in
-    sym (slot-first numerals numeralSlots 17 refl refl refl (now (a .s)) (a .c .at) near₁ _ (c .before .numeral-of .ensures) (c .if2 .left))
+    sym (slot-first numerals numeralSlots 17 refl refl refl (now (a .s)) (a .c .at) (λ i. omega (arith, k .shared-slice-known .given i)) _ (c .before .numeral-of .ensures) (c .if2 .left))
 
 pub numeral-spec : {M : Type 1} → statement M
 numeral-spec =

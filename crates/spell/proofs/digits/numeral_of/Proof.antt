@@ -1,7 +1,13 @@
--- The row in the slot of the code has the code, and then its number is the answer, or it has not.
+-- The row in the slot of the code has the code, and then its number is the answer, or it has not: as the spellings say
+-- (`slot-number`).
 -- Assumes nothing.
-use borrow.Author.Tests.{eq-eqb, ne-eqb}
-use Rattle.spell.specs.Slots.{numberIn}
+use native.Mathlib.Omega.{arith}
+use mathlib.Core.Path.{_≡_, refl, ap, _∙_}
+use mathlib.Core.List.{[], _∷_}
+use Rattle.spell.specs.Tables.{numerals}
+use Rattle.spell.specs.Spell.{numberOf}
+use Rattle.spell.specs.inner.Slots.{numberIn, numeralSlots}
+use Rattle.spell.proofs.Lookups.{slot-number, number-some, number-none}
 use borrow.Author.Needs.{needs}
 use Rattle.spell.proofs.digits.numeral_of.Statement.{statement}
 use Rattle.spell.proofs.digits.numeral_of.Tie as tie
@@ -12,16 +18,18 @@ code-requires c κs = tt
 numeral-row-requires : tie.Need-numeral-row-requires
 numeral-row-requires c κs = tt
 
+-- what the slots say, the spellings say
+by-slot : (c : tie.After-code) → numberIn numeralSlots 17 (c .code .result) ≡ numberOf numerals (c .before .args .a ∷ c .before .args .b ∷ c .before .args .c ∷ [])
+by-slot c = ap (numberIn numeralSlots 17) (c .code .ensures) ∙ slot-number numerals numeralSlots 17 refl refl refl _ _ _ (omega arith) (omega arith) (omega arith)
+
 returns : tie.Need-returns
-unfolding numberIn
-returns c = rw (← c .before .before .code .ensures, ← c .before .numeral-row .ensures, ne-eqb _ _ (c .if1 .taken))
+returns c = number-none numeralSlots 17 (c .before .numeral-row .ensures) (c .if1 .taken) ∙ by-slot (c .before .before)
 
 cast-result : tie.Need-cast-result
 cast-result c = search needs
 
 returns-2 : tie.Need-returns-2
-unfolding numberIn
-returns-2 c = rw (← c .before .before .code .ensures, ← c .before .numeral-row .ensures, eq-eqb _ _ (c .if1 .left))
+returns-2 c = number-some numeralSlots 17 (c .before .numeral-row .ensures) (c .if1 .left) ∙ by-slot (c .before .before)
 
 pub numeral-of-spec : {M : Type 1} → statement M
 numeral-of-spec =

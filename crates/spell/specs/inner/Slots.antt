@@ -47,6 +47,10 @@ kindSlots =
     (25, 243956006) ∷  -- 角
     (28, 242923982) ∷ []  -- 竜
 
--- The kind that 成 and the character of a code make, 0 where they make none: 香, 桂 and 銀 are 2 to 4, and promoted 10 to 12.
+-- The kind that 成 and a kind make, 0 where they make none: 香, 桂 and 銀 are 2 to 4, and promoted 10 to 12.
+abbrev pub promotedOf : ℕ → ℕ
+promotedOf k = pick (ltb k 2) 0 (pick (ltb 4 k) 0 (k + 8))
+
+-- The same of the character of a code.
 unfoldable pub promotedIn : ℕ → ℕ
-promotedIn x = let k = numberIn kindSlots 35 x in pick (ltb k 2) 0 (pick (ltb 4 k) 0 (k + 8))
+promotedIn x = promotedOf (numberIn kindSlots 35 x)
