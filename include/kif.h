@@ -1,5 +1,6 @@
 /* Prunicheta's calls for C. A slice is a pointer and a length; a lent number is a pointer to it.
- * Every call takes every input. A refused call says so in *number (1 to 14) and in two figures; 0 is success. */
+ * Every call takes every input. A refused call says so in *number (1 to 13) and in two figures; 0 is success. 14 was a refusal of
+ * kif_put_in that is never met, and is not used again. */
 #ifndef KIF_H
 #define KIF_H
 
@@ -38,7 +39,6 @@ void kif_write(const uint8_t *block, size_t block_len, uint8_t *out, size_t out_
  *   11, 0, 0              where the text is not one variation, is over 65,535 bytes or is not UTF-8;
  *   12, line, ply         where the ply is 0 or not one of the line's;
  *   13, line, ply         where a variation hangs there already;
- *   14, other, 0          where the parent of another line would change;
  *   4, length, 0          where the block would be over 65,535 bytes, and this length is needed;
  *   5, length, 0          where out is shorter than the length needed.
  * Success changes only the new block's bytes, and a refusal nothing. */

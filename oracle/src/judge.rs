@@ -205,9 +205,7 @@ pub fn put_in(block: &[u8], line: u64, text: &[u8]) -> Outcome {
         other.parent += usize::from(other.parent >= place);
     }
     record.lines.insert(place, Line { start: ply, parent, entries });
-    if let Some(changed) = changed_parent(&record, place) {
-        return refused(14, changed, 0);
-    }
+    assert!(hangs_so(&record), "the parent of a line changes, against 02 (ix): {block:?} {line} {text:?}");
     let needed = record.length();
     if needed > LIMIT {
         return refused(4, needed as u64, 0);
@@ -229,12 +227,10 @@ fn variation(text: &[u8]) -> Option<(u64, Vec<Entry>)> {
     rest.is_empty().then_some((moves[0].0 as u64, entries))
 }
 
-/// The old number of the first line, the new one apart, whose parent by the rule is not the one it had.
-fn changed_parent(record: &Record, new: usize) -> Option<u64> {
+/// Whether every line hangs by the rule, afresh, on the parent that it is given.
+fn hangs_so(record: &Record) -> bool {
     let shape = record.shape();
-    let changed = |&k: &usize| k != new && attach::parent(&shape[..k], shape[k].0) != record.lines[k].parent;
-    let k = (1..shape.len()).find(changed)?;
-    Some(k as u64 - u64::from(k > new))
+    (1..shape.len()).all(|k| attach::parent(&shape[..k], shape[k].0) == record.lines[k].parent)
 }
 
 pub fn cut(block: &[u8], line: u64) -> Outcome {

@@ -3,14 +3,12 @@
 use Prim.Native.Nat.{ℕ, zero, suc, _+_, _-_, _≤_}
 use native.Mathlib.Omega.{arith}
 use mathlib.Core.Path.{_≡_, refl, sym, ap, ap₂, _∙_, subst}
-use mathlib.Core.List.{List, [], _++_}
+use mathlib.Core.List.{List, [], _∷_, _++_}
 use mathlib.Core.Bool.{true}
 use lib.Dec.{ltb}
 use borrow.Author.Tests.{ltb-false}
 use Rattle.lists.proofs.Laws.{by-pick}
-use lib.ListN.{length, drop, length-append, length-drop}
-use Rattle.lent.specs.Bytes.{fitting}
-use Rattle.lent.specs.Stored.{put, Stored}
+use lib.ListN.{length, take, drop, length-append, length-drop}
 use Rattle.jkf.specs.Answers.{Outcome}
 use Rattle.jkf.specs.declared.Answer.{Answer}
 use Rattle.jkf.specs.declared.Answer.the-variants.{Done}
@@ -18,19 +16,20 @@ use Rattle.jkf.specs.declared.Position.{Position}
 use Rattle.jkf.specs.Model.{Header, Noted, Line}
 use Rattle.jkf.specs.Attaching.{Play, attach}
 use Rattle.block.specs.PositionBytes.{positionBytes, positionIn}
-use Rattle.block.specs.Encode.{table, lineRow, lineStep, blockLength, concat, headerText, entriesOf, commentsOf, commentText, encodeFlat, encode}
+use Rattle.block.specs.Encode.{blockLength, headerText, entriesOf, commentsOf, commentText, encodeFlat, encode}
 use Rattle.block.specs.Decode.{run, headersIn, linesIn, movesIn, keyLength, valueLength, keyOf, valueOf, headerIn, notedIn, decode}
 use Rattle.block.specs.inner.Sounds.{Sound}
 use Rattle.block.specs.Sound.{headerBytes, entriesBefore}
 use Rattle.block.proofs.ByteArrays.{bytes-length}
 use Rattle.block.proofs.PositionsBack.{position-length}
 use Rattle.block.proofs.Sums.{sum-none, sum-suc}
-use Rattle.block.proofs.Tabling.{length-run, run-snoc, concat-snoc, concat-none}
+use Rattle.block.proofs.Tabling.{length-run, run-snoc, concat-snoc, concat-none, take-run, drop-run}
 use Rattle.block.proofs.Lengths.{block-length}
 use Rattle.block.proofs.Within.{key-length, value-length}
 use Rattle.block.proofs.Attached.{attach-length}
-use Rattle.filling.specs.inner.Parts.{Headed}
-use Rattle.filling.specs.Filling.{unlessRefused, atFront, areSmall, lengthOf, begun, opening, opened, Grown, grown, putNoted, putEntries}
+use Rattle.lent.proofs.Regions.{room-at}
+use Rattle.filling.specs.inner.Parts.{lineTexts, lineEnds, LinesFit, Headed}
+use Rattle.filling.specs.Filling.{unlessRefused, atFront, areSmall, lengthOf, begun, opening, opened, frontPut, Grown, putAll}
 use Rattle.filling.specs.inner.Parts.{sizesOf, onOpening, putHeaders}
 use Rattle.filling.specs.declared.Sizes.{Sizes}
 use Rattle.filling.specs.declared.Walk.{Walk}
@@ -38,10 +37,13 @@ use Rattle.filling.specs.declared.Opening.{Opening}
 use Rattle.filling.specs.declared.Opening.the-variants.{Begun, Refused}
 use Rattle.filling.proofs.Growing.{headers-put, all-then}
 use Rattle.filling.proofs.Putting.{length-is, not-begun, begun-walk, begun-total, Opens, opens, refuses, unrefused}
-use Rattle.filling.proofs.Wholes.{headers-fit, block-by-rows}
+use Rattle.filling.proofs.Wholes.{headers-fit, lines-fit, block-filled}
 use Rattle.plays.specs.inner.Entries.{playEntries}
-use Rattle.edit.specs.inner.Splicing.{relined, linesAfter, recordAfter, entriesAfter, addedSizes, sizesAfter, headersPut, withRows, beginning, beginningOf}
+use Rattle.edit.specs.inner.Splicing.{relined, linesAfter, recordAfter, Lines, playIn, putPlay, putPlays, entriesAfter, addedSizes, sizesAfter, headersPut, beginning, beginningOf}
+use Rattle.edit.specs.Edit.{playsIn}
 use Rattle.edit.specs.Outcomes.{editStored}
+use Rattle.edit.proofs.Played.{plays-are}
+use Rattle.edit.proofs.Hung.{lines-put}
 use Rattle.edit.proofs.Sounds.{entries-after}
 use Rattle.edit.proofs.Afresh.{after-length}
 use Rattle.edit.proofs.Measured.{entries-three, comments-three, bytes-three, sizes-same}
@@ -61,24 +63,22 @@ module _ (b : List ℕ) (s : Sound b) where
       ∙ ap length (concat-snoc (λ (x : Header). x .key ++ x .value) hs (headerIn b n)) ∙ length-append (headerText hs) (key ++ value) in
       omega (arith, e, length-append key value, key-length b s n (omega arith), value-length b s n (omega arith), texts-long n (omega arith), sum-suc (λ k. keyLength b k + valueLength b k) n)
 
--- ---- a block that lacks its entries
+-- ---- a block that lacks its lines
 
-module _ (b rows o : List ℕ) {z y : Sizes} (sized : z ≡ y) {p : Position} (at : p ≡ positionIn (drop 28 b)) {o₁ : List ℕ} (left : o₁ ≡ opened 1 z p o) where
+module _ (b o : List ℕ) {z y : Sizes} (sized : z ≡ y) {p : Position} (at : p ≡ positionIn (drop 28 b)) {o₁ : List ℕ} (left : o₁ ≡ opened 1 z p o) where
   left-is : o₁ ≡ opened 1 y (positionIn (drop 28 b)) o
   left-is = left ∙ ap₂ (λ (c : Sizes) (d : Position). opened 1 c d o) sized at
 
-  pub begins-not : {a : Answer} → Refused a ≡ opening z (length o) → (Refused a ≡ beginning b y o) × (o₁ ≡ beginningOf b y rows o)
+  pub begins-not : {a : Answer} → Refused a ≡ opening z (length o) → (Refused a ≡ beginning b y o) × (o₁ ≡ beginningOf b y o)
   unfolding beginning beginningOf
   begins-not {a} e = rw (← (e ∙ ap (λ (c : Sizes). opening c (length o)) sized)) (refl, left-is)
 
-  pub begins : {w v : Walk} {n r : ℕ} {o₂ o₃ : List ℕ} → Begun w n ≡ opening z (length o) → v ≡ headersPut b w o₁ .walk → o₂ ≡ headersPut b w o₁ .buffer
-      → Stored (fitting rows (drop (v .lines) o₂)) o₂ o₃ (v .lines) r → (Begun v n ≡ beginning b y o) × (o₃ ≡ beginningOf b y rows o)
+  pub begins : {w v : Walk} {n : ℕ} {o₂ : List ℕ} → Begun w n ≡ opening z (length o) → v ≡ headersPut b w o₁ .walk → o₂ ≡ headersPut b w o₁ .buffer
+      → (Begun v n ≡ beginning b y o) × (o₂ ≡ beginningOf b y o)
   unfolding beginning beginningOf
-  begins {w} {v} {n} {r} {o₂} {o₃} e f g st =
-      let walk = f ∙ ap (λ (l : List ℕ). headersPut b w l .walk) left-is in
-      let buffer = g ∙ ap (λ (l : List ℕ). headersPut b w l .buffer) left-is in
+  begins {w} {v} {n} {o₂} e f g =
       rw (← (e ∙ ap (λ (c : Sizes). opening c (length o)) sized))
-      (ap (λ (c : Walk). Begun c n) walk, st .bytes ∙ ap₂ (λ (c : Walk) (l : List ℕ). withRows rows (grown c l)) walk buffer)
+      (ap (λ (c : Walk). Begun c n) (f ∙ ap (λ (l : List ℕ). headersPut b w l .walk) left-is), g ∙ ap (λ (l : List ℕ). headersPut b w l .buffer) left-is)
 
 -- ---- the block of the edited record
 
@@ -139,49 +139,73 @@ module _ (b : List ℕ) (s : Sound b) (p q : ℕ) (vs : List Play) (within : (p 
         whole = ap sizeOf sized
 
     -- refused
-    pub refused-stored : (rows : List ℕ) {a : Answer} {o₁ : List ℕ} → Refused a ≡ beginning b z o → o₁ ≡ beginningOf b z rows o
+    pub refused-stored : {a : Answer} {o₁ : List ℕ} → Refused a ≡ beginning b z o → o₁ ≡ beginningOf b z o
         → (a ≡ editStored block second o .answer) × (o₁ ≡ editStored block second o .buffer)
     unfolding beginning beginningOf editStored
-    refused-stored rows {a} {o₁} e f = go (opening z (length o)) refl e f
+    refused-stored {a} {o₁} e f = go (opening z (length o)) refl e f
       where
         done : Outcome
         done = record { answer = Done (length block) second; buffer = atFront block o }
 
         go : (r : Opening) → opening z (length o) ≡ r → Refused a ≡ onOpening r (λ w n. Begun (headersPut b w (opened 1 z start o) .walk) n) (λ c. Refused c)
-            → o₁ ≡ onOpening r (λ w n. withRows rows (headersPut b w (opened 1 z start o))) (λ c. opened 1 z start o) → (a ≡ unlessRefused (length block) o done .answer) × (o₁ ≡ unlessRefused (length block) o done .buffer)
+            → o₁ ≡ onOpening r (λ w n. headersPut b w (opened 1 z start o) .buffer) (λ c. opened 1 z start o)
+            → (a ≡ unlessRefused (length block) o done .answer) × (o₁ ≡ unlessRefused (length block) o done .buffer)
         go (Begun w n) k x y = not-begun (sym x)
         go (Refused c) k x y =
             subst (λ (n : ℕ). (a ≡ unlessRefused n o done .answer) × (o₁ ≡ unlessRefused n o done .buffer)) block-long
             (refuses 1 z start o (x ∙ sym k) y done)
 
-    -- or filled in
-    pub begun-stored : {w : Walk} {n : ℕ} {rows o₁ o₂ : List ℕ} → rows ≡ table lineRow lineStep 0 ls → Begun w n ≡ beginning b z o → o₁ ≡ beginningOf b z rows o
-        → o₂ ≡ putEntries (entriesAfter b p q (playEntries vs)) w o₁ .buffer → (Done n second ≡ editStored block second o .answer) × (o₂ ≡ editStored block second o .buffer)
-    unfolding beginning beginningOf editStored
-    begun-stored {w} {n} {rows} {o₁} {o₂} table-is e f d = go (opening z (length o)) refl e f
-      where
-        done : Outcome
-        done = record { answer = Done (length block) second; buffer = atFront block o }
+    -- or begun
+    module _ {w : Walk} {n : ℕ} {o₁ : List ℕ} (e : Begun w n ≡ beginning b z o) (f : o₁ ≡ beginningOf b z o) where
+      -- all of its parts have room
+      record Ready : Type 0 where
+        opened-so : Opens 1 (sizesOf hd ls) start (begun (sizesOf hd ls)) n o (frontPut 1 (sizesOf hd ls) start o)
+        headed : Headed hd (begun (sizesOf hd ls)) w (frontPut 1 (sizesOf hd ls) start o) o₁
 
-        go : (r : Opening) → opening z (length o) ≡ r → Begun w n ≡ onOpening r (λ v m. Begun (headersPut b v (opened 1 z start o) .walk) m) (λ c. Refused c)
-            → o₁ ≡ onOpening r (λ v m. withRows rows (headersPut b v (opened 1 z start o))) (λ c. opened 1 z start o)
-            → (Done n second ≡ unlessRefused (length block) o done .answer) × (o₂ ≡ unlessRefused (length block) o done .buffer)
-        go (Refused c) k x y = not-begun x
-        go (Begun v m) k x y =
-            let q = opened 1 z start o in
-            let t = subst (λ (c : Sizes). Opens 1 c start v m o q) sized (opens 1 z start o (sym k) refl) in
-            let g = headersPut b v q in
-            let filled = headers-put hd (headers-fit 1 start hd ls (position-long b) (t .short) o (t .room) q (t .front)) in
-            let headed : Headed hd (begun (sizesOf hd ls)) (g .walk) q (g .buffer) =
-            subst (λ (c : Walk). Headed hd (begun (sizesOf hd ls)) (putHeaders hd c q .walk) q (putHeaders hd c q .buffer)) (sym (t .walk)) filled in
-            let row = y ∙ ap (λ (c : List ℕ). put (g .buffer) (g .walk .lines) (fitting c (drop (g .walk .lines) (g .buffer)))) table-is in
-            let entered = d ∙ ap₂ (λ (c : List Noted) (u : Walk). putEntries c u o₁ .buffer) (sym entries-are) (begun-walk x) in
-            let long : lengthOf (sizesOf hd ls) ≡ length block = ap lengthOf (sym sized) ∙ block-long in
-            let last = block-by-rows 1 start hd ls (position-long b) (t .short) o (t .room) q (t .front) (g .walk) (g .buffer) headed row entered in
-            let fits = unrefused (length block) o done (omega (arith, long, t .short)) (omega (arith, long, t .room)) in (
-              ap (λ (c : ℕ). Done c second) (begun-total x ∙ t .total ∙ long) ∙ ap (λ (c : Outcome). c .answer) (sym fits),
-              last ∙ ap₂ _++_ block-is (ap (λ (c : ℕ). drop c o) long) ∙ ap (λ (c : Outcome). c .buffer) (sym fits),
-            )
+      ready : Ready
+      unfolding beginning beginningOf
+      ready = go (opening z (length o)) refl e f
+        where
+          go : (r : Opening) → opening z (length o) ≡ r → Begun w n ≡ onOpening r (λ v m. Begun (headersPut b v (opened 1 z start o) .walk) m) (λ c. Refused c)
+              → o₁ ≡ onOpening r (λ v m. headersPut b v (opened 1 z start o) .buffer) (λ c. opened 1 z start o) → Ready
+          go (Refused c) k x y = not-begun x
+          go (Begun v m) k x y =
+              let q = opened 1 z start o in
+              let t = subst (λ (c : Sizes). Opens 1 c start v m o q) sized (opens 1 z start o (sym k) refl) in
+              let filled = headers-put hd (headers-fit 1 start hd ls (position-long b) (t .short) o (t .room) q (t .front)) in
+              let walk : w ≡ putHeaders hd (begun (sizesOf hd ls)) q .walk = begun-walk x ∙ ap (λ (c : Walk). putHeaders hd c q .walk) (t .walk) in
+              let buffer : o₁ ≡ putHeaders hd (begun (sizesOf hd ls)) q .buffer = y ∙ ap (λ (c : Walk). putHeaders hd c q .buffer) (t .walk) in
+              let headed₁ : Headed hd (begun (sizesOf hd ls)) w q o₁ =
+              subst (λ (c : Walk). Headed hd (begun (sizesOf hd ls)) c q o₁) (sym walk) (subst (λ (c : List ℕ). Headed hd (begun (sizesOf hd ls)) (putHeaders hd (begun (sizesOf hd ls)) q .walk) q c) (sym buffer) filled) in
+              record {
+                opened-so = record { walk = refl; total = begun-total x ∙ t .total; short = t .short; room = t .room; front = refl };
+                headed = subst (λ (c : List ℕ). Headed hd (begun (sizesOf hd ls)) w c o₁) (t .front) headed₁;
+              }
+
+      lines-room : LinesFit ls w o₁
+      lines-room =
+          let t = ready .opened-so in
+          lines-fit 1 start hd ls (position-long b) (t .short) o (t .room) (frontPut 1 (sizesOf hd ls) start o) refl w o₁ (ready .headed)
+
+      -- the rows of its lines begin in the buffer
+      pub rows-begin : w .lines ≤ length o₁
+      rows-begin = omega (arith, room-at (length o₁) (lineEnds w) (lineTexts 0 0 (w .bytes) ls) 0 (lines-room .room) (omega arith))
+
+      -- and its lines filled in
+      pub begun-stored : Lines (linesAfter b p q vs) → {o₂ : List ℕ} → o₂ ≡ putPlays (w .lines) (linesAfter b p q vs) w o₁ .buffer
+          → (Done n second ≡ editStored block second o .answer) × (o₂ ≡ editStored block second o .buffer)
+      unfolding editStored
+      begun-stored still d =
+          let t = ready .opened-so in
+          let done : Outcome = record { answer = Done (length block) second; buffer = atFront block o } in
+          let long : lengthOf (sizesOf hd ls) ≡ length block = ap lengthOf (sym sized) ∙ block-long in
+          let last =
+          block-filled 1 start hd ls (position-long b) (t .short) o (t .room) (frontPut 1 (sizesOf hd ls) start o) refl w o₁ (ready .headed)
+          (d ∙ lines-put (linesAfter b p q vs) w o₁ lines-room still) in
+          let fits = unrefused (length block) o done (omega (arith, long, t .short)) (omega (arith, long, t .room)) in (
+            ap (λ (c : ℕ). Done c second) (t .total ∙ long) ∙ ap (λ (c : Outcome). c .answer) (sym fits),
+            last ∙ ap₂ _++_ block-is (ap (λ (c : ℕ). drop c o) long) ∙ ap (λ (c : Outcome). c .buffer) (sym fits),
+          )
 
 -- it keeps the buffer's length
 pub stored-size : (block : List ℕ) (second : ℕ) (o : List ℕ) → length (editStored block second o .buffer) ≡ length o
@@ -191,39 +215,39 @@ stored-size block second o =
     (λ _. by-pick (λ (r : Outcome). length (r .buffer) ≡ length o) (ltb (length o) (length block)) _ _ (λ _. refl)
     (λ e. length-append block (drop (length block) o) ∙ omega (arith, length-drop (length block) o, ltb-false (length o) (length block) e)))
 
--- ---- the entries, put run by run
+-- ---- the lines, put run by run
 
 -- those before line p, and those from line q on
-module _ (b : List ℕ) (p q : ℕ) (w : Walk) (o : List ℕ) {before after moves : ℕ} (e : before ≡ entriesBefore b p) (f : after ≡ entriesBefore b q) (g : moves ≡ movesIn b)
-    {v : Walk} {o₁ : List ℕ} (a : v ≡ putEntries (run (notedIn b) 0 before) w o .walk) (c : o₁ ≡ putEntries (run (notedIn b) 0 before) w o .buffer) where
-  abbrev front : List Noted
-  front = run (notedIn b) 0 (entriesBefore b p)
+module _ (b : List ℕ) (p q : ℕ) (below : p ≤ q) (within : q ≤ linesIn b) (rows : ℕ) (w : Walk) (o : List ℕ) {v : Walk} {o₁ : List ℕ}
+    (a : v ≡ putPlays rows (run (playIn b) 0 p) w o .walk) (c : o₁ ≡ putPlays rows (run (playIn b) 0 p) w o .buffer) where
+  abbrev ps : List Play
+  ps = playsIn (decode b .lines)
 
-  abbrev back : List Noted
-  back = run (notedIn b) (entriesBefore b q) (movesIn b - entriesBefore b q)
+  front-is : run (playIn b) 0 p ≡ take p ps
+  front-is = sym (ap (take p) (plays-are b) ∙ take-run (playIn b) p (linesIn b) (omega arith))
 
-  back-is : run (notedIn b) after (moves - after) ≡ back
-  back-is = ap₂ (λ (i j : ℕ). run (notedIn b) i (j - i)) f g
+  back-is : {n : ℕ} → n ≡ linesIn b → run (playIn b) q (n - q) ≡ drop q ps
+  back-is e = ap (λ (i : ℕ). run (playIn b) q (i - q)) e ∙ sym (ap (drop q) (plays-are b) ∙ drop-run (playIn b) q (linesIn b) within)
 
-  walk-is : v ≡ putEntries front w o .walk
-  walk-is = a ∙ ap (λ (i : ℕ). putEntries (run (notedIn b) 0 i) w o .walk) e
+  walk-is : v ≡ putPlays rows (take p ps) w o .walk
+  walk-is = a ∙ ap (λ (l : List Play). putPlays rows l w o .walk) front-is
 
-  buffer-is : o₁ ≡ putEntries front w o .buffer
-  buffer-is = c ∙ ap (λ (i : ℕ). putEntries (run (notedIn b) 0 i) w o .buffer) e
+  buffer-is : o₁ ≡ putPlays rows (take p ps) w o .buffer
+  buffer-is = c ∙ ap (λ (l : List Play). putPlays rows l w o .buffer) front-is
 
-  -- with new ones between them
-  pub put-between : {es own : List Noted} {u : Walk} {o₂ o₃ : List ℕ} → es ≡ own → u ≡ putEntries es v o₁ .walk → o₂ ≡ putEntries es v o₁ .buffer
-      → o₃ ≡ putEntries (run (notedIn b) after (moves - after)) u o₂ .buffer → o₃ ≡ putEntries (entriesAfter b p q own) w o .buffer
-  put-between {es} {own} {u} {o₂} {o₃} k x y t =
-      let x₁ = x ∙ ap₂ (λ (c : Walk) (l : List ℕ). putEntries es c l .walk) walk-is buffer-is ∙ ap (λ (l : List Noted). putEntries l (putEntries front w o .walk) (putEntries front w o .buffer) .walk) k in
-      let y₁ = y ∙ ap₂ (λ (c : Walk) (l : List ℕ). putEntries es c l .buffer) walk-is buffer-is ∙ ap (λ (l : List Noted). putEntries l (putEntries front w o .walk) (putEntries front w o .buffer) .buffer) k in
-      t ∙ ap (λ (l : List Noted). putEntries l u o₂ .buffer) back-is ∙ ap₂ (λ (c : Walk) (l : List ℕ). putEntries back c l .buffer) x₁ y₁
-      ∙ ap (λ (r : Grown). r .buffer) (sym (all-then putNoted own back (putEntries front w o .walk) (putEntries front w o .buffer)))
-      ∙ ap (λ (r : Grown). r .buffer) (sym (all-then putNoted front (own ++ back) w o))
+  -- with a line between them
+  pub put-between : (x : Play) {u : Walk} {o₂ o₃ : List ℕ} {n : ℕ} → u ≡ putPlay rows x v o₁ .walk → o₂ ≡ putPlay rows x v o₁ .buffer → n ≡ linesIn b
+      → o₃ ≡ putPlays rows (run (playIn b) q (n - q)) u o₂ .buffer → o₃ ≡ putPlays rows (linesAfter b p q (x ∷ [])) w o .buffer
+  unfolding putAll
+  put-between x {u} {o₂} {o₃} {n} e f k t =
+      t ∙ ap (λ (l : List Play). putPlays rows l u o₂ .buffer) (back-is k)
+      ∙ ap₂ (λ (d : Walk) (l : List ℕ). putPlays rows (drop q ps) d l .buffer) e f
+      ∙ ap₂ (λ (d : Walk) (l : List ℕ). putPlays rows (x ∷ drop q ps) d l .buffer) walk-is buffer-is
+      ∙ ap (λ (r : Grown). r .buffer) (sym (all-then (putPlay rows) (take p ps) (x ∷ drop q ps) w o))
 
   -- with none
-  pub put-next : {o₂ : List ℕ} → o₂ ≡ putEntries (run (notedIn b) after (moves - after)) v o₁ .buffer → o₂ ≡ putEntries (entriesAfter b p q (playEntries [])) w o .buffer
-  unfolding concat
-  put-next t =
-      t ∙ ap (λ (l : List Noted). putEntries l v o₁ .buffer) back-is ∙ ap₂ (λ (c : Walk) (l : List ℕ). putEntries back c l .buffer) walk-is buffer-is
-      ∙ ap (λ (r : Grown). r .buffer) (sym (all-then putNoted front back w o))
+  pub put-next : {o₂ : List ℕ} {n : ℕ} → n ≡ linesIn b → o₂ ≡ putPlays rows (run (playIn b) q (n - q)) v o₁ .buffer → o₂ ≡ putPlays rows (linesAfter b p q []) w o .buffer
+  put-next {n = n} k t =
+      t ∙ ap (λ (l : List Play). putPlays rows l v o₁ .buffer) (back-is k)
+      ∙ ap₂ (λ (d : Walk) (l : List ℕ). putPlays rows (drop q ps) d l .buffer) walk-is buffer-is
+      ∙ ap (λ (r : Grown). r .buffer) (sym (all-then (putPlay rows) (take p ps) (drop q ps) w o))

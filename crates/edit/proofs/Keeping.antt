@@ -3,40 +3,20 @@
 --     still-lines         so another put-in or a cut may follow
 --     kept-after-put      each old line has its entries, its start and its parent
 --     new-parent          the new line's parent is line k
---     no-parent-changes   so put-in never refuses for a parent
 -- Assumes nothing.
-use Prim.Native.Nat.{ℕ, suc, _+_, _-_, _≤_, _<_}
+use Prim.Native.Nat.{ℕ, _+_, _-_, _≤_, _<_}
 use native.Mathlib.Omega.{arith}
 use native.Mathlib.Decide.{decLt}
-use mathlib.Core.Path.{_≡_, refl, sym, ap, _∙_, subst}
-use mathlib.Core.List.{List, [], _∷_}
-use mathlib.Core.Bool.{Bool}
+use mathlib.Core.Path.{_≡_, sym, ap, _∙_, subst}
+use mathlib.Core.List.{List}
 use lib.ListN.{length, getD}
-use borrow.Author.Tests.{eq-eqb}
-use Rattle.lists.specs.Pick.{pick}
-use Rattle.jkf.specs.Attaching.{near, all, Play, starts, counts, parentIn, attach, allHung}
+use Rattle.jkf.specs.Attaching.{near, all, Play, starts, counts, parentIn, allHung}
 use Rattle.jkf.proofs.Nears.{near-before, Hangs}
-use Rattle.jkf.specs.Model.{Line}
-use Rattle.block.specs.Formed.{lineOf}
-use Rattle.block.proofs.Attached.{attach-length, attach-line, parent-first, parent-later}
-use Rattle.edit.specs.Edit.{placeOf, putIn, renumbered, none, line, changedFrom}
+use Rattle.block.proofs.Attached.{parent-first, parent-later}
+use Rattle.edit.specs.Edit.{placeOf, putIn, renumbered}
 use Rattle.edit.specs.inner.Splicing.{Lines}
 use Rattle.edit.proofs.Nearing.{put-kept, renumbered-low, renumbered-high, hangs-there, hang-moved, hung-all}
 use Rattle.edit.proofs.Placing.{each-hangs, parent-near, PutsIn, put-length, put-list, ply-low, ply-within, place-past, place-within, put-starts, put-counts, new-hangs, before-same, after-same}
-
--- lines of which none has another parent
-unchanged : (ps : List Play) (n : ℕ) (ls : List Line) (i : ℕ)
-    → ((q : ℕ) → q < length ls → parentIn ps (renumbered n (i + q)) ≡ renumbered n (lineOf ls q .parent)) → changedFrom ps n i ls ≡ none
-unfolding changedFrom
-unchanged ps n [] i h = refl
-unchanged ps n (l ∷ ls) i h =
-    ap (λ (t : Bool). pick t (changedFrom ps n (i + 1) ls) (line i)) (eq-eqb _ _ here) ∙ unchanged ps n ls (i + 1) rest
-  where
-    here : parentIn ps (renumbered n i) ≡ renumbered n (l .parent)
-    here = let z : i ≡ i + 0 = omega arith in ap (λ (q : ℕ). parentIn ps (renumbered n q)) z ∙ h 0 (omega arith)
-
-    rest : (q : ℕ) → q < length ls → parentIn ps (renumbered n (i + 1 + q)) ≡ renumbered n (lineOf ls q .parent)
-    rest q b = let y : i + 1 + q ≡ i + suc q = omega arith in ap (λ (r : ℕ). parentIn ps (renumbered n r)) y ∙ h (suc q) (omega arith)
 
 module _ (ps : List Play) (k : ℕ) (v : Play) where
   abbrev n : ℕ
@@ -132,12 +112,3 @@ module _ (ps : List Play) (k : ℕ) (v : Play) where
 
     pub new-parent : parentIn ps′ n ≡ k
     new-parent = parent-later ps′ n new-line-hangs ∙ near-new
-
-    pub no-parent-changes : changedFrom ps′ n 0 (attach ps) ≡ none
-    no-parent-changes = unchanged ps′ n (attach ps) 0 each
-      where
-        each : (q : ℕ) → q < length (attach ps) → parentIn ps′ (renumbered n (0 + q)) ≡ renumbered n (lineOf (attach ps) q .parent)
-        each q h =
-            let l : q < length ps = omega (arith, attach-length ps) in
-            let z : 0 + q ≡ q = omega arith in
-            ap (λ (r : ℕ). parentIn ps′ (renumbered n r)) z ∙ parent-renumbered q l ∙ sym (ap (λ (x : Line). renumbered n (x .parent)) (attach-line ps q l))

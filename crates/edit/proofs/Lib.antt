@@ -9,10 +9,9 @@ pub mod Undoing
 pub mod Cutting
 pub mod Texts
 pub mod Sounds
-pub mod Rowing
+pub mod Hung
 pub mod Measured
-pub mod Assembled
-pub mod Changing
 pub mod Afresh
+pub mod Assembled
 pub mod Parents
 pub mod Outcomes

@@ -5,20 +5,18 @@ use mathlib.Core.Path.{_≡_, ap, _∙_}
 use mathlib.Core.List.{List}
 use mathlib.Core.Bool.{Bool, true, false}
 use lib.ListN.{length, drop}
-use lib.Dec.{ltb}
 use borrow.Author.Tests.{eq-eqb, ne-eqb, lt-ltb, le-ltb}
-use Rattle.lists.specs.Pick.{pick}
 use Rattle.jkf.specs.Answers.{refuse}
-use Rattle.jkf.specs.declared.Answer.the-variants.{NoSuchPart, NotOneVariation, OutsideLine, EntryTaken, ParentChanges, NotSound}
+use Rattle.jkf.specs.declared.Answer.the-variants.{NoSuchPart, NotOneVariation, OutsideLine, EntryTaken, NotSound}
 use Rattle.jkf.specs.Model.{Record}
 use Rattle.jkf.specs.Attaching.{Play, starts, counts}
 use Rattle.block.specs.Encode.{encode}
 use Rattle.block.specs.Decode.{linesIn, lineIn, decode}
 use Rattle.block.specs.Sound.{soundb}
 use Rattle.block.proofs.Tabling.{length-run}
-use Rattle.edit.proofs.Parents.{cut-fresh, insert-play}
-use Rattle.edit.specs.Edit.{playsIn, Edited, isVariation, variationOf, isPlyOf, carries, placeOf, putIn, none, line, changedFrom, insertAt, insertOn, insert, removedFrom, remove}
-use Rattle.edit.specs.inner.Splicing.{relined, insertPlay, without}
+use Rattle.edit.proofs.Parents.{cut-fresh, put-fresh}
+use Rattle.edit.specs.Edit.{playsIn, isVariation, variationOf, isPlyOf, carries, placeOf, putIn, insertAt, insertOn, insert, removedFrom, remove}
+use Rattle.edit.specs.inner.Splicing.{relined, without}
 use Rattle.edit.specs.Outcomes.{editStored, editedOf, putInOf, cutOf}
 
 -- a block says as many lines as it counts
@@ -29,16 +27,6 @@ lines-counted b = length-run (lineIn b) 0 (linesIn b)
 -- ---- put-in
 
 module _ (r : Record) (o : List ℕ) where
-  -- as line n
-  module _ (n : ℕ) (v : Play) {c m : ℕ} (e : changedFrom (putIn n v (playsIn (r .lines))) n 0 (r .lines) ≡ pick (ltb c m) (line c) none) where
-    pub parent-changes : c < m → editedOf (insertPlay r n v) o ≡ refuse (ParentChanges c) o
-    unfolding editedOf insertPlay
-    parent-changes h = rw (e, lt-ltb c m h)
-
-    pub none-changes : m ≤ c → editedOf (insertPlay r n v) o ≡ editStored (encode (relined r (putIn n v (playsIn (r .lines))))) n o
-    unfolding editedOf insertPlay
-    none-changes h = rw (e, le-ltb c m h)
-
   -- on line k
   module _ (k : ℕ) (v : Play) {j : ℕ} (s : j ≡ v .start) where
     abbrev here : Bool
@@ -59,8 +47,10 @@ module _ (r : Record) (o : List ℕ) where
     unfolding insertOn
     at-place h d z = rw (← s, h, d, ← z)
 
-    pub in-place : here ≡ true → taken ≡ false → {n : ℕ} → n ≡ placeOf (playsIn (r .lines)) k j → editedOf (insertOn r k v) o ≡ editedOf (insertPlay r n v) o
-    in-place h d {n} z = at-place h d z ∙ ap (λ (e : Edited). editedOf e o) (insert-play r n k v)
+    pub in-place : here ≡ true → taken ≡ false → {n : ℕ} → n ≡ placeOf (playsIn (r .lines)) k j
+        → editedOf (insertOn r k v) o ≡ editStored (encode (relined r (putIn n v (playsIn (r .lines))))) n o
+    unfolding editedOf insertAt
+    in-place h d {n} z = at-place h d z ∙ ap (λ (x : Record). editStored (encode x) n o) (put-fresh r n k v)
 
 module _ (b : List ℕ) (k : ℕ) (o : List ℕ) where
   module _ (t : List ℕ) where

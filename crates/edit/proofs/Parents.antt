@@ -7,9 +7,8 @@ use mathlib.Core.List.{List, [], _∷_, _++_, map}
 use lib.ListN.{take, drop}
 use Rattle.jkf.specs.Model.{Line, Record}
 use Rattle.jkf.specs.Attaching.{Play, play}
-use Rattle.jkf.specs.declared.Answer.the-variants.{ParentChanges}
-use Rattle.edit.specs.Edit.{playsIn, fresh, reparented, putIn, renumbered, lowered, putLine, lineOn, edited, refused, changedFrom, onChanged, insertAt, withoutLines}
-use Rattle.edit.specs.inner.Splicing.{relined, without, insertPlay}
+use Rattle.edit.specs.Edit.{playsIn, fresh, reparented, putIn, renumbered, lowered, putLine, lineOn, withoutLines}
+use Rattle.edit.specs.inner.Splicing.{relined, without}
 
 plays-append : (ls ms : List Line) → playsIn (ls ++ ms) ≡ playsIn ls ++ playsIn ms
 plays-append [] ms = refl
@@ -50,9 +49,3 @@ module _ (r : Record) where
 
   pub cut-fresh : (k m : ℕ) → fresh r (withoutLines k m (r .lines)) ≡ relined r (without k m (playsIn (r .lines)))
   cut-fresh k m = fresh-is (withoutLines k m (r .lines)) ∙ ap (relined r) (plays-cut k m (r .lines))
-
-  -- whichever line it is put on
-  pub insert-play : (n k : ℕ) (v : Play) → insertAt r n k v ≡ insertPlay r n v
-  unfolding insertAt insertPlay
-  insert-play n k v =
-      ap (λ (x : Record). onChanged (changedFrom (putIn n v (playsIn (r .lines))) n 0 (r .lines)) (λ i. refused (ParentChanges i)) (edited x n)) (put-fresh n k v)

@@ -1,9 +1,7 @@
--- The lines of a sound block: where their entries stand, that they all hang, and that numbers of 16 bits do for them, also with a variation
--- put in or a run of them cut out.
+-- The lines of a sound block: where their entries stand, and that they all hang.
 --     entries-after                     all entries with some lines replaced
 --     lines-hang, lines-afresh          its lines all hang, and hung afresh they are the same
 --     parent-is                         with the parents that they have
---     starts-small, put-fits, cut-fits  numbers of 16 bits, and rows of 18688 bytes
 --     puts-in                           what a put-in asks
 -- Assumes nothing.
 use Prim.Native.Nat.{ℕ, zero, suc, _+_, _-_, _≤_, _<_}
@@ -14,7 +12,7 @@ use mathlib.Core.Path.{_≡_, refl, sym, ap, ap₂, _∙_, subst}
 use mathlib.Core.List.{List, [], _∷_, _++_}
 use mathlib.Core.Bool.{true, false}
 use lib.ListN.{length, take, drop}
-use Rattle.jkf.specs.Attaching.{near, Play, play, playOf, starts, counts, parentIn, attachFrom, attach, allHung}
+use Rattle.jkf.specs.Attaching.{near, Play, starts, counts, parentIn, attachFrom, attach, allHung}
 use Rattle.jkf.proofs.Nears.{near-before, near-same, Hangs}
 use Rattle.jkf.specs.Model.{Noted, Line}
 use Rattle.block.specs.Encode.{concat, entriesOf}
@@ -22,19 +20,16 @@ use Rattle.block.specs.Decode.{run, linesIn, movesIn, startOf, firstEntry, entr
 use Rattle.block.specs.inner.Sounds.{Sound}
 use Rattle.block.specs.Sound.{sum, entriesBefore}
 use Rattle.block.specs.Formed.{lineOf}
-use Rattle.block.proofs.Sums.{sum-more, sum-rises, sum-within, sum-some}
+use Rattle.block.proofs.Sums.{sum-more, sum-rises, sum-within}
 use Rattle.block.proofs.Hanging.{hang-first, hang-says}
 use Rattle.block.proofs.Tabling.{run-add, run-all, concat-append, take-run, drop-run}
-use Rattle.plays.specs.Plays.{plyAt}
 use Rattle.plays.specs.inner.Entries.{playEntries}
-use Rattle.block.proofs.Attached.{start-low, attach-length, attach-entries, attach-line, parent-first, parent-later}
-use Rattle.edit.specs.Edit.{playsIn, isVariation, variationOf, isPlyOf, carries, putIn, removedFrom}
-use Rattle.edit.specs.inner.Splicing.{without, linesAfter, Lines, playIn, RowsFit, entriesAfter}
+use Rattle.block.proofs.Attached.{attach-length, attach-entries, attach-line, parent-first, parent-later}
+use Rattle.edit.specs.Edit.{playsIn, isPlyOf, carries}
+use Rattle.edit.specs.inner.Splicing.{linesAfter, Lines, playIn, entriesAfter}
 use Rattle.edit.proofs.Played.{plays-are, play-is, starts-is, counts-is, plays-long}
-use Rattle.edit.proofs.Nearing.{Put, Cut, hang-moved, hung-all}
-use Rattle.edit.proofs.Placing.{PutsIn, put-length, put-list, ply-within}
-use Rattle.edit.proofs.Cutting.{CutsOut, cut-length, cut-list, run-within, lines-after-cut}
-use Rattle.edit.proofs.Texts.{text-small, variation-says}
+use Rattle.edit.proofs.Nearing.{hang-moved, hung-all}
+use Rattle.edit.proofs.Placing.{PutsIn}
 
 -- without the parents that they were given, lines are what they were
 module _ (ps : List Play) where
@@ -46,42 +41,6 @@ module _ (ps : List Play) where
   pub plays-back : playsIn (attach ps) ≡ ps
   unfolding attach
   plays-back = back-from 0 ps
-
--- ---- what holds of each line
-
-module _ {A : Type 0} (P : A → Type 0) {f f′ : ℕ → A} where
-  -- holds with one more
-  put-each : {n : ℕ} {v : A} → Put f f′ n v → (all : ℕ) → P v → ((i : ℕ) → i < all → P (f i)) → n ≤ all → (i : ℕ) → i < all + 1 → P (f′ i)
-  put-each {n = n} r all new old fits i h = go (decLt i n) (decLt n i)
-    where
-      go : Dec (i < n) → Dec (n < i) → P (f′ i)
-      go (yes a) d = subst P (sym (r .before i a)) (old i (omega arith))
-      go (no a) (yes d) =
-          let e : i - 1 + 1 ≡ i = omega arith in
-          subst P (sym (r .after (i - 1) (omega arith)) ∙ ap f′ e) (old (i - 1) (omega arith))
-      go (no a) (no d) = let e : n ≡ i = omega arith in subst P (sym (r .new) ∙ ap f′ e) new
-
-  -- and without a run of them
-  cut-each : {k m : ℕ} → Cut f f′ k m → (all : ℕ) → ((i : ℕ) → i < all → P (f i)) → k + m ≤ all → (i : ℕ) → i < all - m → P (f′ i)
-  cut-each {k = k} {m = m} r all old fits i h = go (decLt i k)
-    where
-      go : Dec (i < k) → P (f′ i)
-      go (yes a) = subst P (sym (r .before i a)) (old i (omega arith))
-      go (no a) = subst P (sym (r .after i (omega arith))) (old (i + m) (omega arith))
-
--- numbers of 16 bits do for a line
-abbrev Small : Play → Type 0
-Small p = (p .start < 65536) × (length (p .entries) < 65536)
-
-rows-fit : (qs : List Play) → Lines qs → length qs ≤ 2336 → ((k : ℕ) → k < length qs → Small (playOf qs k)) → RowsFit qs 18688
-rows-fit qs w l small =
-    record {
-      lines = w;
-      room = omega arith;
-      few = omega arith;
-      begins = λ k h. small k h .0;
-      sizes = λ k h. small k h .1;
-    }
 
 module _ (b : List ℕ) (s : Sound b) where
   abbrev ps : List Play
@@ -97,6 +56,9 @@ module _ (b : List ℕ) (s : Sound b) where
 
   before-rises : (p q : ℕ) → p ≤ q → entriesBefore b p ≤ entriesBefore b q
   before-rises p q h = sum-rises (λ k. entryCount b k) p q h
+
+  pub entries-within : (k : ℕ) → k < linesIn b → firstEntry b k + entryCount b k ≤ movesIn b
+  entries-within k h = omega (arith, first-is k h, sum-within (λ k. entryCount b k) k (linesIn b) h, before-all)
 
   -- ---- all entries
 
@@ -142,13 +104,6 @@ module _ (b : List ℕ) (s : Sound b) where
       ∙ concat-append (λ (x : Play). x .entries) (take p ps) (vs ++ drop q ps)
       ∙ ap₂ _++_ (entries-front p (omega arith))
       (concat-append (λ (x : Play). x .entries) vs (drop q ps) ∙ ap (λ (es : List Noted). playEntries vs ++ es) (entries-back q l))
-
-  -- ---- how many lines there are
-
-  -- each has an entry
-  pub lines-few : linesIn b ≤ 2335
-  lines-few =
-      omega (arith, sum-some (λ k. entryCount b k) (linesIn b) (λ k h. s .lines k h .1 .0), before-all, s .totals .1 .1 .1, s .head .1 .0)
 
   -- ---- all lines hang
 
@@ -197,66 +152,14 @@ module _ (b : List ℕ) (s : Sound b) where
       line : (i : ℕ) → i < linesIn b → lineIn b i ≡ lineOf (attach ps) i
       line i h = ap₂ with (sym (play-is b i h)) (parent-is i h) ∙ sym (attach-line ps i (omega (arith, plays-long b)))
 
-  -- ---- numbers of 16 bits do for them
-
-  pub starts-small : (k : ℕ) → k < linesIn b → starts ps k + counts ps k ≤ 65535
-  starts-small k h =
-      omega (
-        arith,
-        start-low (startOf b) (entryCount b) (main-line .0) (linesIn b - 1) (λ j z l. row-hung j z (omega arith) .1) k (omega arith),
-        sum-within (λ k. entryCount b k) k (linesIn b) h,
-        starts-is b k h,
-        counts-is b k h,
-        before-all,
-        s .totals .1 .1 .1,
-        s .head .1 .0,
-      )
-
-  each-small : (k : ℕ) → k < linesIn b → Small (playOf ps k)
-  each-small k h = let l = starts-small k h in (omega arith, omega arith)
-
-  -- with a variation put in
-  pub put-fits : (n : ℕ) → n ≤ linesIn b → (t : List ℕ) → isVariation t ≡ true → plyAt t 0 < 65536 → Lines (putIn n (variationOf t) ps)
-      → RowsFit (linesAfter b n n (variationOf t ∷ [])) 18688
-  put-fits n h t v j w = rows-fit (putIn n (variationOf t) ps) w (omega (arith, long, lines-few)) (each (variation-says t v .0))
-    where
-      fits : n ≤ length ps
-      fits = omega (arith, plays-long b)
-
-      long : length (putIn n (variationOf t) ps) ≡ linesIn b + 1
-      long = omega (arith, put-length ps n (variationOf t) fits, plays-long b)
-
-      each : length t ≤ 65535 → (k : ℕ) → k < length (putIn n (variationOf t) ps) → Small (playOf (putIn n (variationOf t) ps) k)
-      each short k l =
-          let (few, _, _) = text-small t short in
-          put-each Small (put-list ps n (variationOf t) fits (play 0 [])) (linesIn b) (j, omega arith) each-small h k (omega (arith, long))
-
-  -- with what hangs from line k cut out
-  pub cut-fits : (k : ℕ) → 0 < k → k < linesIn b → RowsFit (linesAfter b k (k + removedFrom ps k) []) 18688
-  cut-fits k z h = rows-fit (without k (removedFrom ps k) ps) (lines-after-cut ps k ok) (omega (arith, long, plays-long b, lines-few)) each
-    where
-      ok : CutsOut ps k
-      ok = record { lines = lines-hang; later = z; line = omega (arith, plays-long b) }
-
-      long : length (without k (removedFrom ps k) ps) ≡ length ps - removedFrom ps k
-      long = cut-length ps k (removedFrom ps k) (run-within ps k ok)
-
-      each : (i : ℕ) → i < length (without k (removedFrom ps k) ps) → Small (playOf (without k (removedFrom ps k) ps) i)
-      each i l =
-          cut-each Small (cut-list ps k (removedFrom ps k) (run-within ps k ok) (play 0 [])) (length ps)
-          (λ q m. each-small q (omega (arith, plays-long b))) (run-within ps k ok) i (omega (arith, long))
-
   -- ---- what put-in asks
 
   pub puts-in : (k j : ℕ) → k < linesIn b → isPlyOf (starts ps k) (counts ps k) j ≡ true → carries k j (drop 1 (decode b .lines)) ≡ false
-      → PutsIn ps k j × (j < 65536)
-  puts-in k j h ply free = (ok, omega (arith, ply-within ps k j ok, starts-small k h))
-    where
-      ok : PutsIn ps k j
-      ok =
-          record {
-            lines = lines-hang;
-            line = omega (arith, plays-long b);
-            ply = ply;
-            free = subst (λ (ls : List Line). carries k j (drop 1 ls) ≡ false) lines-afresh free;
-          }
+      → PutsIn ps k j
+  puts-in k j h ply free =
+      record {
+        lines = lines-hang;
+        line = omega (arith, plays-long b);
+        ply = ply;
+        free = subst (λ (ls : List Line). carries k j (drop 1 ls) ≡ false) lines-afresh free;
+      }

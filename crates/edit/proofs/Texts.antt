@@ -18,7 +18,6 @@ use Rattle.plays.specs.inner.Entries.{playEntries}
 use Rattle.plays.proofs.Items.{entries-within}
 use Rattle.plays.proofs.Weights.{entries-short}
 use Rattle.edit.specs.Edit.{isVariation, variationOf}
-use Rattle.edit.specs.inner.Splicing.{Adds}
 
 -- what is read takes at least as many bytes as it counts
 pub text-small : (t : List ℕ) → length t ≤ 65535
@@ -45,9 +44,6 @@ module _ (t : List ℕ) where
       let (b, r′) = pick-none (eqb (length es) 0) end r in
       let (_, w) = pick-both (eqb (entriesAt t 0 .at) (length t)) (eqb (wellFormedBytes t) (length t)) r′ in
       (ltb-false _ _ a, eqb-false _ _ b, eqb-true _ _ w)
-
-  pub adds-text : Adds (variationOf t ∷ []) 0 (plyAt t 0) (length es)
-  adds-text = record { few = λ h. omega arith; begin = λ h. refl; size = λ h. refl }
 
   -- its entries are those of the text
   pub line-entries : playEntries (variationOf t ∷ []) ≡ es

@@ -8,9 +8,9 @@ use lib.Dec.{eqb, leb, ltb}
 use Rattle.lists.specs.Pick.{pick}
 use Rattle.text.specs.Utf8.{wellFormedBytes}
 use Rattle.jkf.specs.declared.Answer.{Answer}
-use Rattle.jkf.specs.declared.Answer.the-variants.{NoSuchPart, NotOneVariation, OutsideLine, EntryTaken, ParentChanges}
+use Rattle.jkf.specs.declared.Answer.the-variants.{NoSuchPart, NotOneVariation, OutsideLine, EntryTaken}
 use Rattle.jkf.specs.Model.{Line, Record}
-use Rattle.jkf.specs.Attaching.{Play, play, starts, counts, parentIn, attach}
+use Rattle.jkf.specs.Attaching.{Play, play, starts, counts, attach}
 use Rattle.plays.specs.Plays.{entriesAt, plyAt}
 
 -- ---- the lines afresh
@@ -90,30 +90,11 @@ putLine n l ls = let qs = map (reparented (renumbered n)) ls in take n qs ++ (l 
 abbrev pub lineOn : ℕ → Play → Line
 lineOn k v = record { start = v .start; parent = k; entries = v .entries }
 
--- Whether an old line would hang on another, and which.
-pub data Changed : Type 0 where
-  none : Changed
-  line : ℕ → Changed
-
--- The first of the old lines, counted from i on, that would hang on another line.                     (01, Numbers of refusal: 14)
-unfoldable pub changedFrom : List Play → ℕ → ℕ → List Line → Changed
-changedFrom ps n i [] = none
-changedFrom ps n i (l ∷ ls) =
-    let r = changedFrom ps n (i + 1) ls in
-    pick (eqb (parentIn ps (renumbered n i)) (renumbered n (l .parent))) r (line i)
-
-abbrev pub onChanged : {A : Type 0} → Changed → (ℕ → A) → A → A
-onChanged (line i) f d = f i
-onChanged none f d = d
-
 -- ---- put-in: the whole                                                                              (01, Numbers of refusal: order)
 
 -- The variation v on line k, as line n.
 unfoldable pub insertAt : Record → ℕ → ℕ → Play → Edited
-insertAt r n k v =
-    onChanged (changedFrom (putIn n v (playsIn (r .lines))) n 0 (r .lines))
-    (λ i. refused (ParentChanges i))
-    (edited (fresh r (putLine n (lineOn k v) (r .lines))) n)
+insertAt r n k v = edited (fresh r (putLine n (lineOn k v) (r .lines))) n
 
 -- On line k, where its ply is.
 unfoldable pub insertOn : Record → ℕ → Play → Edited

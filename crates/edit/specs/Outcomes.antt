@@ -20,7 +20,7 @@ unfoldable pub editedOf : Edited → List ℕ → Outcome
 editedOf (edited r second) o = editStored (encode r) second o
 editedOf (refused a) o = refuse a o
 
--- Refusal 7, then 10 to 14, then 4 and 5.                                                             (01, Numbers of refusal: order)
+-- Refusal 7, then 10 to 13, then 4 and 5.                                                             (01, Numbers of refusal: order)
 unfoldable pub putInOf : List ℕ → ℕ → List ℕ → List ℕ → Outcome
 putInOf b k t o = let r = editedOf (insert (decode b) k t) o in pick (soundb b) r (refuse NotSound o)
 

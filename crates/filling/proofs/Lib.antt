@@ -1,4 +1,5 @@
 pub mod Texts
 pub mod Growing
+pub mod Lines
 pub mod Putting
 pub mod Wholes

@@ -80,6 +80,19 @@ module _ (z : Sizes) where
   length-is e = rw e
 
   -- a block that is not too long is as long as its sizes say
+  -- a block that is not too long has sizes that can be added up
+  pub short-small : lengthOf z ≤ 65535 → areSmall z ≡ true
+  short-small h = go (areSmall z) refl
+    where
+      go : (t : Bool) → areSmall z ≡ t → areSmall z ≡ true
+      go true e = e
+      go false e = absurd (omega (arith, length-past e, h))
+
+  -- its length is where its texts begin, and these
+  pub begun-length : areSmall z ≡ true → begun z .text + z .bytes ≡ lengthOf z
+  unfolding begun
+  begun-length h = length-is h
+
   pub length-short : lengthOf z ≤ 65535 → lengthOf z ≡ blockLength (z .headers) (z .lines) (z .entries) (z .comments) (z .bytes)
   length-short h = go (areSmall z) refl
     where

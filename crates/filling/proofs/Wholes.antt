@@ -6,10 +6,9 @@ use mathlib.Core.Path.{_≡_, refl, sym, ap, _∙_, subst}
 use mathlib.Core.List.{List, [], _∷_, _++_, append-assoc, append-nil}
 use lib.ListN.{length, drop, length-append}
 use lib.Seq.{drop-append-add, drop-drop}
-use Rattle.lent.specs.Bytes.{fitting}
 use Rattle.lent.specs.Stored.{put}
 use Rattle.lent.specs.inner.Regions.{puts, endsPast, join, Room, SameMany, Filled, all, placesOf}
-use Rattle.lent.proofs.Regions.{same-of, filled-length, length-put, put-more, put-front, stored-all, room-front, room-at, then-fill, then-room, as-texts, whole, whole-room, put-none}
+use Rattle.lent.proofs.Regions.{same-of, filled-length, length-put, put-more, put-front, stored-all, room-front, then-fill, then-room, as-texts, whole, whole-room, put-none}
 use Rattle.block.specs.PositionBytes.{positionBytes}
 use Rattle.jkf.specs.declared.Position.{Position}
 use Rattle.jkf.specs.Model.{Header, Noted, Line}
@@ -17,13 +16,12 @@ use Rattle.block.specs.Encode.{table, blockLength, headerRow, headerStep, heade
 use Rattle.block.proofs.Tabling.{table-length}
 use Rattle.block.proofs.RowPlaces.{header-wide, line-wide, entry-wide, comment-wide}
 use Rattle.block.proofs.Lengths.{head-length}
-use Rattle.filling.specs.Filling.{lengthOf, begun, headFor, frontPut, putEntries}
+use Rattle.filling.specs.Filling.{lengthOf, begun, headFor, frontPut}
 use Rattle.filling.specs.inner.Parts.{sizesOf}
-use Rattle.filling.specs.inner.Parts.{entryTexts, lineTexts, entryEnds, lineEnds, Headed, HeadersFit, EntriesFit, LinesFit}
+use Rattle.filling.specs.inner.Parts.{lineTexts, lineEnds, Headed, HeadersFit, LinesFit}
 use Rattle.filling.specs.declared.Sizes.{Sizes}
 use Rattle.filling.specs.declared.Walk.{Walk}
 use Rattle.filling.proofs.Putting.{length-short}
-use Rattle.filling.proofs.Growing.{entries-put}
 
 module _ (version : ℕ) (p : Position) (hs : List Header) (ls : List Line) where
   abbrev es : List Noted
@@ -202,29 +200,3 @@ module _ (version : ℕ) (p : Position) (hs : List Header) (ls : List Line) wher
                 let f = as-texts texts-are (then-fill room-steps front-filled last) in
                 let e : length (all texts) ≡ n = omega (arith, all-long, size) in
                 whole (omega (arith, e, fits)) f places-are ∙ ap (λ (k : ℕ). all texts ++ drop k o) e ∙ ap (λ (l : List ℕ). l ++ drop n o) block-is
-
-            -- the same, where the rows of the lines are put first and all entries after them
-            module _ {o₃ : List ℕ} (rows : o₃ ≡ put o₂ (r .lines) (fitting (table lineRow lineStep 0 ls) (drop (r .lines) o₂))) where
-              rows-put : o₃ ≡ put o₂ (r .lines) (table lineRow lineStep 0 ls)
-              rows-put =
-                  let k = room-at (length o₂) (lineEnds r) (lineTexts 0 0 (r .bytes) ls) 0 (lines-fit .room) (omega arith) in
-                  stored-all {t = table lineRow lineStep 0 ls} {at = r .lines} k (record { bytes = rows; end = refl }) .bytes
-
-              entries-fit : EntriesFit es r o₃
-              entries-fit =
-                  let f = lines-fit in
-                  let l : length o₃ ≡ length o₂ = ap length rows-put ∙ length-put o₂ (r .lines) (table lineRow lineStep 0 ls) in
-                  record {
-                    entries = omega (arith, f .none, f .entries);
-                    noted = omega (arith, f .unnoted, f .comments);
-                    bytes = omega (arith, f .bytes);
-                    room =
-                        subst (λ (k : ℕ). Room (length o₃) (entryEnds r) (entryTexts k (r .bytes) es)) (sym (f .unnoted))
-                        (subst (λ (k : ℕ). Room k (entryEnds r) (entryTexts 0 (r .bytes) es)) (sym l) (f .room .1));
-                  }
-
-              pub block-by-rows : {o₄ : List ℕ} → o₄ ≡ putEntries es r o₃ .buffer → o₄ ≡ encodeFlat version (positionBytes p) hs ls es cs ++ drop n o
-              block-by-rows q =
-                  block-filled
-                  (q ∙ entries-put es entries-fit .filled .bytes ∙ ap (λ (k : ℕ). puts o₃ (entryEnds r) (entryTexts k (r .bytes) es)) (lines-fit .unnoted)
-                  ∙ ap (λ (u : List ℕ). puts u (entryEnds r) (entryTexts 0 (r .bytes) es)) rows-put)

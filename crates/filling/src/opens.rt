@@ -5,6 +5,7 @@ use crate::Walk;
 use jkf::Answer;
 use jkf::Position;
 ghost use mathlib.Core.Path.{_≡_};
+ghost use mathlib.Core.Bool.{true};
 ghost use Prim.Native.Nat.{_≤_};
 ghost use lib.ListN.{length};
 ghost use lib.Dec.{leb};
@@ -35,19 +36,9 @@ fn are_small(z: Sizes) -> bool
     is_small(z.bytes)
 }
 
-// The length of a block; the largest number where it is past all measure.
-fn length_of(z: Sizes) -> usize
-    ensures { λ r. ⌜ r ≡ lengthOf z ⌝ }
-{
-    if !are_small(z) {
-        return 18446744073709551615;
-    }
-    128 + 8 * z.headers + 8 * z.lines + 20 * z.entries + 4 * z.comments + z.bytes
-}
-
-// Where the parts of a block begin that is not too long.
+// Where the parts of a block begin whose sizes can be added up.
 fn begin(z: Sizes) -> Walk
-    requires { ⌜ lengthOf z ≤ 65535 ⌝ }
+    requires { ⌜ areSmall z ≡ true ⌝ }
     ensures { λ r. ⌜ r ≡ begun z ⌝ }
 {
     let lines = 128 + 8 * z.headers;
@@ -64,6 +55,16 @@ fn begin(z: Sizes) -> Walk
         noted: 0,
         bytes: 0,
     }
+}
+
+// The length of a block; the largest number where it is past all measure.
+fn length_of(z: Sizes) -> usize
+    ensures { λ r. ⌜ r ≡ lengthOf z ⌝ }
+{
+    if !are_small(z) {
+        return 18446744073709551615;
+    }
+    begin(z).text + z.bytes
 }
 
 // The head and the position of a block that is not too long.

@@ -5,7 +5,7 @@ use mathlib.Core.Path.{_≡_, refl, sym, ap, _∙_}
 use mathlib.Core.List.{List, [], _∷_}
 use lib.ListN.{getD}
 use Rattle.jkf.specs.declared.Answer.{Answer}
-use Rattle.jkf.specs.declared.Answer.the-variants.{Done, TextTooLong, NotUtf8, HandLine, BlockTooLong, BufferShort, NoEntry, NotSound, HandCount, CannotWrite, NoSuchPart, NotOneVariation, OutsideLine, EntryTaken, ParentChanges}
+use Rattle.jkf.specs.declared.Answer.the-variants.{Done, TextTooLong, NotUtf8, HandLine, BlockTooLong, BufferShort, NoEntry, NotSound, HandCount, CannotWrite, NoSuchPart, NotOneVariation, OutsideLine, EntryTaken}
 use Rattle.jkf.specs.declared.Figures.{Figures}
 use Rattle.jkf.specs.Answers.{figures, Outcome}
 
@@ -27,7 +27,6 @@ answerOf r =
     ∷ NotOneVariation
     ∷ OutsideLine (r .first) (r .second)
     ∷ EntryTaken (r .first) (r .second)
-    ∷ ParentChanges (r .first)
     ∷ [])
     (r .number)
     NotSound
@@ -48,7 +47,6 @@ back (NoSuchPart x) = refl
 back NotOneVariation = refl
 back (OutsideLine x y) = refl
 back (EntryTaken x y) = refl
-back (ParentChanges x) = refl
 
 pub figures-one : (a b : Answer) → figures a ≡ figures b → a ≡ b
 figures-one a b e = sym (back a) ∙ ap answerOf e ∙ back b

@@ -3,13 +3,14 @@
 use Prim.Native.Nat.{ℕ}
 use mathlib.Core.List.{List}
 use Rattle.jkf.specs.declared.Answer.{Answer}
-use Rattle.jkf.specs.declared.Answer.the-variants.{Done, TextTooLong, NotUtf8, HandLine, BlockTooLong, BufferShort, NoEntry, NotSound, HandCount, CannotWrite, NoSuchPart, NotOneVariation, OutsideLine, EntryTaken, ParentChanges}
+use Rattle.jkf.specs.declared.Answer.the-variants.{Done, TextTooLong, NotUtf8, HandLine, BlockTooLong, BufferShort, NoEntry, NotSound, HandCount, CannotWrite, NoSuchPart, NotOneVariation, OutsideLine, EntryTaken}
 use Rattle.jkf.specs.declared.Figures.{Figures}
 
 abbrev pub figured : ℕ → ℕ → ℕ → Figures
 figured n a b = record { number = n; first = a; second = b }
 
--- Success is 0 with two figures of its own; a refusal has its number in 01's table, and 0 for a figure that it does not have.
+-- Success is 0 with two figures of its own; a refusal has its number in 01's table, and 0 for a figure that it does not have. 14 was the
+-- number of a refusal that is never met, and is not used again.                                      (02, request (ix))
 unfoldable pub figures : Answer → Figures
 figures (Done a b) = figured 0 a b
 figures (TextTooLong length) = figured 1 length 0
@@ -25,7 +26,6 @@ figures (NoSuchPart number) = figured 10 number 0
 figures NotOneVariation = figured 11 0 0
 figures (OutsideLine line ply) = figured 12 line ply
 figures (EntryTaken line ply) = figured 13 line ply
-figures (ParentChanges line) = figured 14 line 0
 
 -- An answer, and the lent buffer after it.
 pub record Outcome : Type 0 where

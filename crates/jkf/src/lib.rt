@@ -26,7 +26,6 @@ pub enum Answer {
     NotOneVariation,
     OutsideLine(u64, u64),
     EntryTaken(u64, u64),
-    ParentChanges(u64),
 }
 
 // 01's number of an answer, 0 for done, and its two figures.
@@ -55,7 +54,6 @@ pub fn figures_of(a: Answer) -> Figures
         Answer::NotOneVariation => figured(11, 0, 0),
         Answer::OutsideLine(x, y) => figured(12, x, y),
         Answer::EntryTaken(x, y) => figured(13, x, y),
-        Answer::ParentChanges(n) => figured(14, n, 0),
     }
 }
 

@@ -70,10 +70,10 @@ fn say_refusal(number: u64, x: u64, y: u64) -> bool {
     if number == 8 {
         return say_hand(x, y);
     }
-    let at = if number < 14 {
+    let at = if number < 13 {
         98 * (number as usize)
     } else {
-        1372
+        1274
     };
     say(
         shown::text_at(
@@ -90,8 +90,7 @@ fn say_refusal(number: u64, x: u64, y: u64) -> bool {
               \x18there is no such line: #                                                                         \
               \x1dthe text is not one variation                                                                    \
               \x29line # has no ply # to put a variation at                                                        \
-              \x29line #, ply # already carries a variation                                                        \
-              \x21the parent of line # would change                                                                ",
+              \x29line #, ply # already carries a variation                                                        ",
             at,
         ),
         x,

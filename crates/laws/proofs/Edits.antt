@@ -6,7 +6,7 @@
 --     cut-takes                what is cut is line k and what hangs from it, and nothing else
 --     put-rest, cut-rest       as many lines as there should be, and headers and position as they were
 --     put-undone               the cut of the line just put in gives the block back
---     no-parent-refused        put-in never refuses for a parent
+--     parents-stay             each old line has its old parent in the list with the new line
 --     no-cut-too-long          cut never refuses for the length of the block
 -- (01, Put-in and cut)
 -- Assumes nothing.
@@ -31,26 +31,26 @@ use Rattle.block.specs.Encode.{encode}
 use Rattle.block.specs.Decode.{decode, linesIn, startOf, entryCount}
 use Rattle.block.specs.inner.Sounds.{Sound}
 use Rattle.block.specs.Formed.{lineOf, Formed}
-use Rattle.block.proofs.Deciding.{sound-answers}
+use Rattle.block.proofs.Deciding.{sound-says, sound-answers}
 use Rattle.plays.specs.Plays.{entriesAt, plyAt}
 use Rattle.block.proofs.Attached.{attach-length, attach-line}
 use Rattle.edit.specs.Edit.{Edited, edited, playsIn, reparented, variationOf, renumbered, removedFrom, lowered, Kept, remove}
 use Rattle.edit.specs.inner.Splicing.{relined, without}
 use Rattle.edit.specs.Outcomes.{editStored, editedOf, putInOf, cutOf}
-use Rattle.edit.proofs.Played.{starts-is, counts-is, plays-long}
+use Rattle.edit.proofs.Played.{starts-is, counts-is, ply-is, plays-long}
 use Rattle.edit.proofs.Placing.{put-length, put-list, ply-low, ply-within, place-past, place-within, put-starts, put-counts, new-hangs}
 use Rattle.edit.proofs.Keeping.{kept-after-put, new-parent}
 use Rattle.edit.proofs.Cutting.{HangsFrom as HangsIn, itself as itselfIn, on as onIn, cut-length, run-within, kept-after-cut, run-is-what-hangs}
-use Rattle.edit.proofs.Sounds.{lines-afresh, plays-back, parent-is}
+use Rattle.edit.proofs.Sounds.{lines-afresh, plays-back, parent-is, puts-in}
 use Rattle.edit.proofs.Parents.{cut-fresh}
 use Rattle.edit.proofs.Undoing.{cut-undoes}
-use Rattle.laws.specs.Blocks.{Bytes, frontOf}
-use Rattle.laws.specs.Edits.{HangsFrom, itself, on, putBlock, cutBlock, PutHolds, NoParentRefused, CutHolds, NoCutTooLong}
+use Rattle.laws.specs.Blocks.{Bytes}
+use Rattle.laws.specs.Edits.{HangsFrom, itself, on, putBlock, cutBlock, PutHolds, newNumber, ParentsStay, CutHolds, NoCutTooLong}
 use Rattle.laws.proofs.Fields.{lines-are, start-is, entry-count-is}
 use Rattle.laws.proofs.Decoded.{formed-fits, decode-encode}
 use Rattle.laws.proofs.Encoded.{encode-decode}
 use Rattle.laws.proofs.Made.{sound-encode}
-use Rattle.laws.proofs.EditsDone.{putPlace, putLines, PutDone, put-done, parent-kept, cutMany, cutLines, CutDone, cut-done, cut-not-long}
+use Rattle.laws.proofs.EditsDone.{putPlace, putLines, PutDone, put-done, cutMany, cutLines, CutDone, cut-done, cut-not-long}
 use Rattle.laws.proofs.Fewer.{same-record}
 
 -- the lines of a block without their parents
@@ -221,9 +221,13 @@ module _ (b t o : List ℕ) (bs : Bytes b) (ts : Bytes t) (k n i : ℕ) (done : 
       ∙ ap (λ (x : Edited). editedOf x o′) taken-back
       ∙ ap (λ (x : List ℕ). editStored x 1 o′) (encode-decode b (puts .sound) bs)
 
-pub no-parent-refused : NoParentRefused
-unfolding figures
-no-parent-refused b t o k i e = omega (arith, ap (λ (x : Answer). figures x .number) e, parent-kept b t o k)
+-- wherever 10, 12 and 13 let a line be put in
+pub parents-stay : ParentsStay
+parents-stay b t k sb h ply free l m =
+    let s = sound-says b sb in
+    let ok = puts-in b s k (plyAt t 0) h (ply-is b k (plyAt t 0) h ∙ ply) free in
+    kept-after-put (playsOf b) k (variationOf t) ok l (play 0 []) (omega (arith, plays-long b)) .1
+    ∙ ap (renumbered (newNumber b t k)) (sym (parent-is b s l m))
 
 -- ---- cut
 

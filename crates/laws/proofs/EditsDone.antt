@@ -1,7 +1,6 @@
 -- What follows from the answer of an edit that is done: the block that was given is sound, what was asked can be done, and the block of the
 -- edited record, which is well formed, stands at the front of the buffer.
 --     put-done, cut-done   so for put-in and cut
---     parent-kept          put-in never refuses for a parent
 --     cut-not-long         cut never for the length of the block
 -- Assumes nothing.
 use Prim.Native.Nat.{ℕ, _+_, _≤_, _<_}
@@ -16,9 +15,9 @@ use borrow.Author.Tests.{eqb-false, ltb-true, ltb-false}
 use Rattle.lists.specs.All.{next}
 use Rattle.lists.proofs.Laws.{by-pick}
 use Rattle.jkf.specs.declared.Answer.{Answer}
-use Rattle.jkf.specs.declared.Answer.the-variants.{Done, BlockTooLong, BufferShort, NotSound, ParentChanges}
+use Rattle.jkf.specs.declared.Answer.the-variants.{Done, BlockTooLong, BufferShort, NotSound}
 use Rattle.jkf.specs.Answers.{figures, Outcome, refuse}
-use Rattle.jkf.specs.Model.{Line, Record}
+use Rattle.jkf.specs.Model.{Record}
 use Rattle.jkf.specs.Attaching.{Play, starts, counts}
 use Rattle.block.specs.Encode.{encode}
 use Rattle.block.specs.Decode.{decode}
@@ -27,15 +26,15 @@ use Rattle.block.specs.Sound.{soundb}
 use Rattle.block.specs.Formed.{Formed}
 use Rattle.block.proofs.Deciding.{sound-says}
 use Rattle.plays.specs.Plays.{plyAt}
-use Rattle.edit.specs.Edit.{fresh, withoutLines, Edited, edited, refused, Changed, none, onChanged, playsIn, isVariation, variationOf, isPlyOf, carries, placeOf, putIn, changedFrom, insertOn, insert, removedFrom, remove}
-use Rattle.edit.specs.inner.Splicing.{relined, insertPlay, without}
+use Rattle.edit.specs.Edit.{fresh, withoutLines, Edited, edited, refused, playsIn, isVariation, variationOf, isPlyOf, carries, placeOf, putIn, insertAt, insertOn, insert, removedFrom, remove}
+use Rattle.edit.specs.inner.Splicing.{relined, without}
 use Rattle.edit.specs.Outcomes.{editStored, editedOf, putInOf, cutOf}
 use Rattle.edit.proofs.Placing.{PutsIn, place-past}
-use Rattle.edit.proofs.Keeping.{still-lines, no-parent-changes}
+use Rattle.edit.proofs.Keeping.{still-lines}
 use Rattle.edit.proofs.Cutting.{CutsOut, lines-after-cut}
-use Rattle.edit.proofs.Sounds.{lines-hang, lines-afresh, puts-in}
+use Rattle.edit.proofs.Sounds.{lines-hang, puts-in}
 use Rattle.edit.proofs.Played.{plays-long}
-use Rattle.edit.proofs.Parents.{cut-fresh, insert-play}
+use Rattle.edit.proofs.Parents.{cut-fresh, put-fresh}
 use Rattle.edit.proofs.Outcomes.{lines-counted}
 use Rattle.laws.specs.Blocks.{Bytes}
 use Rattle.laws.proofs.Forming.{refused as not-done, done-second}
@@ -45,10 +44,10 @@ use Rattle.laws.proofs.Fewer.{cut-short}
 
 -- ---- an edit
 
--- it makes this record, with this second figure, of what it was asked for; or refuses, by a number that is neither 0 nor 14
+-- it makes this record, with this second figure, of what it was asked for; or refuses, by a number that is not 0
 data Makes (r : Record) (second : ℕ) (Asked : Type 0) : Edited → Type 0 where
   makes : {x : Record} {n : ℕ} → x ≡ r → n ≡ second → Asked → Makes r second Asked (edited x n)
-  refuses : {a : Answer} → 0 < figures a .number → figures a .number < 14 → Makes r second Asked (refused a)
+  refuses : {a : Answer} → 0 < figures a .number → Makes r second Asked (refused a)
 
 -- ---- what is stored
 
@@ -68,15 +67,6 @@ module _ (b : List ℕ) (second : ℕ) (o : List ℕ) where
         sym (done-second _ _ n m e),
       )))
 
-  -- and its answer's number is below 14
-  stored-low : figures (editStored b second o .answer) .number < 14
-  unfolding editStored figures
-  stored-low =
-      by-pick Low (ltb 65535 (length b)) _ _ (λ _. omega arith) (λ _. by-pick Low (ltb (length o) (length b)) _ _ (λ _. omega arith) (λ _. omega arith))
-    where
-      Low : Outcome → Type 0
-      Low x = figures (x .answer) .number < 14
-
 module _ {r : Record} {second : ℕ} {Asked : Type 0} (o : List ℕ) where
   edited-done : {e : Edited} → Makes r second Asked e → (n m : ℕ) → editedOf e o .answer ≡ Done n m
       → Asked × (take n (editedOf e o .buffer) ≡ encode r) × (length (encode r) ≤ 65535) × (m ≡ second)
@@ -84,12 +74,7 @@ module _ {r : Record} {second : ℕ} {Asked : Type 0} (o : List ℕ) where
   edited-done (makes {x} {n = k} p q a) n m e =
       let (front, short, s) = stored-done (encode x) k o n m e in
       (a, front ∙ ap encode p, subst (λ (y : Record). length (encode y) ≤ 65535) p short, s ∙ q)
-  edited-done (refuses {a} h l) n m e = not-done a n m h e
-
-  edited-low : {e : Edited} → Makes r second Asked e → figures (editedOf e o .answer) .number < 14
-  unfolding editedOf
-  edited-low (makes {x} {n = k} p q a) = stored-low (encode x) k o
-  edited-low (refuses h l) = l
+  edited-done (refuses {a} h) n m e = not-done a n m h e
 
 -- ---- put-in
 
@@ -106,30 +91,20 @@ module _ (b : List ℕ) (k : ℕ) (t : List ℕ) where
   abbrev Puts : Edited → Type 0
   Puts = Makes (relined (decode b) putLines) putPlace Asked
 
-  -- no parent changes, so nothing else is refused
   insert-makes : Sound b → Puts (insert (decode b) k t)
-  unfolding insert insertOn insertPlay figures
+  unfolding insert insertOn insertAt figures
   insert-makes s =
       by-pick Puts (ltb k (length (decode b .lines))) _ _
       (λ l. by-pick Puts (isVariation t) _ _
       (λ v. by-pick Puts (isPlyOf (starts ps k) (counts ps k) (plyAt t 0)) _ _
-      (λ p. by-pick Puts (carries k (plyAt t 0) (drop 1 (decode b .lines))) _ _ (λ _. refuses (omega arith) (omega arith))
-      (λ c. subst Puts (sym (insert-play (decode b) putPlace k (variationOf t))) (placed (puts-in b s k (plyAt t 0) (omega (arith, lines-counted b, ltb-true k (length (decode b .lines)) l)) p c .0) v)))
-      (λ _. refuses (omega arith) (omega arith)))
-      (λ _. refuses (omega arith) (omega arith)))
-      (λ _. refuses (omega arith) (omega arith))
+      (λ p. by-pick Puts (carries k (plyAt t 0) (drop 1 (decode b .lines))) _ _ (λ _. refuses (omega arith))
+      (λ c. makes (put-fresh (decode b) putPlace k (variationOf t)) refl (puts-in b s k (plyAt t 0) (omega (arith, lines-counted b, ltb-true k (length (decode b .lines)) l)) p c, v)))
+      (λ _. refuses (omega arith)))
+      (λ _. refuses (omega arith)))
+      (λ _. refuses (omega arith))
     where
       ps : List Play
       ps = playsIn (decode b .lines)
-
-      placed : PutsIn ps k (plyAt t 0) → isVariation t ≡ true
-          → Puts (onChanged (changedFrom putLines putPlace 0 (decode b .lines)) (λ i. refused (ParentChanges i))
-          (edited (relined (decode b) putLines) putPlace))
-      placed ok v =
-          let e : changedFrom putLines putPlace 0 (decode b .lines) ≡ none =
-          ap (λ (ls : List Line). changedFrom putLines putPlace 0 ls) (lines-afresh b s) ∙ no-parent-changes ps k (variationOf t) ok in
-          subst (λ (c : Changed). Puts (onChanged c (λ i. refused (ParentChanges i)) (edited (relined (decode b) putLines) putPlace))) (sym e)
-          (makes refl refl (ok, v))
 
 -- what a put-in that is done says, of the block after it and the new line's number
 pub record PutDone (b : List ℕ) (k : ℕ) (t : List ℕ) (after : List ℕ) (i : ℕ) : Type 0 where
@@ -163,14 +138,6 @@ put-done b t o bs ts k n i =
           front = front;
         }
 
-pub parent-kept : (b t o : List ℕ) (k : ℕ) → figures (putInOf b k t o .answer) .number < 14
-unfolding putInOf figures
-parent-kept b t o k =
-    by-pick Low (soundb b) (editedOf (insert (decode b) k t) o) (refuse NotSound o) (λ e. edited-low o (insert-makes b k t (sound-says b e))) (λ _. omega arith)
-  where
-    Low : Outcome → Type 0
-    Low x = figures (x .answer) .number < 14
-
 -- ---- cut
 
 module _ (b : List ℕ) (k : ℕ) where
@@ -186,9 +153,9 @@ module _ (b : List ℕ) (k : ℕ) where
   remove-makes : Sound b → Cuts (remove (decode b) k)
   unfolding remove figures
   remove-makes s =
-      by-pick Cuts (eqb k 0) _ _ (λ _. refuses (omega arith) (omega arith))
+      by-pick Cuts (eqb k 0) _ _ (λ _. refuses (omega arith))
       (λ z. by-pick Cuts (ltb k (length (decode b .lines))) _ _ (λ l. makes (cut-fresh (decode b) k cutMany) refl (ok (eqb-false k 0 z) (ltb-true _ _ l)))
-      (λ _. refuses (omega arith) (omega arith)))
+      (λ _. refuses (omega arith)))
     where
       ok : (k ≡ 0 → ⊥) → k < length (decode b .lines) → CutsOut (playsIn (decode b .lines)) k
       ok z l = record { lines = lines-hang b s; later = omega arith; line = omega (arith, plays-long b, lines-counted b) }

@@ -3,11 +3,11 @@
 -- `Wrote`, `Stored` and `Answered`. Of each, two results, buffers and numbers that meet it for the same input are equal, since its
 -- equations give the count by the input, and all else by the input and the count. A look-up's part has the bytes that stand where its figures say.
 -- Assumes nothing.
-use Prim.Native.Nat.{ℕ, _+_, _≤_, _<_}
+use Prim.Native.Nat.{ℕ, _+_, _<_}
 use mathlib.Core.Path.{_≡_, refl, sym, ap, _∙_}
-use mathlib.Core.List.{List, [], _∷_, _++_}
+use mathlib.Core.List.{List, [], _++_}
 use mathlib.Core.Bool.{Bool, true, false}
-use lib.ListN.{length, take, drop}
+use lib.ListN.{take, drop}
 use lib.Dec.{ltb}
 use Rattle.lists.specs.Pick.{pick}
 use Rattle.lent.specs.Bytes.{Wrote}

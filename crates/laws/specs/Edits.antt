@@ -3,16 +3,17 @@
 -- Assumes nothing: these are definitions.
 use Prim.Native.Nat.{ℕ, _+_, _-_, _≤_, _<_}
 use mathlib.Core.Path.{_≡_}
-use mathlib.Core.Bool.{true}
+use mathlib.Core.Bool.{true, false}
 use mathlib.Core.List.{List}
-use Rattle.jkf.specs.declared.Answer.the-variants.{Done, BlockTooLong, ParentChanges}
+use lib.ListN.{drop}
+use Rattle.jkf.specs.declared.Answer.the-variants.{Done, BlockTooLong}
 use Rattle.jkf.specs.declared.Hang.the-variants.{On}
-use Rattle.jkf.specs.Attaching.{hangs}
+use Rattle.jkf.specs.Attaching.{hangs, parentIn}
 use Rattle.block.specs.Decode.{decode, linesIn, startOf, entryCount, parentOf}
 use Rattle.block.specs.Sound.{soundb}
 use Rattle.block.specs.Formed.{lineOf}
 use Rattle.plays.specs.Plays.{entriesAt, plyAt}
-use Rattle.edit.specs.Edit.{reparented, renumbered, lowered, Kept}
+use Rattle.edit.specs.Edit.{playsIn, variationOf, isPlyOf, carries, placeOf, putIn, reparented, renumbered, lowered, Kept}
 use Rattle.edit.specs.Outcomes.{editStored, putInOf, cutOf}
 use Rattle.laws.specs.Blocks.{Bytes, frontOf}
 
@@ -52,9 +53,18 @@ pub record PutTheorems (b t o : List ℕ) (k n i : ℕ) : Type 0 where
 abbrev pub PutHolds : Type 0
 PutHolds = (b t o : List ℕ) → Bytes b → Bytes t → (k n i : ℕ) → putInOf b k t o .answer ≡ Done n i → PutTheorems b t o k n i
 
--- No put-in is refused for another line's parent.                                                 (01, Numbers of refusal: 14)
-abbrev pub NoParentRefused : Type 0
-NoParentRefused = (b t o : List ℕ) (k i : ℕ) → putInOf b k t o .answer ≡ ParentChanges i → ⊥
+-- The number that a new line gets, put into line k of a block by a text.
+abbrev pub newNumber : List ℕ → List ℕ → ℕ → ℕ
+newNumber b t k = placeOf (playsIn (decode b .lines)) k (plyAt t 0)
+
+-- Where 10, 12 and 13 do not refuse, each old line's parent in the list with the new line is the old one, by its new number: so there is no
+-- refusal for a parent that changes.                                                               (02, request (ix))
+abbrev pub ParentsStay : Type 0
+ParentsStay =
+    (b t : List ℕ) (k : ℕ) → soundb b ≡ true → k < linesIn b → isPlyOf (startOf b k) (entryCount b k) (plyAt t 0) ≡ true
+    → carries k (plyAt t 0) (drop 1 (decode b .lines)) ≡ false → (l : ℕ) → l < linesIn b
+    → parentIn (putIn (newNumber b t k) (variationOf t) (playsIn (decode b .lines))) (renumbered (newNumber b t k) l)
+    ≡ renumbered (newNumber b t k) (parentOf b l)
 
 -- ---- cut
 

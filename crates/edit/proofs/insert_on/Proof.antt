@@ -1,8 +1,7 @@
--- Two tests in their order; the place is where the new line hangs on line k and all lines hang.
+-- The tests of the definition in its order; where they pass, the block with the new line is stored.
 -- Assumes nothing.
 use mathlib.Core.Path.{refl, sym, _∙_}
 use denote.Ref.{now}
-use borrow.Author.Needs.{needs}
 use borrow.Author.Tests.{not-true, not-false}
 use Rattle.jkf.proofs.Answering.{told}
 use Rattle.block.specs.Decode.{decode}
@@ -10,11 +9,20 @@ use Rattle.edit.specs.Edit.{playsIn, variationOf}
 use Rattle.edit.proofs.Sounds.{puts-in}
 use Rattle.edit.proofs.Afresh.{put-still}
 use Rattle.edit.proofs.Outcomes.{outside, entry-taken, in-place}
+use Rattle.edit.proofs.Texts.{variation-says}
+use borrow.Author.Needs.{needs}
 use Rattle.edit.proofs.insert_on.Statement.{statement}
 use Rattle.edit.proofs.insert_on.Tie as tie
+use Rattle.edit.proofs.insert_on.Reads as reads
+use Rattle.edit.proofs.insert_on.Lts as lts
+use Rattle.edit.proofs.checks.carries.Reads as carries-reads
+use Rattle.edit.proofs.checks.is_ply_of.Reads as is-ply-of-reads
+use Rattle.edit.proofs.checks.place_of.Reads as place-of-reads
+use Rattle.edit.proofs.stores.store_with.Reads as store-with-reads
+use Rattle.plays.proofs.ply.Reads as ply-reads
 
 ply-requires : tie.Need-ply-requires
-ply-requires c κs = tt
+ply-requires c κs = search needs
 
 is-ply-of-requires : tie.Need-is-ply-of-requires
 is-ply-of-requires c κs = search needs
@@ -40,15 +48,15 @@ returns-2 c =
 place-of-requires : tie.Need-place-of-requires
 place-of-requires c κs = search needs
 
-insert-at-requires : tie.Need-insert-at-requires
-insert-at-requires c κs =
+store-with-requires : tie.Need-store-with-requires
+store-with-requires c κs =
     let a = c .before .before .before .before .before .before .before .before .before .before .args in
     let (s, h, v, e) = c .before .before .before .before .before .before .before .before .before .before .pre in
     let f = sym (c .before .before .before .before .before .is-ply-of .ensures) ∙ not-false _ (c .before .before .before .before .if1 .left) in
     let g = sym (c .before .before .before .carries .ensures) ∙ c .before .before .if2 .left in
-    let (ok, small) = puts-in (now (a .b)) s (a .k) (c .before .before .before .before .before .before .ply .result) h f g in
+    let ok = puts-in (now (a .b)) s (a .k) (c .before .before .before .before .before .before .ply .result) h f g in
     let (p, _, l) = c .before .place-of .ensures in
-    ((s, l, v, e), (c .before .before .before .before .before .before .ply .ensures, small, put-still (playsIn (decode (now (a .b)) .lines)) (a .k) (variationOf (now (a .t))) (c .before .before .before .before .before .before .ply .ensures) p ok))
+    ((s, l, variation-says (now (a .t)) v .0, e, c .before .before .before .before .before .before .ply .ensures), put-still (playsIn (decode (now (a .b)) .lines)) (a .k) (variationOf (now (a .t))) (c .before .before .before .before .before .before .ply .ensures) p ok)
 
 same-length : tie.Need-same-length
 same-length c = search needs
@@ -59,7 +67,7 @@ returns-3 c =
     let (s, h, v, e) = c .before .before .before .before .before .before .before .before .before .before .before .before .before .pre in
     let f = sym (c .before .before .before .before .before .before .before .before .is-ply-of .ensures) ∙ not-false _ (c .before .before .before .before .before .before .before .if1 .left) in
     let g = sym (c .before .before .before .before .before .before .carries .ensures) ∙ c .before .before .before .before .before .if2 .left in
-    told (in-place (decode (now (a .b))) (now (a .out)) (a .k) (variationOf (now (a .t))) (c .before .before .before .before .before .before .before .before .before .ply .ensures) f g (c .before .before .before .before .place-of .ensures .0)) (c .before .before .insert-at .ensures)
+    told (in-place (decode (now (a .b))) (now (a .out)) (a .k) (variationOf (now (a .t))) (c .before .before .before .before .before .before .before .before .before .ply .ensures) f g (c .before .before .before .before .place-of .ensures .0)) (c .before .before .store-with .ensures)
 
 pub insert-on-spec : {M : Type 1} → statement M
 insert-on-spec =
@@ -71,6 +79,6 @@ insert-on-spec =
     carries-requires
     returns-2
     place-of-requires
-    insert-at-requires
+    store-with-requires
     same-length
     returns-3)

@@ -1,10 +1,10 @@
 -- Reading back, of blocks: what was read, or edited by text, and then written reads back as it was but for what the text loses. Such a block
 -- is sound, and a text can say its record: reading gives that, and the edits keep it.
 -- Assumes nothing.
-use Prim.Native.Nat.{ℕ, _≤_, _<_}
+use Prim.Native.Nat.{ℕ, _<_}
 use native.Mathlib.Omega.{arith}
 use mathlib.Core.Path.{_≡_, refl, sym, ap, _∙_, subst}
-use mathlib.Core.List.{List, _++_}
+use mathlib.Core.List.{List}
 use lib.ListN.{length, take, drop}
 use lib.Seq.{take-at}
 use lib.Dec.{ltb}
@@ -26,8 +26,6 @@ use Rattle.converter.specs.Writing.{textStored, shownOf, writeOf}
 use Rattle.converter.specs.declared.Obstacle.{Obstacle}
 use Rattle.converter.specs.declared.Obstacle.the-variants.{At, Clear}
 use Rattle.edit.specs.Edit.{playsIn, placeOf, variationOf}
-use Rattle.edit.specs.inner.Splicing.{relined}
-use Rattle.edit.specs.Outcomes.{putInOf, cutOf}
 use Rattle.laws.specs.Blocks.{Bytes}
 use Rattle.laws.specs.Back.{OnceRead, read, put, cut, readInto, ReadsBack}
 use Rattle.laws.proofs.Decoded.{decode-encode}
@@ -36,7 +34,7 @@ use Rattle.laws.proofs.Forming.{refused as not-done, read-done}
 use Rattle.laws.proofs.Formed.{decode-formed}
 use Rattle.laws.proofs.EditsDone.{put-done, cut-done}
 use Rattle.laws.specs.Left.{left}
-use Rattle.laws.specs.Sayable.{Sayable, ColorsFollow}
+use Rattle.laws.specs.Sayable.{Sayable}
 use Rattle.laws.proofs.Back.ReadPlays.{entries-sayable}
 use Rattle.laws.proofs.Back.Keeps.{read-sayable, fresh-sayable, put-sayable, without-sayable}
 use Rattle.laws.proofs.Back.Records.{plain-back, plain-said, plain-bytes}

@@ -1,6 +1,6 @@
 -- Blocks made by hand: the text that loses nothing restores them, since a writing that is not refused says that their entries can be read.   (02, xi)
 -- Assumes nothing.
-use Prim.Native.Nat.{ℕ, _+_, _≤_, _<_}
+use Prim.Native.Nat.{ℕ, _+_, _<_}
 use native.Mathlib.Omega.{arith}
 use mathlib.Core.Path.{_≡_, refl, sym, ap, _∙_}
 use mathlib.Core.List.{List, [], _∷_, _++_}
@@ -24,7 +24,7 @@ use Rattle.jkf.specs.declared.Target.{Target}
 use Rattle.jkf.specs.declared.Target.the-variants.{Same, Square}
 use Rattle.jkf.specs.declared.Entry.{Entry}
 use Rattle.jkf.specs.declared.Entry.the-variants.{Slot, Moved, End}
-use Rattle.jkf.specs.Model.{Noted, Line, Record}
+use Rattle.jkf.specs.Model.{Noted, Line}
 use Rattle.block.specs.Decode.{decode}
 use Rattle.block.specs.inner.Sounds.{Sound}
 use Rattle.block.proofs.Deciding.{sound-says}
@@ -32,7 +32,7 @@ use Rattle.block.specs.Sound.{kindTest}
 use Rattle.moves.proofs.Smalls.{Bytes as AllBytes, each, empty}
 use Rattle.moves.specs.Fits.{ClockFits, hmsFits, msFits, TimeFits, untimedFits, timedFits, TargetFits, sameFits, squareFits, EntryFits, playFits, endFits}
 use Rattle.converter.specs.Entries.{within, targetFits, canWrite}
-use Rattle.converter.specs.Show.{onObstacle, handsObstacle, entryObstacle, lineObstacle, linesObstacle}
+use Rattle.converter.specs.Show.{onObstacle, entryObstacle, lineObstacle, linesObstacle}
 use Rattle.converter.specs.declared.Obstacle.{Obstacle}
 use Rattle.converter.specs.declared.Obstacle.the-variants.{At, Clear}
 use Rattle.edit.specs.Edit.{playsIn}

@@ -2,24 +2,18 @@
 -- Assumes nothing.
 use Prim.Native.Nat.{ℕ, _+_, _<_}
 use native.Mathlib.Omega.{arith}
-use mathlib.Core.Path.{_≡_, sym, subst}
+use mathlib.Core.Path.{sym, subst}
 use mathlib.Core.List.{List}
-use lib.ListN.{length, drop}
-use lib.Dec.{eqb, ltb}
-use borrow.Author.Tests.{eqb-false}
 use Rattle.lists.specs.All.{All, next}
-use Rattle.jkf.specs.declared.Answer.the-variants.{ParentChanges}
-use Rattle.lists.proofs.Laws.{by-pick}
-use Rattle.jkf.specs.declared.Answer.{Answer}
 use Rattle.jkf.specs.Model.{Record}
-use Rattle.jkf.specs.Attaching.{Play, starts, counts}
+use Rattle.jkf.specs.Attaching.{Play}
 use Rattle.parser.specs.Parse.{parse, recordOf}
-use Rattle.edit.specs.Edit.{playsIn, Edited, edited, refused, isVariation, variationOf, isPlyOf, carries, putIn, Changed, none, line, changedFrom, onChanged, insertAt, insertOn, insert, remove}
+use Rattle.edit.specs.Edit.{putIn}
 use Rattle.edit.specs.inner.Splicing.{relined, without}
 use Rattle.edit.proofs.Sounds.{plays-back}
 use Rattle.laws.proofs.Firsts.{led-take, led-drop, led-append}
 use Rattle.laws.specs.Sayable.{NotedSayable, PlaysSayable, Sayable}
-use Rattle.laws.proofs.Back.ReadPlays.{entries-sayable, plays-sayable}
+use Rattle.laws.proofs.Back.ReadPlays.{plays-sayable}
 use Rattle.laws.proofs.Back.ReadHeaders.{headers-sayable}
 
 -- ---- a reading

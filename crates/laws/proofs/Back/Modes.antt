@@ -1,9 +1,5 @@
 -- Reading back in either mode: what the text says, where its lines hang, and what is read.
 -- Assumes nothing.
-use Prim.Native.Nat.{ℕ}
-use mathlib.Core.Path.{_≡_, sym, ap, _∙_, subst}
-use mathlib.Core.List.{List}
-use Rattle.jkf.specs.Model.{Record}
 use Rattle.laws.specs.Left.{left}
 use Rattle.laws.specs.Modes.{plain, whole}
 use Rattle.laws.specs.Back.{LosesOnce, PlainIsWhole, SaysBack, HangsBack, ReadsBackIn}

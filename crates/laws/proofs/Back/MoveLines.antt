@@ -2,14 +2,14 @@
 -- Assumes nothing.
 use Prim.Native.Nat.{ℕ, _+_, _*_, _/_, _%_, _≤_}
 use native.Mathlib.Omega.{arith}
-use mathlib.Core.Path.{_≡_, refl, ap, _∙_}
+use mathlib.Core.Path.{_≡_, refl}
 use mathlib.Core.List.{List, [], _∷_, _++_, append-assoc}
 use mathlib.Core.Bool.{Bool, true, false, false≢true}
 use lib.ListN.{getD}
 use lib.Dec.{eqb}
 use borrow.Author.Tests.{eqb-true, eqb-false}
 use Rattle.lists.specs.Pick.{pick}
-use Rattle.lists.proofs.Laws.{range-at, pick-both}
+use Rattle.lists.proofs.Laws.{range-at}
 use Rattle.lists.proofs.Stand.{Stands, Came, Reads, Any, Off, then, came}
 use Rattle.lent.specs.Numbers.{decimal}
 use Rattle.text.specs.Text.{cursor, isBlank, wideSpace, same}

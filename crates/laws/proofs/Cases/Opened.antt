@@ -22,7 +22,7 @@ use Rattle.kakinoki.specs.Starts.{addHands, merged, positionOf, headersSaid, he
 use Rattle.plays.specs.Plays.{commentItem, commentsAt, entryItem, entriesAt, plyAt, skippedAt, skipsAt, playItem, variationItem, variationsAt, mainAt, playsAt}
 use Rattle.parser.specs.Parse.{headersOf, parse, needed}
 use Rattle.parser.specs.Read.{filledWith, readStored, startedOf, readOf}
-use Rattle.edit.specs.Edit.{fresh, isVariation, isPlyOf, carries, above, changedFrom, insertAt, insertOn, insert, notBelow, remove}
+use Rattle.edit.specs.Edit.{fresh, isVariation, isPlyOf, carries, above, insertAt, insertOn, insert, notBelow, remove}
 use Rattle.edit.specs.Outcomes.{editStored, editedOf, putInOf, cutOf}
 use Rattle.shown.specs.Listing.{readText, refusalText, rowText, rowOf, rowsText, listingText}
 
@@ -67,7 +67,7 @@ unfolding commentItem commentsAt entryItem entriesAt plyAt skippedAt skipsAt pla
 readings = tt
 
 unfoldable pub edits : Unit {0}
-unfolding fresh isVariation isPlyOf carries above changedFrom insertAt insertOn insert notBelow remove editStored editedOf putInOf cutOf
+unfolding fresh isVariation isPlyOf carries above insertAt insertOn insert notBelow remove editStored editedOf putInOf cutOf
 edits = tt
 
 unfoldable pub listings : Unit {0}

@@ -1,79 +1,99 @@
--- The entries before the run and those after it are put: the block is whole.
+-- The lines before those cut out and the lines after them are put: the block is whole.
 -- Assumes nothing.
 use Prim.Native.Nat.{_+_}
 use native.Mathlib.Omega.{arith}
-use mathlib.Core.Path.{sym, _∙_}
+use mathlib.Core.Path.{sym, ap, _∙_}
 use mathlib.Core.List.{[]}
+use lib.ListN.{length}
+use Rattle.block.specs.Encode.{encode}
+use Rattle.block.specs.Decode.{run}
+use Rattle.filling.specs.declared.Walk.{Walk}
+use Rattle.edit.specs.inner.Splicing.{recordAfter, playIn}
 use Rattle.edit.proofs.Measured.{added-none}
-use Rattle.edit.proofs.Assembled.{begun-stored, refused-stored, put-next}
+use Rattle.edit.proofs.Hung.{plays-size, plays-rows}
+use Rattle.edit.proofs.Assembled.{rows-begin, begun-stored, refused-stored, stored-size, put-next}
 use borrow.Author.Needs.{needs}
 use Rattle.edit.proofs.stores.store_without.Statement.{statement}
 use Rattle.edit.proofs.stores.store_without.Tie as tie
+use Rattle.edit.proofs.stores.store_without.Reads as reads
+use Rattle.edit.proofs.stores.store_without.Lts as lts
+use Rattle.block.proofs.lines_in.Reads as lines-in-reads
+use Rattle.edit.proofs.lines.copy_lines.Reads as copy-lines-reads
+use Rattle.edit.proofs.stores.begin_edited.Reads as begin-edited-reads
 
-add-begin : tie.Need-add-begin
-add-begin c = search needs
+add-after : tie.Need-add-after
+add-after c = search needs
 
-begin-requires : tie.Need-begin-requires
-begin-requires c κs = search needs
+begin-edited-requires : tie.Need-begin-edited-requires
+begin-edited-requires c κs = search needs
 
 enum-known-w : tie.Need-enum-known-w
 enum-known-w c = search needs
 
-add-entries-before : tie.Need-add-entries-before
-add-entries-before c = search needs
+copy-lines-requires : tie.Need-copy-lines-requires
+copy-lines-requires c κs =
+    let a = c .before .before .before .before .before .before .before .before .before .before in
+    let g = c .before .before .before .before .before .before .begin-edited .ensures in
+    let w = c .before .before .w .given in
+    (a .pre .0, omega (arith, a .pre .1), omega arith, rows-begin (a .args .b .now) (a .pre .0) (a .args .k) (a .args .k + a .args .n) [] (omega arith, a .pre .1) added-none (g .0) (a .args .n) (a .args .out .now) (sym (w .1) ∙ g .1 .0) (g .1 .1))
 
-entries-before-requires : tie.Need-entries-before-requires
-entries-before-requires c κs = search needs
+lines-in-requires : tie.Need-lines-in-requires
+lines-in-requires c κs = search needs
 
-entries-before-requires-2 : tie.Need-entries-before-requires-2
-entries-before-requires-2 c κs = search needs
+sub-copy-lines : tie.Need-sub-copy-lines
+sub-copy-lines c = search needs
 
-copy-entries-requires : tie.Need-copy-entries-requires
-copy-entries-requires c κs = search needs
-
-moves-in-requires : tie.Need-moves-in-requires
-moves-in-requires c κs = search needs
-
-sub-copy-entries : tie.Need-sub-copy-entries
-sub-copy-entries c = search needs
-
-copy-entries-requires-2 : tie.Need-copy-entries-requires-2
-copy-entries-requires-2 c κs = (c .before .before .before .before .before .before .before .before .before .before .before .before .before .before .before .before .before .before .pre .0 .0, omega (arith, c .before .before .before .before .before .before .before .entries-before .ensures, c .before .moves-in .ensures))
+copy-lines-requires-2 : tie.Need-copy-lines-requires-2
+copy-lines-requires-2 c κs =
+    let a = c .before .before .before .before .before .before .before .before .before .before .before .before .before .before .before in
+    let g = c .before .before .before .before .before .before .before .before .before .before .before .begin-edited .ensures in
+    let w = c .before .before .before .before .before .before .before .w .given in
+    let v = c .before .before .before .before .copy-lines in
+    let rows = w .0 .0 .lines in
+    let ps = run (playIn (a .args .b .now)) 0 (a .args .k) in
+    let o = c .before .before .before .before .before .before .before .before .before .before .before .begin-edited .last .1 .1 .1 .1 .0 in (
+      a .pre .0,
+      omega (arith, c .before .lines-in .ensures .0, a .pre .1),
+      omega (arith, ap (λ (u : Walk). u .lines) (v .ensures .0), plays-rows rows ps (w .0 .0) o (omega arith)),
+      omega (arith, ap length (v .ensures .1) ∙ plays-size rows ps (w .0 .0) o, rows-begin (a .args .b .now) (a .pre .0) (a .args .k) (a .args .k + a .args .n) [] (omega arith, a .pre .1) added-none (g .0) (a .args .n) (a .args .out .now) (sym (w .1) ∙ g .1 .0) (g .1 .1)),
+    )
 
 enum-known-a : tie.Need-enum-known-a
 enum-known-a c = search needs
 
-same-length : tie.Need-same-length
-same-length c = search needs
-
 returns : tie.Need-returns
 returns c =
-    let a = c .before .before .before .before .before .before .before .before .before .before .before .before .before .before .before .before .before .before .before .before .before in let g = c .before .before .before .before .before .before .before .before .before .before .before .before .before .before .before .before .begin .ensures in let w = c .before .before .before .before .before .before .before .before .before .before .before .before .w .given in let v = c .before .before .before .before .before .before .before .copy-entries .ensures in
-    begun-stored (a .args .b .now) (a .pre .0 .0) (a .args .k) (a .args .k + a .args .n) [] (omega arith, a .pre .0 .1) added-none (g .0) (a .args .n) (a .args .out .now) (a .pre .1) (sym (w .1) ∙ g .1 .0) (g .1 .1)
-    (put-next (a .args .b .now) (a .args .k) (a .args .k + a .args .n) (w .0 .0) _ (c .before .before .before .before .before .before .before .before .before .entries-before2 .ensures .0) (c .before .before .before .before .before .before .before .before .before .before .entries-before .ensures .0) (c .before .before .before .before .moves-in .ensures .0) (v .0) (v .1) (c .before .before .copy-entries2 .ensures .1))
+    let a = c .before .before .before .before .before .before .before .before .before .before .before .before .before .before .before .before .before .before in
+    let g = c .before .before .before .before .before .before .before .before .before .before .before .before .before .before .begin-edited .ensures in
+    let w = c .before .before .before .before .before .before .before .before .before .before .w .given in
+    let v = c .before .before .before .before .before .before .before .copy-lines .ensures in
+    begun-stored (a .args .b .now) (a .pre .0) (a .args .k) (a .args .k + a .args .n) [] (omega arith, a .pre .1) added-none (g .0) (a .args .n) (a .args .out .now)
+    (sym (w .1) ∙ g .1 .0) (g .1 .1) (a .pre .2)
+    (put-next (a .args .b .now) (a .args .k) (a .args .k + a .args .n) (omega arith) (a .pre .1) (w .0 .0 .lines) (w .0 .0) _ (v .0) (v .1) (c .before .before .before .before .lines-in .ensures .0) (c .before .before .copy-lines2 .ensures .1))
+
+same-length : tie.Need-same-length
+same-length c = let a = c .before .before .before .before .before .before .before .before .before .before .before .before .before .before .before .before .before .before .args in ap length (returns c .1) ∙ stored-size (encode (recordAfter (a .b .now) (a .k) (a .k + a .n) [])) (a .n) (a .out .now)
 
 same-length-2 : tie.Need-same-length-2
 same-length-2 c = search needs
 
 returns-2 : tie.Need-returns-2
 returns-2 c =
-    let a = c .before .before .before .before .before .before .before .before .before .before in let g = c .before .before .before .before .before .begin .ensures in let w = c .before .a .given in
-    refused-stored (a .args .b .now) (a .pre .0 .0) (a .args .k) (a .args .k + a .args .n) [] (omega arith, a .pre .0 .1) added-none (g .0) (a .args .n) (a .args .out .now) (a .args .rows .now) (sym (w .1) ∙ g .1 .0) (g .1 .1)
+    let a = c .before .before .before .before .before .before .before .before .before in
+    let g = c .before .before .before .before .before .begin-edited .ensures in
+    refused-stored (a .args .b .now) (a .pre .0) (a .args .k) (a .args .k + a .args .n) [] (omega arith, a .pre .1) added-none (g .0) (a .args .n) (a .args .out .now) (sym (c .before .a .given .1) ∙ g .1 .0) (g .1 .1)
 
 pub store-without-spec : {M : Type 1} → statement M
 store-without-spec =
     tie.close
     (tie.spec
-    add-begin
-    begin-requires
+    add-after
+    begin-edited-requires
     enum-known-w
-    add-entries-before
-    entries-before-requires
-    entries-before-requires-2
-    copy-entries-requires
-    moves-in-requires
-    sub-copy-entries
-    copy-entries-requires-2
+    copy-lines-requires
+    lines-in-requires
+    sub-copy-lines
+    copy-lines-requires-2
     enum-known-a
     same-length
     returns

@@ -3,33 +3,33 @@
 use mathlib.Core.Path.{refl}
 use native.Mathlib.Omega.{arith}
 use Rattle.filling.specs.Filling.{begun}
-use Rattle.filling.proofs.Putting.{length-short}
+use Rattle.filling.proofs.Putting.{small-sizes}
 use Rattle.filling.proofs.opens.begin.Statement.{statement}
 use Rattle.filling.proofs.opens.begin.Tie as tie
 
 mul-lines : tie.Need-mul-lines
-mul-lines c = omega (arith, length-short (c .before .args .z) (c .before .pre), c .before .pre)
+mul-lines c = let r = small-sizes (c .before .args .z) (c .before .pre) in omega (arith, r .headers, r .lines, r .entries, r .comments)
 
 add-lines : tie.Need-add-lines
-add-lines c = omega (arith, length-short (c .before .args .z) (c .before .pre), c .before .pre)
+add-lines c = let r = small-sizes (c .before .args .z) (c .before .pre) in omega (arith, r .headers, r .lines, r .entries, r .comments)
 
 mul-moves : tie.Need-mul-moves
-mul-moves c = omega (arith, length-short (c .before .before .args .z) (c .before .before .pre), c .before .before .pre)
+mul-moves c = let r = small-sizes (c .before .before .args .z) (c .before .before .pre) in omega (arith, r .headers, r .lines, r .entries, r .comments)
 
 add-moves : tie.Need-add-moves
-add-moves c = omega (arith, length-short (c .before .before .args .z) (c .before .before .pre), c .before .before .pre)
+add-moves c = let r = small-sizes (c .before .before .args .z) (c .before .before .pre) in omega (arith, r .headers, r .lines, r .entries, r .comments)
 
 mul-comments : tie.Need-mul-comments
-mul-comments c = omega (arith, length-short (c .before .before .before .args .z) (c .before .before .before .pre), c .before .before .before .pre)
+mul-comments c = let r = small-sizes (c .before .before .before .args .z) (c .before .before .before .pre) in omega (arith, r .headers, r .lines, r .entries, r .comments)
 
 add-comments : tie.Need-add-comments
-add-comments c = omega (arith, length-short (c .before .before .before .args .z) (c .before .before .before .pre), c .before .before .before .pre)
+add-comments c = let r = small-sizes (c .before .before .before .args .z) (c .before .before .before .pre) in omega (arith, r .headers, r .lines, r .entries, r .comments)
 
 mul-text : tie.Need-mul-text
-mul-text c = omega (arith, length-short (c .before .before .before .before .args .z) (c .before .before .before .before .pre), c .before .before .before .before .pre)
+mul-text c = let r = small-sizes (c .before .before .before .before .args .z) (c .before .before .before .before .pre) in omega (arith, r .headers, r .lines, r .entries, r .comments)
 
 add-text : tie.Need-add-text
-add-text c = omega (arith, length-short (c .before .before .before .before .args .z) (c .before .before .before .before .pre), c .before .before .before .before .pre)
+add-text c = let r = small-sizes (c .before .before .before .before .args .z) (c .before .before .before .before .pre) in omega (arith, r .headers, r .lines, r .entries, r .comments)
 
 returns : tie.Need-returns
 unfolding begun

@@ -5,7 +5,7 @@ use native.Mathlib.Omega.{arith}
 use mathlib.Core.Path.{ap, _∙_}
 use Rattle.jkf.specs.declared.Answer.the-variants.{BlockTooLong, BufferShort}
 use Rattle.filling.specs.declared.Opening.the-variants.{Begun, Refused}
-use Rattle.filling.proofs.Putting.{open-long, open-short, open-done}
+use Rattle.filling.proofs.Putting.{short-small, open-long, open-short, open-done}
 use borrow.Author.Needs.{needs}
 use Rattle.filling.proofs.opens.open.Statement.{statement}
 use Rattle.filling.proofs.opens.open.Tie as tie
@@ -25,7 +25,7 @@ put-front-requires : tie.Need-put-front-requires
 put-front-requires c κs = search needs
 
 begin-requires : tie.Need-begin-requires
-begin-requires c κs = search needs
+begin-requires c κs = short-small (c .before .before .before .before .before .before .before .before .args .z) (omega (arith, c .before .before .before .before .before .before .length-of .ensures, c .before .before .before .before .before .if1 .left))
 
 same-length : tie.Need-same-length
 same-length c = search needs

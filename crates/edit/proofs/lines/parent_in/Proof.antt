@@ -4,8 +4,8 @@ use Prim.Native.Nat.{ℕ}
 use mathlib.Core.Path.{sym, ap, _∙_}
 use Rattle.jkf.specs.Attaching.{onHang}
 use Rattle.jkf.specs.declared.Hang.{Hang}
-use Rattle.edit.proofs.rows.parent_in.Statement.{statement}
-use Rattle.edit.proofs.rows.parent_in.Tie as tie
+use Rattle.edit.proofs.lines.parent_in.Statement.{statement}
+use Rattle.edit.proofs.lines.parent_in.Tie as tie
 
 hang-of-requires : tie.Need-hang-of-requires
 hang-of-requires c κs = tt

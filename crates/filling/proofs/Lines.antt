@@ -1,0 +1,282 @@
+-- Lines one after another: those before line k are in the buffer, and their rows are read back from it to hang line k.
+-- Assumes nothing.
+use Prim.Native.Nat.{ℕ, suc, _+_, _-_, _*_, _≤_, _<_}
+use native.Mathlib.Omega.{arith}
+use mathlib.Core.Path.{_≡_, refl, sym, ap, ap₂, _∙_, subst}
+use mathlib.Core.List.{List, [], _∷_, _++_, append-nil}
+use native.Mathlib.Decide.{decLt}
+use lib.ListN.{length, take, drop, getD, take-append-drop, List·getD-append, length-append}
+use lib.Seq.{getD-take, getD-drop, take-suc, length-take-le}
+use Rattle.lent.specs.Bytes.{le16}
+use Rattle.lent.specs.Stored.{put}
+use Rattle.lent.specs.inner.Regions.{join, first as next, puts, Room}
+use Rattle.lent.proofs.Regions.{room-front, filled-length, then-fill, then-room, as-texts, filled-at, join-nil, put-none, put-eq, length-put, room-at}
+use Rattle.jkf.specs.Attaching.{near, hangs, onHang, all, hungFrom, Play, playOf, starts, counts, parentIn, attach}
+use Rattle.jkf.specs.Following.{startAt, countAt, parentAt, hangsBy}
+use Rattle.jkf.specs.inner.Linked.{Linked}
+use Rattle.jkf.specs.declared.Hang.{Hang}
+use Rattle.jkf.proofs.Nears.{near-none, near-same, near-before, hangs-followed}
+use Rattle.jkf.proofs.Hangings.{hangs-before, hung-front}
+use Rattle.jkf.specs.Model.{Noted, Line}
+use Rattle.block.specs.Formed.{lineOf}
+use Rattle.block.specs.Encode.{table, concat, lineRow, lineStep, entriesOf, commentsOf, commentText}
+use Rattle.block.proofs.Tabling.{table-length, concat-append}
+use Rattle.block.proofs.RowPlaces.{line-wide}
+use Rattle.block.proofs.LineTables.{start-back, count-back, parent-back}
+use Rattle.block.proofs.Attached.{all-hang, no-parent, start-bound, attach-length, attach-entries, attach-line, parent-later}
+use Rattle.filling.specs.Filling.{Grown, putLineRow}
+use Rattle.filling.specs.inner.Parts.{entryTexts, lineTexts, entryEnds, lineEnds, EntriesFit, Entered, LinesFit, LineFits, Lined}
+use Rattle.filling.specs.declared.Walk.{Walk}
+use Rattle.filling.proofs.Texts.{lines-append, entries-both, comments-both, bytes-both}
+use Rattle.filling.proofs.Growing.{line, own-entries, line-fit, line-put}
+
+-- ---- lines after lines
+
+module _ (ys : List Line) {xs : List Line} {w v : Walk} {o o₁ : List ℕ} (k : Room (length o) (lineEnds w) (lineTexts (w .entries) (w .noted) (w .bytes) (xs ++ ys))) (d : Lined xs w v o o₁) where
+  abbrev rest : List (List ℕ)
+  rest = lineTexts (v .entries) (v .noted) (v .bytes) ys
+
+  texts-here : lineTexts (w .entries) (w .noted) (w .bytes) (xs ++ ys) ≡ join (lineTexts (w .entries) (w .noted) (w .bytes) xs) rest
+  texts-here =
+      lines-append (w .entries) (w .noted) (w .bytes) xs ys
+      ∙ ap (λ (n : ℕ). join (lineTexts (w .entries) (w .noted) (w .bytes) xs) (lineTexts n (w .noted + length (commentsOf (entriesOf xs))) (w .bytes + length (commentText (commentsOf (entriesOf xs)))) ys)) (sym (d .entries))
+      ∙ ap (λ (n : ℕ). join (lineTexts (w .entries) (w .noted) (w .bytes) xs) (lineTexts (v .entries) n (w .bytes + length (commentText (commentsOf (entriesOf xs)))) ys)) (sym (d .noted))
+      ∙ ap (λ (n : ℕ). join (lineTexts (w .entries) (w .noted) (w .bytes) xs) (lineTexts (v .entries) (v .noted) n ys)) (sym (d .bytes))
+
+  room-here : Room (length o) (lineEnds w) (join (lineTexts (w .entries) (w .noted) (w .bytes) xs) rest)
+  room-here = subst (Room (length o) (lineEnds w)) texts-here k
+
+  pub lined-then : {r : Walk} {o₂ : List ℕ} → Lined ys v r o₁ o₂ → Lined (xs ++ ys) w r o o₂
+  lined-then g =
+      record {
+        filled = as-texts (sym texts-here) (then-fill room-here (d .filled) (g .filled));
+        entries = omega (arith, d .entries, g .entries, entries-both xs ys);
+        noted = omega (arith, d .noted, g .noted, comments-both xs ys);
+        bytes = omega (arith, d .bytes, g .bytes, bytes-both xs ys);
+      }
+
+  pub lined-room : Room (length o₁) (lineEnds v) rest
+  lined-room = then-room rest room-here (d .filled)
+
+-- ---- what stands before the regions that are filled stays
+
+put-low : (o t : List ℕ) (p i : ℕ) → p + length t ≤ length o → i < p → getD (put o p t) i 0 ≡ getD o i 0
+put-low o t p i h k =
+    ap (λ (l : List ℕ). getD l i 0) (put-eq o p t h) ∙ List·getD-append (take p o) (t ++ drop (p + length t) o) 0 i (omega (arith, length-take-le p o (omega arith)))
+    ∙ getD-take p o i 0 k
+
+puts-low : (o ps : List ℕ) (ts : List (List ℕ)) (i : ℕ) → Room (length o) ps ts → i < next (length o) ps → getD (puts o ps ts) i 0 ≡ getD o i 0
+puts-low o [] ts i r h = refl
+puts-low o (p ∷ ps) [] i r h = refl
+puts-low o (p ∷ ps) (t ∷ ts) i r h =
+    let n = length-put o p t in
+    puts-low (put o p t) ps ts i (rw n (r .1)) (rw n (omega (arith, r .0))) ∙ put-low o t p i (room-at (length o) (p ∷ ps) (t ∷ ts) 0 r (omega arith)) h
+
+-- the rows of lines, after so many entries
+abbrev pub lineTable : ℕ → List Line → List ℕ
+lineTable n ls = table lineRow lineStep n ls
+
+-- the table as it is read back
+abbrev pub rowsIn : List ℕ → ℕ → List ℕ
+rowsIn o l = take (length o - l) (drop l o)
+
+-- line k of the record
+abbrev pub lineAt : List Play → ℕ → Line
+lineAt ps k = line (starts ps k) (parentIn ps k) (playOf ps k .entries)
+
+-- one line more of those that are done
+pub take-more : (ps : List Play) (k : ℕ) → k < length ps → take (k + 1) (attach ps) ≡ take k (attach ps) ++ (lineAt ps k ∷ [])
+take-more ps k h =
+    let n : k < length (attach ps) = omega (arith, attach-length ps) in
+    let z : k + 1 ≡ suc k = omega arith in
+    ap (λ (j : ℕ). take j (attach ps)) z ∙ take-suc (attach ps) k (line 0 0 []) n ∙ ap (λ (x : Line). take k (attach ps) ++ (x ∷ [])) (attach-line ps k h)
+
+-- the front of all lines
+take-front : (ps : List Play) (k : ℕ) → take k (attach ps) ++ drop k (attach ps) ≡ attach ps
+take-front ps k = take-append-drop k (attach ps)
+
+-- no line yet
+pub lined-none : (w : Walk) (o : List ℕ) → Lined [] w w o o
+unfolding table concat
+lined-none w o =
+    record {
+      filled = record { bytes = simp put-none; ends = (omega arith, (omega arith, (omega arith, (omega arith, tt)))) };
+      entries = omega arith;
+      noted = omega arith;
+      bytes = omega arith;
+    }
+
+-- where no entry is left there is room for none
+no-entries : (v : Walk) (o : List ℕ) → Room (length o) (lineEnds v) (lineTexts (v .entries) (v .noted) (v .bytes) []) → v .entries < 18446744073709551616
+    → v .noted < 18446744073709551616 → v .bytes < 18446744073709551616 → EntriesFit [] v o
+unfolding table concat
+no-entries v o r a b c = record { entries = omega arith; noted = omega arith; bytes = omega arith; room = r .1 }
+
+-- with no line before it a line has no parent
+none-before : (st ct : ℕ → ℕ) (s : ℕ) → onHang (hangs st ct s 0) (λ p e. p) 0 ≡ 0
+unfolding hangs
+none-before st ct s = no-parent s (near st s 0) _ _ (near-none st s)
+
+-- ---- the first k lines of these are in
+
+module _ (ps : List Play) (w : Walk) (o₀ : List ℕ) (f : LinesFit (attach ps) w o₀) where
+  abbrev ls : List Line
+  ls = attach ps
+
+  -- the texts of lines after what is in the block
+  abbrev textsOf : List Line → List (List ℕ)
+  textsOf l = lineTexts (w .entries) (w .noted) (w .bytes) l
+
+  room-all : Room (length o₀) (lineEnds w) (textsOf ls)
+  room-all =
+      subst (λ (n : ℕ). Room (length o₀) (lineEnds w) (lineTexts n (w .noted) (w .bytes) ls)) (sym (f .none))
+      (subst (λ (n : ℕ). Room (length o₀) (lineEnds w) (lineTexts 0 n (w .bytes) ls)) (sym (f .unnoted)) (f .room))
+
+  pub room-upto : (k : ℕ) → Room (length o₀) (lineEnds w) (textsOf (take k ls))
+  room-upto k =
+      room-front (length o₀) (lineEnds w) (textsOf (take k ls))
+      (lineTexts (w .entries + length (entriesOf (take k ls))) (w .noted + length (commentsOf (entriesOf (take k ls)))) (w .bytes + length (commentText (commentsOf (entriesOf (take k ls))))) (drop k ls))
+      (subst (Room (length o₀) (lineEnds w)) (ap textsOf (sym (take-front ps k)) ∙ lines-append (w .entries) (w .noted) (w .bytes) (take k ls) (drop k ls)) room-all)
+
+  -- the numbers of the first k lines are no more than all
+  pub within : (k : ℕ) → (length (entriesOf (take k ls)) ≤ 65535) × (length (commentsOf (entriesOf (take k ls))) ≤ 65535) × (w .bytes + length (commentText (commentsOf (entriesOf (take k ls)))) ≤ 65535)
+  within k =
+      let e = take-front ps k in (
+        omega (arith, f .entries, ap (λ (l : List Line). length (entriesOf l)) e, entries-both (take k ls) (drop k ls)),
+        omega (arith, f .comments, ap (λ (l : List Line). length (commentsOf (entriesOf l))) e, comments-both (take k ls) (drop k ls)),
+        omega (arith, f .bytes, ap (λ (l : List Line). length (commentText (commentsOf (entriesOf l)))) e, bytes-both (take k ls) (drop k ls)),
+      )
+
+  -- line k has its room
+  pub room-for : (k : ℕ) {v : Walk} {o : List ℕ} → k < length ps → Lined (take k ls) w v o₀ o → LineFits (lineAt ps k) v o
+  room-for k {v} {o} h d =
+      let e = take-more ps k h in
+      let x = lineAt ps k in
+      let n = within (k + 1) in
+      let r : Room (length o₀) (lineEnds w) (textsOf (take k ls ++ (x ∷ []))) = subst (λ (l : List Line). Room (length o₀) (lineEnds w) (textsOf l)) e (room-upto (k + 1)) in
+      let a = ap (λ (l : List Line). length (entriesOf l)) e ∙ entries-both (take k ls) (x ∷ []) in
+      let b = ap (λ (l : List Line). length (commentsOf (entriesOf l))) e ∙ comments-both (take k ls) (x ∷ []) in
+      let c = ap (λ (l : List Line). length (commentText (commentsOf (entriesOf l)))) e ∙ bytes-both (take k ls) (x ∷ []) in
+      record {
+        entries = omega (arith, d .entries, n .0, a, ap length (own-entries x), f .none);
+        noted = omega (arith, d .noted, n .1, b, ap (λ (l : List Noted). length (commentsOf l)) (own-entries x), f .unnoted);
+        bytes = omega (arith, d .bytes, n .2, c, ap (λ (l : List Noted). length (commentText (commentsOf l))) (own-entries x));
+        room = lined-room (x ∷ []) r d;
+      }
+
+  module _ (k : ℕ) {v : Walk} {o : List ℕ} (few : k ≤ length ps) (done : Lined (take k (attach ps)) w v o₀ o) where
+    -- there is room for no entry more
+    pub room-for-none : EntriesFit [] v o
+    room-for-none =
+        let r = subst (λ (l : List Line). Room (length o₀) (lineEnds w) (textsOf l)) (sym (append-nil (take k ls))) (room-upto k) in
+        no-entries v o (lined-room [] r done) (omega (arith, done .entries, within k .0, f .none)) (omega (arith, done .noted, within k .1, f .unnoted))
+        (omega (arith, done .bytes, within k .2))
+
+    -- the rows end behind those of the first k lines
+    pub lined-end : v .lines ≡ w .lines + 8 * k
+    lined-end =
+        let n = length-take-le k ls (omega (arith, attach-length ps, few)) in
+        omega (arith, done .filled .ends .0, table-length lineRow lineStep 8 line-wide (w .entries) (take k ls), n)
+
+    -- there is room for the entries of line k
+    pub entries-fit : k < length ps → EntriesFit (playOf ps k .entries) v o
+    entries-fit h = line-fit (starts ps k) (parentIn ps k) (playOf ps k .entries) (room-for k h done)
+
+    -- ---- the rows are read back, where the lines before line k hang
+
+    module _ (origin : starts ps 0 ≡ 0) (hung : hungFrom (starts ps) (counts ps) 1 (k - 1) ≡ all) where
+      early : (j : ℕ) → j < k → (starts ps j < 65536) × (counts ps j < 65536)
+      early j h =
+          let z : k - 1 ≡ j + (k - 1 - j) = omega arith in
+          let a = hung-front (starts ps) (counts ps) j 1 (k - 1 - j) (sym (ap (hungFrom (starts ps) (counts ps) 1) z) ∙ hung) in
+          let b = start-bound ps origin j (omega (arith, few)) a in
+          let e = ap (λ (l : List Play). length (concat (λ (p : Play). p .entries) l)) (take-append-drop (j + 1) ps) in
+          let n = ap length (concat-append (λ (p : Play). p .entries) (take (j + 1) ps) (drop (j + 1) ps)) in
+          let m = length-append (concat (λ (p : Play). p .entries) (take (j + 1) ps)) (concat (λ (p : Play). p .entries) (drop (j + 1) ps)) in
+          let t = ap length (attach-entries ps) in
+          (omega (arith, b, e, n, m, t, f .entries), omega (arith, b, e, n, m, t, f .entries))
+
+      line-early : (j : ℕ) → j < k → lineOf (take k ls) j ≡ lineAt ps j
+      line-early j h = getD-take k ls j (line 0 0 []) h ∙ attach-line ps j (omega (arith, few))
+
+      long : length (take k ls) ≡ k
+      long = length-take-le k ls (omega (arith, attach-length ps, few))
+
+      abbrev rows : List ℕ
+      rows = lineTable (w .entries) (take k ls)
+
+      rows-long : length rows ≡ 8 * k
+      rows-long = table-length lineRow lineStep 8 line-wide (w .entries) (take k ls) ∙ ap (λ (n : ℕ). 8 * n) long
+
+      module _ (es : List Noted) {x : Walk} {o₁ : List ℕ} (d : Entered es v x o o₁) (g : EntriesFit es v o) where
+        abbrev seen : List ℕ
+        seen = rowsIn o₁ (w .lines)
+
+        byte-back : (n : ℕ) → n < 8 * k → getD seen n 0 ≡ getD rows n 0
+        byte-back n h =
+            let r = room-upto k in
+            let b = room-at (length o₀) (lineEnds w) (textsOf (take k ls)) 0 r (omega arith) in
+            let m = filled-length (d .filled) ∙ filled-length (done .filled) in
+            let u = then-room [] (subst (Room (length o₀) (lineEnds w)) (sym (join-nil (textsOf (take k ls)))) r) (done .filled) in
+            let e = done .filled .ends .0 in
+            getD-take (length o₁ - w .lines) (drop (w .lines) o₁) n 0 (omega (arith, b, rows-long, m))
+            ∙ getD-drop (w .lines) o₁ n 0 ∙ ap (λ (l : List ℕ). getD l (w .lines + n) 0) (d .filled .bytes)
+            ∙ puts-low o (entryEnds v) (entryTexts (v .noted) (v .bytes) es) (w .lines + n) (g .room) (omega (arith, u .0, e, rows-long))
+            ∙ filled-at 0 n r (done .filled) (omega arith) (omega (arith, rows-long))
+
+        two-back : (n : ℕ) → n + 1 < 8 * k → le16 seen n ≡ le16 rows n
+        two-back n h = ap₂ (λ (a b : ℕ). a + 256 * b) (byte-back n (omega arith)) (byte-back (n + 1) h)
+
+        start-read : (j : ℕ) → j < k → startAt seen j ≡ starts ps j
+        start-read j h = two-back (8 * j) (omega arith) ∙ start-back (w .entries) (take k ls) j (omega (arith, long)) (rw (line-early j h) (early j h .0)) ∙ ap (λ (x : Line). x .start) (line-early j h)
+
+        count-read : (j : ℕ) → j < k → countAt seen j ≡ counts ps j
+        count-read j h = two-back (8 * j + 4) (omega arith) ∙ count-back (w .entries) (take k ls) j (omega (arith, long)) (rw (line-early j h) (early j h .1)) ∙ ap (λ (x : Line). length (x .entries)) (line-early j h)
+
+        -- all lines before hang, so each has the parent that is found for it
+        linked : Linked seen k
+        linked = record { parents = parents }
+          where
+            parents : (j : ℕ) → 0 < j → j < k → parentAt seen j ≡ near (startAt seen) (startAt seen j) j
+            parents j z h =
+                let e = parent-later ps j (all-hang (starts ps) (counts ps) (k - 1) (hung) j z (omega arith)) in
+                let b : parentIn ps j < 65536 = omega (arith, e, near-before (starts ps) (starts ps j) j z, few, f .lines, attach-length ps) in
+                two-back (8 * j + 6) (omega arith) ∙ parent-back (w .entries) (take k ls) j (omega (arith, long)) (rw (line-early j h) b) ∙ ap (λ (x : Line). x .parent) (line-early j h)
+                ∙ e ∙ ap (λ (n : ℕ). near (starts ps) n j) (sym (start-read j h)) ∙ sym (near-same (startAt seen) (starts ps) (startAt seen j) j (λ m l. start-read m (omega arith)))
+
+        -- a line with this start hangs as it does in the list
+        pub hang-read : (start : ℕ) → 0 < k → hangsBy (rowsIn o₁ (w .lines)) start k ≡ hangs (starts ps) (counts ps) start k
+        hang-read start some =
+            hangs-followed linked start ∙ hangs-before (startAt seen) (starts ps) (countAt seen) (counts ps) start start k refl some start-read count-read
+
+        -- and so line k finds its parent; line 0 has none
+        pub parent-read : onHang (hangsBy (rowsIn o₁ (w .lines)) (starts ps k) k) (λ p e. p) 0 ≡ parentIn ps k
+        unfolding parentIn
+        parent-read = go (decLt 0 k)
+          where
+            go : Dec (0 < k) → onHang (hangsBy seen (starts ps k) k) (λ p e. p) 0 ≡ onHang (hangs (starts ps) (counts ps) (starts ps k) k) (λ p e. p) 0
+            go (yes z) = ap (λ (r : Hang). onHang r (λ p e. p) 0) (hang-read (starts ps k) z)
+            go (no z) =
+                let e : k ≡ 0 = omega arith in
+                ap (λ (r : Hang). onHang r (λ p e. p) 0) (hangs-followed linked (starts ps k))
+                ∙ ap (λ (j : ℕ). onHang (hangs (startAt seen) (countAt seen) (starts ps k) j) (λ p e. p) 0) e
+                ∙ none-before (startAt seen) (countAt seen) (starts ps k)
+                ∙ sym (none-before (starts ps) (counts ps) (starts ps k))
+                ∙ ap (λ (j : ℕ). onHang (hangs (starts ps) (counts ps) (starts ps k) j) (λ p e. p) 0) (sym e)
+
+    -- ---- line k: its entries are in, and its row is put
+
+    module _ (more : k < length ps) {x : Walk} {o₁ : List ℕ} (d : Entered (playOf ps k .entries) v x o o₁) where
+      pub row-lined : {start parent : ℕ} {u : Walk} {o₂ : List ℕ} → start ≡ starts ps k → parent ≡ parentIn ps k
+          → u ≡ putLineRow start (v .entries) (x .entries - v .entries) parent x o₁ .walk → o₂ ≡ putLineRow start (v .entries) (x .entries - v .entries) parent x o₁ .buffer
+          → Lined (take (k + 1) (attach ps)) w u o₀ o₂
+      row-lined {start} {parent} {u} {o₂} a b r s =
+          let row : ℕ → ℕ → Grown = λ m n. putLineRow m (v .entries) (x .entries - v .entries) n x o₁ in
+          let own : Lined (lineAt ps k ∷ []) v (row (starts ps k) (parentIn ps k) .walk) o (row (starts ps k) (parentIn ps k) .buffer) =
+          line-put (starts ps k) (parentIn ps k) (playOf ps k .entries) (room-for k more done) d refl in
+          let own₁ : Lined (lineAt ps k ∷ []) v u o o₂ =
+          subst (λ (c : Walk). Lined (lineAt ps k ∷ []) v c o o₂) (sym (r ∙ ap₂ (λ (m n : ℕ). row m n .walk) a b))
+          (subst (λ (l : List ℕ). Lined (lineAt ps k ∷ []) v (row (starts ps k) (parentIn ps k) .walk) o l) (sym (s ∙ ap₂ (λ (m n : ℕ). row m n .buffer) a b)) own) in
+          let grown-by = take-more ps k more in
+          subst (λ (l : List Line). Lined l w u o₀ o₂) (sym grown-by)
+          (lined-then (lineAt ps k ∷ []) (subst (λ (l : List Line). Room (length o₀) (lineEnds w) (textsOf l)) grown-by (room-upto (k + 1))) done own₁)
