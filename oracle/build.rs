@@ -15,6 +15,10 @@ fn main() {
         println!("cargo:rustc-link-search=native={}", library.display());
         println!("cargo:rustc-link-lib=static=kif");
         println!("cargo:rerun-if-changed={}", library.join("libkif.a").display());
+        if env::var_os("CARGO_FEATURE_SEARCHES").is_some() {
+            println!("cargo:rustc-link-lib=static=searches");
+            println!("cargo:rerun-if-changed={}", library.join("libsearches.a").display());
+        }
     }
 }
 

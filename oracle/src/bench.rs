@@ -3,6 +3,8 @@
 #[cfg(all(feature = "kif_put_in", feature = "kif_cut"))]
 mod editing;
 mod reading;
+#[cfg(feature = "searches")]
+mod searching;
 mod slow;
 mod usual;
 #[cfg(feature = "kif_write")]
@@ -33,6 +35,8 @@ pub fn bench() {
     writing::bench();
     #[cfg(all(feature = "kif_put_in", feature = "kif_cut"))]
     editing::bench();
+    #[cfg(feature = "searches")]
+    searching::bench();
 }
 
 /// What reading makes of a text.

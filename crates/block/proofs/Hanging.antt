@@ -13,8 +13,7 @@ use Rattle.lists.specs.Pick.{pick}
 use Rattle.lists.specs.Test.{_equals_, _and_, flag, claim}
 use Rattle.lists.proofs.Tests.{says}
 use Rattle.jkf.specs.Attaching.{near, hangs, onHang}
-use Rattle.jkf.specs.Following.{startAt, parentAt}
-use Rattle.jkf.specs.inner.Linked.{Linked}
+use Rattle.jkf.specs.Following.{startAt, parentAt, Linked}
 use Rattle.jkf.proofs.Nears.{near-same, Hangs, hangs-says}
 use Rattle.block.specs.Decode.{linePlace, startOf, entryCount, parentOf}
 use Rattle.block.specs.Sound.{hangTest, lineTest}

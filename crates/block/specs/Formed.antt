@@ -31,7 +31,7 @@ headerFits hs k =
     and valid (headerOf hs k .value)
     and holds (pick (ltb (k + 1) (length hs)) (before (headerOf hs k .key) (headerOf hs (k + 1) .key)) true)
 
--- A line is not empty, and hangs where a block of its version lets it.
+-- A line is not empty, and hangs as `hangTest` says.
 abbrev pub lineFits : ℕ → List Line → ℕ → Test
 lineFits version ls k =
     1 atMost length (lineOf ls k .entries)

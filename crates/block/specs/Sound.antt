@@ -1,4 +1,5 @@
--- What a sound block keeps: a test for each sentence of 01, which is both the Bool that is computed and the fact that it says.
+-- What a sound block keeps: a test for each sentence of 01, which is both the Bool that is computed and the fact that it says. `equals` and
+-- `atMost` are weaker than `+`, and `and` is weaker than they.
 -- (01, The block; Attaching rule)
 -- Assumes nothing: these are definitions.
 use Prim.Native.Nat.{ℕ, zero, suc, _+_}
@@ -32,6 +33,7 @@ valid t = wellFormedBytes t equals length t
 
 -- ---- the head                                                                                       (01, The block: bytes 0 to 27)
 
+-- `KB`, version 1, its own length, and four zeros behind the offsets.
 abbrev pub headTest : List ℕ → Test
 headTest b =
     128 atMost length b
@@ -111,8 +113,8 @@ commentTest b k =
 
 -- ---- the entries                                                                                    (01, The block: move entry)
 
--- The slot is the first entry and no other; a move's colour, kind and promotion are in range. Ranges that no entry read from 20 bytes can
--- leave, as an ending's number or a square's figures, are tested below: the bytes of that entry are then not the same.
+-- The slot is the first entry and no other; a move's colour, kind and promotion are in range. A sort above 2, an ending's number above 13,
+-- mark bits without a meaning, and marks 8 or 16 without 4 are refused by `entryTest`: the bytes of the entry that they say are others.
 abbrev pub kindTest : ℕ → Entry → Test
 kindTest k Slot = k equals 0
 kindTest k (Moved m) =
@@ -140,7 +142,8 @@ entryTest b k =
 abbrev pub entriesBefore : List ℕ → ℕ → ℕ
 entriesBefore b = sum (λ k. entryCount b k)
 
--- Line 0 starts at 0 and has no parent; any other hangs, in a block of version 1, on the parent that the attaching rule finds.
+-- Line 0 starts at 0 and has no parent; any other hangs on the parent that the attaching rule finds. The version is not looked at: there is
+-- one so far.
 abbrev pub hangTest : ℕ → (ℕ → ℕ) → (ℕ → ℕ) → (ℕ → ℕ) → ℕ → Test
 hangTest version start count parent k =
     holds

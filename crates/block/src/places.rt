@@ -9,7 +9,7 @@ ghost use Prim.Native.Nat.{_<_};
 ghost use lib.ListN.{length, drop, getD};
 ghost use Rattle.lists.specs.Test.{_equals_, holds, each, flag};
 ghost use Rattle.lent.specs.Bytes.{le16};
-ghost use Rattle.jkf.specs.inner.Linked.{Linked};
+ghost use Rattle.jkf.specs.Following.{Linked};
 ghost use Rattle.block.specs.Decode.{linesIn, linePlace, startOf, entryCount, parentOf};
 ghost use Rattle.block.specs.Sound.{isCell, diagramTest, fitsTest, positionTest, hangTest, lineTest, entriesBefore};
 

@@ -28,7 +28,7 @@ use Rattle.block.proofs.Lengths.{block-length}
 use Rattle.block.proofs.Within.{key-length, value-length}
 use Rattle.block.proofs.Attached.{attach-length}
 use Rattle.lent.proofs.Regions.{room-at}
-use Rattle.filling.specs.inner.Parts.{lineTexts, lineEnds, LinesFit, Headed}
+use Rattle.filling.specs.inner.Parts.{lineTexts, lineEnds, LinesFit, Headed, Opens}
 use Rattle.filling.specs.Filling.{unlessRefused, atFront, areSmall, lengthOf, begun, opening, opened, frontPut, Grown, putAll}
 use Rattle.filling.specs.inner.Parts.{sizesOf, onOpening, putHeaders}
 use Rattle.filling.specs.declared.Sizes.{Sizes}
@@ -36,7 +36,7 @@ use Rattle.filling.specs.declared.Walk.{Walk}
 use Rattle.filling.specs.declared.Opening.{Opening}
 use Rattle.filling.specs.declared.Opening.the-variants.{Begun, Refused}
 use Rattle.filling.proofs.Growing.{headers-put, all-then}
-use Rattle.filling.proofs.Putting.{length-is, not-begun, begun-walk, begun-total, Opens, opens, refuses, unrefused}
+use Rattle.filling.proofs.Putting.{length-is, not-begun, begun-walk, begun-total, opens, refuses, unrefused}
 use Rattle.filling.proofs.Wholes.{headers-fit, lines-fit, block-filled}
 use Rattle.plays.specs.inner.Entries.{playEntries}
 use Rattle.edit.specs.inner.Splicing.{relined, linesAfter, recordAfter, Lines, playIn, putPlay, putPlays, entriesAfter, addedSizes, sizesAfter, headersPut, beginning, beginningOf}

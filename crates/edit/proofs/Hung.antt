@@ -13,12 +13,12 @@ use Rattle.jkf.proofs.Hangings.{hung-front}
 use Rattle.jkf.specs.Model.{Noted, Line}
 use Rattle.block.proofs.Attached.{attach-length}
 use Rattle.filling.specs.Filling.{putAll, putEntries}
-use Rattle.filling.specs.inner.Parts.{lineTexts, lineEnds, LinesFit, Lined}
+use Rattle.filling.specs.inner.Parts.{lineTexts, lineEnds, LinesFit, Lined, tableFrom}
 use Rattle.filling.specs.declared.Walk.{Walk}
 use Rattle.filling.proofs.Growing.{all-size, noted-size, line-size, entries-stay, row-stays, entries-put}
-use Rattle.filling.proofs.Lines.{lined-none, lined-end, entries-fit, parent-read, row-lined}
+use Rattle.filling.proofs.Lines.{lined-none, lined-end, entries-fit, parent-read, row-lined, all-lined}
 use Rattle.filling.specs.Filling.{putNoted}
-use Rattle.edit.specs.inner.Splicing.{Lines, tableFrom, putHung, putPlay, putPlays}
+use Rattle.edit.specs.inner.Splicing.{Lines, putHung, putPlay, putPlays}
 
 -- ---- a line of play, wherever it is put
 
@@ -97,7 +97,4 @@ module _ (ps : List Play) (w : Walk) (o₀ : List ℕ) (f : LinesFit (attach ps)
       (subst (λ (p : Play). Lined (take (k + 1) (attach ps)) w (putPlay (w .lines) p v o .walk) o₀ (putPlay (w .lines) p v o .buffer)) here (play-lined k more d))
 
   pub lines-put : putPlays (w .lines) ps w o₀ .buffer ≡ puts o₀ (lineEnds w) (lineTexts 0 0 (w .bytes) (attach ps))
-  lines-put =
-      plays-lined ps 0 (omega arith) refl (lined-none w o₀) .filled .bytes
-      ∙ ap (λ (n : ℕ). puts o₀ (lineEnds w) (lineTexts n (w .noted) (w .bytes) (attach ps))) (f .none)
-      ∙ ap (λ (n : ℕ). puts o₀ (lineEnds w) (lineTexts 0 n (w .bytes) (attach ps))) (f .unnoted)
+  lines-put = all-lined ps w o₀ f (plays-lined ps 0 (omega arith) refl (lined-none w o₀))

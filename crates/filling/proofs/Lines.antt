@@ -12,8 +12,7 @@ use Rattle.lent.specs.Stored.{put}
 use Rattle.lent.specs.inner.Regions.{join, first as next, puts, Room}
 use Rattle.lent.proofs.Regions.{room-front, filled-length, then-fill, then-room, as-texts, filled-at, join-nil, put-none, put-eq, length-put, room-at}
 use Rattle.jkf.specs.Attaching.{near, hangs, onHang, all, hungFrom, Play, playOf, starts, counts, parentIn, attach}
-use Rattle.jkf.specs.Following.{startAt, countAt, parentAt, hangsBy}
-use Rattle.jkf.specs.inner.Linked.{Linked}
+use Rattle.jkf.specs.Following.{startAt, countAt, parentAt, hangsBy, Linked}
 use Rattle.jkf.specs.declared.Hang.{Hang}
 use Rattle.jkf.proofs.Nears.{near-none, near-same, near-before, hangs-followed}
 use Rattle.jkf.proofs.Hangings.{hangs-before, hung-front}
@@ -25,7 +24,7 @@ use Rattle.block.proofs.RowPlaces.{line-wide}
 use Rattle.block.proofs.LineTables.{start-back, count-back, parent-back}
 use Rattle.block.proofs.Attached.{all-hang, no-parent, start-bound, attach-length, attach-entries, attach-line, parent-later}
 use Rattle.filling.specs.Filling.{Grown, putLineRow}
-use Rattle.filling.specs.inner.Parts.{entryTexts, lineTexts, entryEnds, lineEnds, EntriesFit, Entered, LinesFit, LineFits, Lined}
+use Rattle.filling.specs.inner.Parts.{entryTexts, lineTexts, entryEnds, lineEnds, EntriesFit, Entered, LinesFit, LineFits, Lined, tableFrom}
 use Rattle.filling.specs.declared.Walk.{Walk}
 use Rattle.filling.proofs.Texts.{lines-append, entries-both, comments-both, bytes-both}
 use Rattle.filling.proofs.Growing.{line, own-entries, line-fit, line-put}
@@ -75,10 +74,6 @@ puts-low o (p ∷ ps) (t ∷ ts) i r h =
 -- the rows of lines, after so many entries
 abbrev pub lineTable : ℕ → List Line → List ℕ
 lineTable n ls = table lineRow lineStep n ls
-
--- the table as it is read back
-abbrev pub rowsIn : List ℕ → ℕ → List ℕ
-rowsIn o l = take (length o - l) (drop l o)
 
 -- line k of the record
 abbrev pub lineAt : List Play → ℕ → Line
@@ -164,6 +159,12 @@ module _ (ps : List Play) (w : Walk) (o₀ : List ℕ) (f : LinesFit (attach ps)
         room = lined-room (x ∷ []) r d;
       }
 
+  -- where all are in, the buffer has all of their texts
+  pub all-lined : {v : Walk} {o : List ℕ} → Lined (attach ps) w v o₀ o → o ≡ puts o₀ (lineEnds w) (lineTexts 0 0 (w .bytes) (attach ps))
+  all-lined d =
+      d .filled .bytes ∙ ap (λ (n : ℕ). puts o₀ (lineEnds w) (lineTexts n (w .noted) (w .bytes) (attach ps))) (f .none)
+      ∙ ap (λ (n : ℕ). puts o₀ (lineEnds w) (lineTexts 0 n (w .bytes) (attach ps))) (f .unnoted)
+
   module _ (k : ℕ) {v : Walk} {o : List ℕ} (few : k ≤ length ps) (done : Lined (take k (attach ps)) w v o₀ o) where
     -- there is room for no entry more
     pub room-for-none : EntriesFit [] v o
@@ -210,7 +211,7 @@ module _ (ps : List Play) (w : Walk) (o₀ : List ℕ) (f : LinesFit (attach ps)
 
       module _ (es : List Noted) {x : Walk} {o₁ : List ℕ} (d : Entered es v x o o₁) (g : EntriesFit es v o) where
         abbrev seen : List ℕ
-        seen = rowsIn o₁ (w .lines)
+        seen = tableFrom o₁ (w .lines)
 
         byte-back : (n : ℕ) → n < 8 * k → getD seen n 0 ≡ getD rows n 0
         byte-back n h =
@@ -245,12 +246,12 @@ module _ (ps : List Play) (w : Walk) (o₀ : List ℕ) (f : LinesFit (attach ps)
                 ∙ e ∙ ap (λ (n : ℕ). near (starts ps) n j) (sym (start-read j h)) ∙ sym (near-same (startAt seen) (starts ps) (startAt seen j) j (λ m l. start-read m (omega arith)))
 
         -- a line with this start hangs as it does in the list
-        pub hang-read : (start : ℕ) → 0 < k → hangsBy (rowsIn o₁ (w .lines)) start k ≡ hangs (starts ps) (counts ps) start k
+        pub hang-read : (start : ℕ) → 0 < k → hangsBy (tableFrom o₁ (w .lines)) start k ≡ hangs (starts ps) (counts ps) start k
         hang-read start some =
             hangs-followed linked start ∙ hangs-before (startAt seen) (starts ps) (countAt seen) (counts ps) start start k refl some start-read count-read
 
         -- and so line k finds its parent; line 0 has none
-        pub parent-read : onHang (hangsBy (rowsIn o₁ (w .lines)) (starts ps k) k) (λ p e. p) 0 ≡ parentIn ps k
+        pub parent-read : onHang (hangsBy (tableFrom o₁ (w .lines)) (starts ps k) k) (λ p e. p) 0 ≡ parentIn ps k
         unfolding parentIn
         parent-read = go (decLt 0 k)
           where

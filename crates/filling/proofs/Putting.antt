@@ -31,7 +31,7 @@ use Rattle.filling.specs.declared.Walk.{Walk}
 use Rattle.filling.specs.declared.Opening.{Opening}
 use Rattle.filling.specs.declared.Opening.the-variants.{Begun, Refused}
 use Rattle.filling.specs.Filling.{unlessRefused, areSmall, lengthOf, begun, opening, headFor, frontPut, opened, header, hasHeader, putHeader, putLineRow, hasComment, putComment, putEntry}
-use Rattle.filling.specs.inner.Parts.{onOpening}
+use Rattle.filling.specs.inner.Parts.{onOpening, Opens}
 
 -- ---- whether something has room
 
@@ -125,14 +125,6 @@ module _ (version : ℕ) (z : Sizes) (p : Position) (o : List ℕ) where
         → (Begun w (lengthOf z) ≡ opening z (length o)) × (o₁ ≡ opened version z p o)
     unfolding opening opened
     open-done {w} {o₁} k e f = rw (le-ltb 65535 (lengthOf z) h, le-ltb (length o) (lengthOf z) k) (ap (λ (v : Walk). Begun v (lengthOf z)) e, f)
-
--- what an opening tells of the length
-pub record Opens (version : ℕ) (z : Sizes) (p : Position) (w : Walk) (n : ℕ) (o o₁ : List ℕ) : Type 0 where
-  pub walk : w ≡ begun z
-  pub total : n ≡ lengthOf z
-  pub short : lengthOf z ≤ 65535
-  pub room : lengthOf z ≤ length o
-  pub front : o₁ ≡ frontPut version z p o
 
 -- a beginning and a refusal told apart, and what each holds
 whichOf : Opening → ℕ

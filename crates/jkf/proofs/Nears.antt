@@ -20,8 +20,7 @@ use Rattle.lists.specs.Pick.{pick}
 use Rattle.lists.proofs.Laws.{by-pick}
 use Rattle.lent.specs.Bytes.{le16}
 use Rattle.jkf.specs.Attaching.{near, hangOn, hangs, onHang}
-use Rattle.jkf.specs.Following.{startAt, countAt, parentAt, follow, followed, hangsBy}
-use Rattle.jkf.specs.inner.Linked.{Linked}
+use Rattle.jkf.specs.Following.{startAt, countAt, parentAt, follow, followed, hangsBy, Linked}
 use Rattle.jkf.specs.declared.Hang.the-variants.{On, Nowhere}
 
 -- past the end of a table every number is 0
@@ -151,7 +150,7 @@ module _ {b : List ℕ} {k : ℕ} (l : Linked b k) (s : ℕ) where
           first (yes z) = absurd (omega (arith, l .parents j z g, near-before (startAt b) (startAt b j) j z))
           first (no z) = let e : j ≡ 0 = omega arith in ap (near (startAt b) s) e ∙ near-none (startAt b) s
 
-  followed-near : followed b s k ≡ near (startAt b) s k
+  pub followed-near : followed b s k ≡ near (startAt b) s k
   followed-near = go (decLt 0 k)
     where
       go : Dec (0 < k) → followed b s k ≡ near (startAt b) s k

@@ -56,7 +56,7 @@ starts ps k = playOf ps k .start
 abbrev pub counts : List Play → ℕ → ℕ
 counts ps k = length (playOf ps k .entries)
 
--- Line k's parent.
+-- Line k's parent; 0 where it hangs nowhere.
 unfoldable pub parentIn : List Play → ℕ → ℕ
 parentIn ps k = onHang (hangs (starts ps) (counts ps) (starts ps k) k) (λ p e. p) 0
 

@@ -3,4 +3,3 @@ pub mod Answers
 pub mod Entries
 pub mod Attaching
 pub mod Following
-pub mod inner

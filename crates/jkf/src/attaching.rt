@@ -1,7 +1,8 @@
 // The attaching rule over a table of lines in lent memory: rows of eight bytes, start, first entry, entry count, parent.
 use crate::Hang;
 ghost use mathlib.Core.Path.{_≡_};
-ghost use Rattle.jkf.specs.Following.{startAt, countAt, followed, hangsBy};
+ghost use Rattle.jkf.specs.Attaching.{near};
+ghost use Rattle.jkf.specs.Following.{startAt, countAt, Linked, followed, hangsBy};
 
 // The start of line k; 0 past the table.
 fn start(lines: &[u8], k: usize) -> u64
@@ -23,10 +24,25 @@ fn count(lines: &[u8], k: usize) -> u64
     lent::get16(lines, 8 * k + 4) as u64
 }
 
+// The nearest of k lines whose start is at or below s, found by looking at each in turn; line 0 where there is none.
+pub fn nearest_in_turn(lines: &[u8], k: usize, s: u64) -> usize
+    ensures { λ r. ⌜ r ≡ near (startAt (now (lines .entry))) s k ⌝ }
+{
+    let mut j = k;
+    while 0 < j {
+        j -= 1;
+        if start(lines, j) <= s {
+            return j;
+        }
+    }
+    0
+}
+
 // The first line whose start is at or below s along the parents, from the last of k lines on. All lines between a line and its right
 // parent start above it, so with such parents this is the nearest.   (the Rust's merge_forks finds it by a stack)
 pub fn nearest(lines: &[u8], k: usize, s: u64) -> usize
     ensures { λ r. ⌜ r ≡ followed (now (lines .entry)) s k ⌝ }
+    ensures { λ r. ⌜ (Linked (now (lines .entry)) k → r ≡ near (startAt (now (lines .entry))) s k) ⌝ }
 {
     if k == 0 {
         return 0;

@@ -4,13 +4,14 @@ mod entries;
 
 pub use attaching::hang_of;
 pub use attaching::nearest;
+pub use attaching::nearest_in_turn;
 pub use entries::number_of;
 pub use entries::special_of;
 pub use entries::time_of;
 ghost use mathlib.Core.Path.{_≡_};
 ghost use Rattle.jkf.specs.Answers.{figures, figured};
 
-// What a call of 01 answers: done, with two figures, or one of the 14 refusals.
+// What a call of 01 answers: done, with two figures, or one of the 13 refusals.
 pub enum Answer {
     Done(u64, u64),
     TextTooLong(u64),

@@ -7,6 +7,7 @@ pub mod Fields
 pub mod Hanging
 pub mod Decoded
 pub mod Made
+pub mod Searches
 pub mod Playing
 pub mod Smalling
 pub mod Breaking

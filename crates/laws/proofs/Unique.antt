@@ -33,6 +33,10 @@ equation-one p q = p ∙ sym q
 pub bounded-one : {x y z n : ℕ} → (x ≡ z) × (x < n) → (y ≡ z) × (y < n) → x ≡ y
 bounded-one p q = equation-one (p .0) (q .0)
 
+-- an equation and something more
+pub also-one : {x y z : ℕ} {P Q : Type 0} → (x ≡ z) × P → (y ≡ z) × Q → x ≡ y
+also-one p q = equation-one (p .0) (q .0)
+
 -- a cursor is its place
 pub cursor-one : {n : ℕ} (c d : Cursor) → c .at ≡ n → d .at ≡ n → c ≡ d
 cursor-one c d p q = ap (λ (k : ℕ). record { at = k }) (equation-one p q)

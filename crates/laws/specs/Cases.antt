@@ -123,35 +123,35 @@ Holds o (prints t listed) = listing (readOf t o) ≡ listed
 -- The rows.
 unfoldable pub cases : List Case
 cases =
-    -- what starts later may stand before what starts earlier: both are on the main line
+    -- 1: what starts later may stand before what starts earlier: both are on the main line
     reads (from 5 3 ∷ from 3 1 ∷ []) (hang (on 0 5 ∷ on 0 3 ∷ [])) ∷
-    -- after a line that starts earlier, on that line: its third entry has ply 5
+    -- 2: after a line that starts earlier, on that line: its third entry has ply 5
     reads (from 3 4 ∷ from 5 1 ∷ []) (hang (on 0 3 ∷ on 1 2 ∷ [])) ∷
-    -- after a line that starts at the same ply, on its first entry
+    -- 3: after a line that starts at the same ply, on its first entry
     reads (from 5 1 ∷ from 5 1 ∷ []) (hang (on 0 5 ∷ on 1 0 ∷ [])) ∷
-    -- the nearest line is too short, and no other is looked for: variation 2, ply 5
+    -- 4: the nearest line is too short, and no other is looked for: variation 2, ply 5
     reads (from 3 2 ∷ from 5 1 ∷ []) (refused 6 2 5) ∷
-    -- on the last move
+    -- 5: on the last move
     reads (from 8 1 ∷ []) (hang (on 0 8 ∷ [])) ∷
-    -- and past it
+    -- 6: and past it
     reads (from 9 1 ∷ []) (refused 6 1 9) ∷
-    -- on the slot
+    -- 7: on the slot
     reads (from 0 1 ∷ []) (hang (on 0 0 ∷ [])) ∷
-    -- a put-in stands before the first later line that does not start after it
+    -- 8: a put-in stands before the first later line that does not start after it
     puts (from 5 3 ∷ from 3 1 ∷ []) 0 4 (goesIn 2 (on 0 5 ∷ on 0 4 ∷ on 0 3 ∷ [])) ∷
-    -- where a variation hangs already
+    -- 9: where a variation hangs already
     puts (from 5 3 ∷ from 3 1 ∷ []) 0 5 (refused 13 0 5) ∷
-    -- past the end of the line
+    -- 10: past the end of the line
     puts (from 5 3 ∷ from 3 1 ∷ []) 1 8 (refused 12 1 8) ∷
-    -- a cut takes the run of lines that start no earlier: 3, 5 and 4 go
+    -- 11: a cut takes the run of lines that start no earlier: 3, 5 and 4 go
     cuts (from 3 4 ∷ from 5 1 ∷ from 4 1 ∷ from 2 1 ∷ []) 1 (leaves 3 (2 ∷ [])) ∷
-    -- the largest origin
+    -- 12: the largest origin
     isFrom 255 25 5 ∷
-    -- one more
+    -- 13: one more
     isNoLine 256 ∷
-    -- the largest count
+    -- 14: the largest count
     counts ninetyNine 99 ∷
-    -- the worked example: what is printed of it
+    -- 15: the worked example: what is printed of it
     prints workedText workedListing ∷ []
 
 -- Every row holds, with any lent buffer of 600 bytes or more.

@@ -1,4 +1,4 @@
--- The theorems of put-in and cut. In each, a put-in was done with the figures n and i, or a cut with n and m: the first n bytes of the buffer
+-- The theorems of put-in and cut. In `PutTheorems` a put-in was done with the figures n and i, in `CutTheorems` a cut with n and m: the first n bytes of the buffer
 -- are then the new block, i is the new line's number, m how many lines were cut.                   (01, Put-in and cut)
 -- Assumes nothing: these are definitions.
 use Prim.Native.Nat.{ℕ, _+_, _-_, _≤_, _<_}
@@ -19,7 +19,7 @@ use Rattle.laws.specs.Blocks.{Bytes, frontOf}
 
 -- ---- words
 
--- Line l is line k, or its parent hangs from line k.
+-- Line l is line k, which counts as hanging from itself, or its parent hangs from line k.
 pub data HangsFrom (b : List ℕ) (k : ℕ) : ℕ → Type 0 where
   itself : HangsFrom b k k
   on : {l : ℕ} → 0 < l → l < linesIn b → HangsFrom b k (parentOf b l) → HangsFrom b k l
@@ -47,7 +47,7 @@ pub record PutTheorems (b t o : List ℕ) (k n i : ℕ) : Type 0 where
   -- Line i is the text's line of play, and hangs on line k at the entry whose ply is the text's first number.
   pub put-hangs : (lineOf (decode (putBlock b t o k n) .lines) i ≡ record { start = plyAt t 0; parent = k; entries = entriesAt t 0 .state })
       × (hangs (startOf (putBlock b t o k n)) (entryCount (putBlock b t o k n)) (plyAt t 0) i ≡ On k (plyAt t 0 - startOf b k))
-  -- The cut of line i gives the old block back, byte for byte.
+  -- The cut of line i takes one line out and gives the old block back, byte for byte, where the buffer has room for it.
   pub put-undone : (o′ : List ℕ) → cutOf (putBlock b t o k n) i o′ ≡ editStored b 1 o′
 
 abbrev pub PutHolds : Type 0
@@ -57,8 +57,8 @@ PutHolds = (b t o : List ℕ) → Bytes b → Bytes t → (k n i : ℕ) → putI
 abbrev pub newNumber : List ℕ → List ℕ → ℕ → ℕ
 newNumber b t k = placeOf (playsIn (decode b .lines)) k (plyAt t 0)
 
--- Where 10, 12 and 13 do not refuse, each old line's parent in the list with the new line is the old one, by its new number: so there is no
--- refusal for a parent that changes.                                                               (02, request (ix))
+-- Where 7, 10, 12 and 13 do not refuse, each old line's parent in the list with the new line is the old one, by its new number: so there is
+-- no refusal for a parent that changes. (That each line hangs at all in the new block is said by `put-sound`.)                                                               (02, request (ix))
 abbrev pub ParentsStay : Type 0
 ParentsStay =
     (b t : List ℕ) (k : ℕ) → soundb b ≡ true → k < linesIn b → isPlyOf (startOf b k) (entryCount b k) (plyAt t 0) ≡ true

@@ -1,4 +1,5 @@
 pub mod Blocks
+pub mod Searches
 pub mod Edits
 pub mod Whole
 pub mod Left

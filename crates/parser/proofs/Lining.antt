@@ -20,10 +20,10 @@ use Rattle.jkf.specs.Model.{Noted, Line}
 use Rattle.block.specs.Encode.{table, concat}
 use Rattle.block.proofs.Attached.{attach-length, parent-first}
 use Rattle.filling.specs.Filling.{putEntries, putLineRow}
-use Rattle.filling.specs.inner.Parts.{entryTexts, lineTexts, entryEnds, lineEnds, EntriesFit, Entered, LinesFit, LineFits, Lined}
+use Rattle.filling.specs.inner.Parts.{entryTexts, lineTexts, entryEnds, lineEnds, EntriesFit, Entered, LinesFit, LineFits, Lined, tableFrom}
 use Rattle.filling.specs.declared.Walk.{Walk}
 use Rattle.filling.proofs.Growing.{line}
-use Rattle.filling.proofs.Lines.{rowsIn, lineAt, take-more, lined-none, room-upto, room-for, room-for-none, entries-fit, hang-read, row-lined}
+use Rattle.filling.proofs.Lines.{lineAt, take-more, lined-none, room-upto, room-for, room-for-none, entries-fit, hang-read, row-lined, all-lined}
 use Rattle.plays.specs.Plays.{noted, entriesAt, plyAt, skippedAt, skipsAt, variationsAt, slotAt, pastMain, mainAt, playsAt}
 use Rattle.plays.specs.declared.Reached.{Reached}
 use Rattle.parser.specs.inner.Lines.{mainLine}
@@ -127,9 +127,7 @@ module _ (s : List ℕ) (at : ℕ) (w : Walk) (o₀ : List ℕ) (f : LinesFit (a
       all-filled : o ≡ puts o₀ (lineEnds w) (lineTexts 0 0 (w .bytes) ls)
       all-filled =
           let t : take k ls ≡ ls = take-all k ls (omega (arith, all-done, attach-length ps)) in
-          i .done .filled .bytes ∙ ap (λ (l : List Line). puts o₀ (lineEnds w) (textsOf l)) t
-          ∙ ap (λ (n : ℕ). puts o₀ (lineEnds w) (lineTexts n (w .noted) (w .bytes) ls)) (f .none)
-          ∙ ap (λ (n : ℕ). puts o₀ (lineEnds w) (lineTexts 0 n (w .bytes) ls)) (f .unnoted)
+          all-lined ps w o₀ f (subst (λ (l : List Line). Lined l w v o₀ o) t (i .done))
 
     -- there is one
     module _ (some : length es ≡ 0 → ⊥) where
@@ -193,7 +191,7 @@ module _ (s : List ℕ) (at : ℕ) (w : Walk) (o₀ : List ℕ) (f : LinesFit (a
         some-here : length es ≡ 0 → ⊥
         some-here z = ne (omega (arith, entered .entries, z))
 
-        hang-is : (h : Hang) (start : ℕ) → start ≡ plyAt s (c .at) → h ≡ hangsBy (rowsIn o₁ (w .lines)) start k → hangs (starts ps) (counts ps) (starts ps k) k ≡ h
+        hang-is : (h : Hang) (start : ℕ) → start ≡ plyAt s (c .at) → h ≡ hangsBy (tableFrom o₁ (w .lines)) start k → hangs (starts ps) (counts ps) (starts ps k) k ≡ h
         hang-is h start e y =
             let z : start ≡ plyAt s place = e ∙ ap (plyAt s) p in
             ap (λ (n : ℕ). hangs (starts ps) (counts ps) n k) (start-here some-here ∙ sym z)
@@ -212,7 +210,7 @@ module _ (s : List ℕ) (at : ℕ) (w : Walk) (o₀ : List ℕ) (f : LinesFit (a
             let r = room-at (length o₀) (lineEnds w) (textsOf (take k ls)) 0 (room-upto ps w o₀ f k) (omega arith) in
             (omega (arith, r, next-long), more-left some-here)
 
-        module _ (h : Hang) (start : ℕ) (z : start ≡ plyAt s (c .at)) (y : h ≡ hangsBy (rowsIn o₁ (w .lines)) start k) where
+        module _ (h : Hang) (start : ℕ) (z : start ≡ plyAt s (c .at)) (y : h ≡ hangsBy (tableFrom o₁ (w .lines)) start k) where
           start-is : starts ps k ≡ start
           start-is = start-here some-here ∙ ap (plyAt s) (sym p) ∙ sym z
 

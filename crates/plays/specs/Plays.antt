@@ -31,7 +31,8 @@ entryItem s at =
 unfoldable pub entriesAt : List ℕ → ℕ → Ended (List Noted)
 entriesAt s at = manyFrom (entryItem s) (length s) at
 
--- The number that is printed at a place: a line of play starts at the number of its first move.      (01, Reading rules: a variation)
+-- The number that is printed at a place, 0 where there is none: a line of play starts at the number of its first move.
+-- (01, Reading rules: a variation)
 unfoldable pub plyAt : List ℕ → ℕ → ℕ
 plyAt s at = onNumber (digitsAt 18446744073709551615 s (blanksAt s at)) (λ n c. n) 0
 

@@ -12,7 +12,7 @@ use Rattle.block.specs.Decode.{run, headersIn, linesIn, movesIn, headerIn, star
 use Rattle.block.specs.Sound.{headerBytes, entriesBefore}
 use Rattle.block.specs.PositionBytes.{positionIn}
 use Rattle.filling.specs.Filling.{opening, opened, Grown, putLineRow, putAll, putEntries}
-use Rattle.filling.specs.inner.Parts.{onOpening, putHeaders}
+use Rattle.filling.specs.inner.Parts.{onOpening, putHeaders, tableFrom}
 use Rattle.filling.specs.declared.Sizes.{Sizes}
 use Rattle.filling.specs.declared.Walk.{Walk}
 use Rattle.filling.specs.declared.Opening.{Opening}
@@ -50,10 +50,6 @@ abbrev pub playIn : List ℕ → ℕ → Play
 playIn b k = play (startOf b k) (run (notedIn b) (firstEntry b k) (entryCount b k))
 
 -- ---- lines put one after another
-
--- The rows of a block being filled, from the place where they begin.
-abbrev pub tableFrom : List ℕ → ℕ → List ℕ
-tableFrom o rows = take (length o - rows) (drop rows o)
 
 -- The row of a line whose entries were put between two walks: it is the next after those that stand from a place on, and its parent is the
 -- one that is found along the parents in these.

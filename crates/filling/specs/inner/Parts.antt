@@ -1,18 +1,19 @@
 -- The parts of a block that grow: the texts of their regions, that there is room for them, and that they were filled in.
 -- Assumes nothing: these are definitions.
-use Prim.Native.Nat.{ℕ, _+_, _*_, _≤_, _<_}
+use Prim.Native.Nat.{ℕ, _+_, _*_, _-_, _≤_, _<_}
 use mathlib.Core.Path.{_≡_}
 use mathlib.Core.List.{List, [], _∷_}
-use lib.ListN.{length}
+use lib.ListN.{length, take, drop}
 use Rattle.lent.specs.inner.Regions.{Filled, Room}
 use Rattle.jkf.specs.Model.{Header, Noted, Line}
 use Rattle.block.specs.Encode.{table, headerRow, headerStep, headerText, lineRow, lineStep, entryRow, entryStep, commentRow, commentStep, entriesOf, commentsOf, commentText}
 use Rattle.filling.specs.declared.Walk.{Walk}
 use Rattle.jkf.specs.declared.Answer.{Answer}
+use Rattle.jkf.specs.declared.Position.{Position}
 use Rattle.filling.specs.declared.Sizes.{Sizes}
 use Rattle.filling.specs.declared.Opening.{Opening}
 use Rattle.filling.specs.declared.Opening.the-variants.{Begun, Refused}
-use Rattle.filling.specs.Filling.{Grown, header, putHeader, putAll}
+use Rattle.filling.specs.Filling.{lengthOf, begun, frontPut, Grown, putHeader, putAll}
 
 -- ---- the texts of the regions
 
@@ -129,3 +130,15 @@ onOpening (Refused a) f g = g a
 
 abbrev pub putHeaders : List Header → Walk → List ℕ → Grown
 putHeaders = putAll putHeader
+
+-- A block of these sizes fits, is begun, and its front is filled into what was in the buffer before.
+pub record Opens (version : ℕ) (z : Sizes) (p : Position) (w : Walk) (n : ℕ) (o o₁ : List ℕ) : Type 0 where
+  pub walk : w ≡ begun z
+  pub total : n ≡ lengthOf z
+  pub short : lengthOf z ≤ 65535
+  pub room : lengthOf z ≤ length o
+  pub front : o₁ ≡ frontPut version z p o
+
+-- The rows of a block being filled, from the place where they begin.
+abbrev pub tableFrom : List ℕ → ℕ → List ℕ
+tableFrom o rows = take (length o - rows) (drop rows o)

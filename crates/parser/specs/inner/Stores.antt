@@ -6,8 +6,7 @@ use mathlib.Core.List.{List}
 use lib.ListN.{length, replicate}
 use Rattle.jkf.specs.Attaching.{attach}
 use Rattle.jkf.specs.declared.Position.{Position}
-use Rattle.filling.specs.Filling.{lengthOf, begun, frontPut}
-use Rattle.filling.specs.inner.Parts.{sizesOf}
+use Rattle.filling.specs.inner.Parts.{sizesOf, Opens}
 use Rattle.filling.specs.declared.Sizes.{Sizes}
 use Rattle.filling.specs.declared.Walk.{Walk}
 use Rattle.sorted.specs.Sorted.{kept}
@@ -29,11 +28,6 @@ pub record Prepared (s : List ℕ) (p : Position) (at : ℕ) (hs : List ℕ) : T
 abbrev pub parsedSizes : Parsed → Sizes
 parsedSizes p = sizesOf (p .headers) (attach (p .plays))
 
--- A block that fits is begun, and its front is filled into what was in the buffer before.
-pub record Opened (p : Parsed) (w : Walk) (n : ℕ) (o : List ℕ) : Type 0 where
-  pub before : List ℕ
-  pub walk : w ≡ begun (parsedSizes p)
-  pub total : n ≡ lengthOf (parsedSizes p)
-  pub most : n ≤ 65535
-  pub room : n ≤ length before
-  pub front : o ≡ frontPut 1 (parsedSizes p) (p .position) before
+-- The block of what a text says is begun, whatever was in the buffer before.
+abbrev pub Opened : Parsed → Walk → ℕ → List ℕ → Type 0
+Opened p w n o = (before : List ℕ) × Opens 1 (parsedSizes p) (p .position) w n before o

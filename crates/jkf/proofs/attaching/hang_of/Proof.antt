@@ -13,7 +13,7 @@ start-requires c κs = tt
 
 returns : tie.Need-returns
 unfolding hangsBy
-returns c = rw (← c .before .before .nearest .ensures, ← c .before .start .ensures, lt-leb _ _ (c .if1 .taken))
+returns c = rw (← c .before .before .nearest .ensures .0, ← c .before .start .ensures, lt-leb _ _ (c .if1 .taken))
 
 count-requires : tie.Need-count-requires
 count-requires c κs = tt
@@ -21,12 +21,12 @@ count-requires c κs = tt
 returns-2 : tie.Need-returns-2
 unfolding hangsBy
 returns-2 c =
-    rw (← c .before .before .before .before .nearest .ensures, ← c .before .before .before .start .ensures, ← c .before .count .ensures, le-leb _ _ (c .before .before .if1 .left), lt-ltb _ _ (c .if2 .taken))
+    rw (← c .before .before .before .before .nearest .ensures .0, ← c .before .before .before .start .ensures, ← c .before .count .ensures, le-leb _ _ (c .before .before .if1 .left), lt-ltb _ _ (c .if2 .taken))
 
 returns-3 : tie.Need-returns-3
 unfolding hangsBy
 returns-3 c =
-    rw (← c .before .before .before .before .nearest .ensures, ← c .before .before .before .start .ensures, ← c .before .count .ensures, le-leb _ _ (c .before .before .if1 .left), le-ltb _ _ (c .if2 .left))
+    rw (← c .before .before .before .before .nearest .ensures .0, ← c .before .before .before .start .ensures, ← c .before .count .ensures, le-leb _ _ (c .before .before .if1 .left), le-ltb _ _ (c .if2 .left))
 
 pub hang-of-spec : {M : Type 1} → statement M
 hang-of-spec =

@@ -3,11 +3,13 @@
 use Prim.Native.Nat.{ℕ, suc, _-_, _<_, _*_}
 use native.Mathlib.Omega.{arith}
 use mathlib.Core.Path.{_≡_, sym, ap, _∙_}
+use mathlib.Core.List.{List}
 use lib.ListN.{length}
 use denote.Ref.{now}
 use borrow.Author.Needs.{needs}
-use Rattle.jkf.proofs.Nears.{not-past, follow-here, follow-up, follow-stuck}
-use Rattle.jkf.specs.Following.{follow, followed}
+use Rattle.jkf.proofs.Nears.{not-past, follow-here, follow-up, follow-stuck, followed-near}
+use Rattle.jkf.specs.Attaching.{near}
+use Rattle.jkf.specs.Following.{startAt, Linked, follow, followed}
 use Rattle.jkf.proofs.attaching.nearest.Statement.{statement}
 use Rattle.jkf.proofs.attaching.nearest.Tie as tie
 
@@ -23,11 +25,15 @@ above c =
     let a = c .before .before .before .before .before .args in
     not-past (now (a .lines)) (8 * c .before .before .loop .j) (a .s) (omega (arith, c .before .start .ensures))
 
+-- what is found along the parents is the nearest, where these are right
+both : (lines : List ℕ) (k s : ℕ) {r : ℕ} → r ≡ followed lines s k → (r ≡ followed lines s k) × (Linked lines k → r ≡ near (startAt lines) s k)
+both lines k s e = (e, λ l. e ∙ followed-near l s)
+
 returns : tie.Need-returns Inv-loop μ-loop
 unfolding follow
 returns c =
     let a = c .before .before .args in
-    sym (ap (λ (n : ℕ). follow (now (a .lines)) (a .s) n (a .k - 1)) (c .if1 .taken))
+    both (now (a .lines)) (a .k) (a .s) (sym (ap (λ (n : ℕ). follow (now (a .lines)) (a .s) n (a .k - 1)) (c .if1 .taken)))
 
 sub-j : tie.Need-sub-j Inv-loop μ-loop
 sub-j c = search needs
@@ -53,7 +59,7 @@ get16-requires c κs = tt
 returns-2 : tie.Need-returns-2 Inv-loop μ-loop
 returns-2 c =
     let a = c .before .before .before .before .loop in
-    sym (a .inv .1 ∙ follow-stuck _ _ (a .j) (omega (arith, c .before .before .before .start .ensures)) (omega (arith, c .before .get16 .ensures .0)))
+    both _ _ _ (sym (a .inv .1 ∙ follow-stuck _ _ (a .j) (omega (arith, c .before .before .before .start .ensures)) (omega (arith, c .before .get16 .ensures .0))))
 
 loop-less : tie.Need-loop-less Inv-loop μ-loop
 loop-less c = search needs
@@ -66,7 +72,7 @@ loop-again c =
 returns-3 : tie.Need-returns-3 Inv-loop μ-loop
 returns-3 c =
     let a = c .before .before .loop in
-    sym (a .inv .1 ∙ follow-here _ _ (a .j) (omega (arith, c .before .start .ensures)))
+    both _ _ _ (sym (a .inv .1 ∙ follow-here _ _ (a .j) (omega (arith, c .before .start .ensures))))
 
 pub nearest-spec : {M : Type 1} → statement M
 nearest-spec =
