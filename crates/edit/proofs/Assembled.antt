@@ -27,17 +27,16 @@ use Rattle.block.proofs.Tabling.{length-run, run-snoc, concat-snoc, concat-none
 use Rattle.block.proofs.Lengths.{block-length}
 use Rattle.block.proofs.Within.{key-length, value-length}
 use Rattle.block.proofs.Attached.{attach-length}
-use Rattle.lent.proofs.Regions.{room-at}
-use Rattle.filling.specs.inner.Parts.{lineTexts, lineEnds, LinesFit, Headed, Opens}
-use Rattle.filling.specs.Filling.{unlessRefused, atFront, areSmall, lengthOf, begun, opening, opened, frontPut, Grown, putAll}
+use Rattle.filling.specs.inner.Parts.{Opens}
+use Rattle.filling.specs.Filling.{unlessRefused, atFront, areSmall, lengthOf, opening, opened, Grown, putAll}
 use Rattle.filling.specs.inner.Parts.{sizesOf, onOpening, putHeaders}
 use Rattle.filling.specs.declared.Sizes.{Sizes}
 use Rattle.filling.specs.declared.Walk.{Walk}
 use Rattle.filling.specs.declared.Opening.{Opening}
 use Rattle.filling.specs.declared.Opening.the-variants.{Begun, Refused}
-use Rattle.filling.proofs.Growing.{headers-put, all-then}
+use Rattle.filling.proofs.Growing.{all-then}
 use Rattle.filling.proofs.Putting.{length-is, not-begun, begun-walk, begun-total, opens, refuses, unrefused}
-use Rattle.filling.proofs.Wholes.{headers-fit, lines-fit, block-filled}
+use Rattle.filling.proofs.Wholes.{opened-lines, opened-block}
 use Rattle.plays.specs.inner.Entries.{playEntries}
 use Rattle.edit.specs.inner.Splicing.{relined, linesAfter, recordAfter, Lines, playIn, putPlay, putPlays, entriesAfter, addedSizes, sizesAfter, headersPut, beginning, beginningOf}
 use Rattle.edit.specs.Edit.{playsIn}
@@ -157,10 +156,13 @@ module _ (b : List ℕ) (s : Sound b) (p q : ℕ) (vs : List Play) (within : (p 
 
     -- or begun
     module _ {w : Walk} {n : ℕ} {o₁ : List ℕ} (e : Begun w n ≡ beginning b z o) (f : o₁ ≡ beginningOf b z o) where
-      -- all of its parts have room
+      -- it was opened, and its header entries were put
       record Ready : Type 0 where
-        opened-so : Opens 1 (sizesOf hd ls) start (begun (sizesOf hd ls)) n o (frontPut 1 (sizesOf hd ls) start o)
-        headed : Headed hd (begun (sizesOf hd ls)) w (frontPut 1 (sizesOf hd ls) start o) o₁
+        walk : Walk
+        buffer : List ℕ
+        opens-so : Opens 1 (sizesOf hd ls) start walk n o buffer
+        walk-is : w ≡ putHeaders hd walk buffer .walk
+        buffer-is : o₁ ≡ putHeaders hd walk buffer .buffer
 
       ready : Ready
       unfolding beginning beginningOf
@@ -170,38 +172,25 @@ module _ (b : List ℕ) (s : Sound b) (p q : ℕ) (vs : List Play) (within : (p 
               → o₁ ≡ onOpening r (λ v m. headersPut b v (opened 1 z start o) .buffer) (λ c. opened 1 z start o) → Ready
           go (Refused c) k x y = not-begun x
           go (Begun v m) k x y =
-              let q = opened 1 z start o in
-              let t = subst (λ (c : Sizes). Opens 1 c start v m o q) sized (opens 1 z start o (sym k) refl) in
-              let filled = headers-put hd (headers-fit 1 start hd ls (position-long b) (t .short) o (t .room) q (t .front)) in
-              let walk : w ≡ putHeaders hd (begun (sizesOf hd ls)) q .walk = begun-walk x ∙ ap (λ (c : Walk). putHeaders hd c q .walk) (t .walk) in
-              let buffer : o₁ ≡ putHeaders hd (begun (sizesOf hd ls)) q .buffer = y ∙ ap (λ (c : Walk). putHeaders hd c q .buffer) (t .walk) in
-              let headed₁ : Headed hd (begun (sizesOf hd ls)) w q o₁ =
-              subst (λ (c : Walk). Headed hd (begun (sizesOf hd ls)) c q o₁) (sym walk) (subst (λ (c : List ℕ). Headed hd (begun (sizesOf hd ls)) (putHeaders hd (begun (sizesOf hd ls)) q .walk) q c) (sym buffer) filled) in
+              let t = subst (λ (c : Sizes). Opens 1 c start v m o (opened 1 z start o)) sized (opens 1 z start o (sym k) refl) in
               record {
-                opened-so = record { walk = refl; total = begun-total x ∙ t .total; short = t .short; room = t .room; front = refl };
-                headed = subst (λ (c : List ℕ). Headed hd (begun (sizesOf hd ls)) w c o₁) (t .front) headed₁;
+                walk = v;
+                buffer = opened 1 z start o;
+                opens-so = subst (λ (c : ℕ). Opens 1 (sizesOf hd ls) start v c o (opened 1 z start o)) (sym (begun-total x)) t;
+                walk-is = begun-walk x;
+                buffer-is = y;
               }
-
-      lines-room : LinesFit ls w o₁
-      lines-room =
-          let t = ready .opened-so in
-          lines-fit 1 start hd ls (position-long b) (t .short) o (t .room) (frontPut 1 (sizesOf hd ls) start o) refl w o₁ (ready .headed)
-
-      -- the rows of its lines begin in the buffer
-      pub rows-begin : w .lines ≤ length o₁
-      rows-begin = omega (arith, room-at (length o₁) (lineEnds w) (lineTexts 0 0 (w .bytes) ls) 0 (lines-room .room) (omega arith))
 
       -- and its lines filled in
       pub begun-stored : Lines (linesAfter b p q vs) → {o₂ : List ℕ} → o₂ ≡ putPlays (w .lines) (linesAfter b p q vs) w o₁ .buffer
           → (Done n second ≡ editStored block second o .answer) × (o₂ ≡ editStored block second o .buffer)
       unfolding editStored
       begun-stored still d =
-          let t = ready .opened-so in
+          let t = ready .opens-so in
           let done : Outcome = record { answer = Done (length block) second; buffer = atFront block o } in
           let long : lengthOf (sizesOf hd ls) ≡ length block = ap lengthOf (sym sized) ∙ block-long in
-          let last =
-          block-filled 1 start hd ls (position-long b) (t .short) o (t .room) (frontPut 1 (sizesOf hd ls) start o) refl w o₁ (ready .headed)
-          (d ∙ lines-put (linesAfter b p q vs) w o₁ lines-room still) in
+          let room = opened-lines 1 start hd ls (position-long b) t (ready .walk-is) (ready .buffer-is) in
+          let last = opened-block 1 start hd ls (position-long b) t (ready .walk-is) (ready .buffer-is) (d ∙ lines-put (linesAfter b p q vs) w o₁ room still) in
           let fits = unrefused (length block) o done (omega (arith, long, t .short)) (omega (arith, long, t .room)) in (
             ap (λ (c : ℕ). Done c second) (t .total ∙ long) ∙ ap (λ (c : Outcome). c .answer) (sym fits),
             last ∙ ap₂ _++_ block-is (ap (λ (c : ℕ). drop c o) long) ∙ ap (λ (c : Outcome). c .buffer) (sym fits),

@@ -1,47 +1,33 @@
 -- Lines of play that all hang, put one after another: they are in the block as the attaching rule hangs them.
 -- Assumes nothing.
-use Prim.Native.Nat.{ℕ, _+_, _-_, _/_, _≤_, _<_}
+use Prim.Native.Nat.{ℕ, _+_, _-_, _≤_, _<_}
 use native.Mathlib.Omega.{arith}
 use mathlib.Core.Path.{_≡_, refl, sym, ap, ap₂, _∙_, subst}
 use mathlib.Core.List.{List, [], _∷_}
 use lib.ListN.{length, take, drop, getD, length-drop}
 use lib.Seq.{getD-drop, drop-drop, take-all}
 use Rattle.lent.specs.inner.Regions.{puts}
-use Rattle.jkf.specs.Attaching.{onHang, all, hungFrom, Play, play, playOf, starts, counts, parentIn, attach, allHung}
-use Rattle.jkf.specs.Following.{hangsBy}
+use Rattle.jkf.specs.Attaching.{all, hungFrom, Play, play, playOf, starts, counts, attach, allHung}
 use Rattle.jkf.proofs.Hangings.{hung-front}
 use Rattle.jkf.specs.Model.{Noted, Line}
-use Rattle.block.proofs.Attached.{attach-length}
+use Rattle.block.proofs.Attached.{all-hang, attach-length}
 use Rattle.filling.specs.Filling.{putAll, putEntries}
-use Rattle.filling.specs.inner.Parts.{lineTexts, lineEnds, LinesFit, Lined, tableFrom}
+use Rattle.filling.specs.inner.Parts.{lineTexts, lineEnds, LinesFit, Lined, onHooked}
 use Rattle.filling.specs.declared.Walk.{Walk}
-use Rattle.filling.proofs.Growing.{all-size, noted-size, line-size, entries-stay, row-stays, entries-put}
-use Rattle.filling.proofs.Lines.{lined-none, lined-end, entries-fit, parent-read, row-lined, all-lined}
+use Rattle.filling.specs.declared.Hooked.{Hooked}
+use Rattle.filling.proofs.Growing.{all-size, noted-size, entries-put}
+use Rattle.filling.proofs.Hooking.{row-put, hooked-size}
+use Rattle.filling.proofs.Lines.{lined-none, entries-fit, hooks, row-lined, all-lined}
 use Rattle.filling.specs.Filling.{putNoted}
 use Rattle.edit.specs.inner.Splicing.{Lines, putHung, putPlay, putPlays}
 
 -- ---- a line of play, wherever it is put
 
-module _ (rows : ℕ) (p : Play) (w : Walk) (o : List ℕ) where
-  pub play-size : length (putPlay rows p w o .buffer) ≡ length o
-  unfolding putPlay
-  play-size =
-      let g = putEntries (p .entries) w o in
-      line-size (p .start) (w .entries) (g .walk .entries - w .entries) _ (g .walk) (g .buffer) ∙ all-size putNoted noted-size (p .entries) w o
-
-  pub play-rows : rows ≤ w .lines → rows ≤ putPlay rows p w o .walk .lines
-  unfolding putPlay
-  play-rows h =
-      let g = putEntries (p .entries) w o in
-      omega (arith, entries-stay (p .entries) w o .0, row-stays (p .start) (w .entries) (g .walk .entries - w .entries) (onHang (hangsBy (tableFrom (g .buffer) rows) (p .start) ((g .walk .lines - rows) / 8)) (λ q e. q) 0) (g .walk) (g .buffer))
-
-pub plays-size : (rows : ℕ) (ps : List Play) (w : Walk) (o : List ℕ) → length (putPlays rows ps w o .buffer) ≡ length o
-plays-size rows = all-size (putPlay rows) (play-size rows)
-
-pub plays-rows : (rows : ℕ) (ps : List Play) (w : Walk) (o : List ℕ) → rows ≤ w .lines → rows ≤ putPlays rows ps w o .walk .lines
-unfolding putAll
-plays-rows rows [] w o h = h
-plays-rows rows (p ∷ ps) w o h = plays-rows rows ps (putPlay rows p w o .walk) (putPlay rows p w o .buffer) (play-rows rows p w o h)
+pub play-size : (rows : ℕ) (p : Play) (w : Walk) (o : List ℕ) → length (putPlay rows p w o .buffer) ≡ length o
+unfolding putPlay
+play-size rows p w o =
+    let g = putEntries (p .entries) w o in
+    hooked-size rows (p .start) w (g .walk) (g .buffer) ∙ all-size putNoted noted-size (p .entries) w o
 
 -- as the code puts it: the entries, and then the row
 pub play-made : (rows : ℕ) (p : Play) (w : Walk) (o : List ℕ) {start : ℕ} {es : List Noted} {v r : Walk} {o₁ o₂ : List ℕ} → start ≡ p .start → es ≡ p .entries
@@ -76,11 +62,9 @@ module _ (ps : List Play) (w : Walk) (o₀ : List ℕ) (f : LinesFit (attach ps)
       let o₁ = putEntries es v o .buffer in
       let g = entries-fit ps w o₀ f k few d h in
       let e = entries-put es g in
-      let number : (x .lines - w .lines) / 8 ≡ k = omega (arith, e .lines, lined-end ps w o₀ f k few d) in
-      let parent : onHang (hangsBy (tableFrom o₁ (w .lines)) (starts ps k) ((x .lines - w .lines) / 8)) (λ p e. p) 0 ≡ parentIn ps k =
-      ap (λ (j : ℕ). onHang (hangsBy (tableFrom o₁ (w .lines)) (starts ps k) j) (λ p e. p) 0) number
-      ∙ parent-read ps w o₀ f k few d (l .origin) (hung-to k few) es e g in
-      row-lined ps w o₀ f k few d h e refl parent refl refl
+      let (entry, hook) = hooks ps w o₀ f k few d (l .origin) (hung-to k few) es e g (λ z. all-hang (starts ps) (counts ps) (length ps - 1) (hung-to (length ps) (omega arith)) k z (omega arith)) in
+      let (row, rest) = row-put (w .lines) (starts ps k) v x o₁ (sym hook) refl refl refl in
+      row-lined ps w o₀ f k few d h e refl refl (ap (λ (r : Hooked). onHooked r (λ u. u) x) (sym row)) (sym rest)
 
   -- and so are all from there on
   plays-lined : (qs : List Play) (k : ℕ) {v : Walk} {o : List ℕ} → k ≤ length ps → drop k ps ≡ qs → Lined (take k (attach ps)) w v o₀ o

@@ -1,6 +1,6 @@
 -- Lines one after another: those before line k are in the buffer, and their rows are read back from it to hang line k.
 -- Assumes nothing.
-use Prim.Native.Nat.{ℕ, suc, _+_, _-_, _*_, _≤_, _<_}
+use Prim.Native.Nat.{ℕ, suc, _+_, _-_, _*_, _/_, _≤_, _<_}
 use native.Mathlib.Omega.{arith}
 use mathlib.Core.Path.{_≡_, refl, sym, ap, ap₂, _∙_, subst}
 use mathlib.Core.List.{List, [], _∷_, _++_, append-nil}
@@ -11,10 +11,10 @@ use Rattle.lent.specs.Bytes.{le16}
 use Rattle.lent.specs.Stored.{put}
 use Rattle.lent.specs.inner.Regions.{join, first as next, puts, Room}
 use Rattle.lent.proofs.Regions.{room-front, filled-length, then-fill, then-room, as-texts, filled-at, join-nil, put-none, put-eq, length-put, room-at}
-use Rattle.jkf.specs.Attaching.{near, hangs, onHang, all, hungFrom, Play, playOf, starts, counts, parentIn, attach}
+use Rattle.jkf.specs.Attaching.{near, hangs, all, hungFrom, Play, playOf, starts, counts, parentIn, attach}
 use Rattle.jkf.specs.Following.{startAt, countAt, parentAt, hangsBy, Linked}
-use Rattle.jkf.specs.declared.Hang.{Hang}
-use Rattle.jkf.proofs.Nears.{near-none, near-same, near-before, hangs-followed}
+use Rattle.jkf.specs.declared.Hang.the-variants.{On}
+use Rattle.jkf.proofs.Nears.{near-same, near-before, hangs-followed, Hangs, hangs-on}
 use Rattle.jkf.proofs.Hangings.{hangs-before, hung-front}
 use Rattle.jkf.specs.Model.{Noted, Line}
 use Rattle.block.specs.Formed.{lineOf}
@@ -22,11 +22,12 @@ use Rattle.block.specs.Encode.{table, concat, lineRow, lineStep, entriesOf, com
 use Rattle.block.proofs.Tabling.{table-length, concat-append}
 use Rattle.block.proofs.RowPlaces.{line-wide}
 use Rattle.block.proofs.LineTables.{start-back, count-back, parent-back}
-use Rattle.block.proofs.Attached.{all-hang, no-parent, start-bound, attach-length, attach-entries, attach-line, parent-later}
-use Rattle.filling.specs.Filling.{Grown, putLineRow}
-use Rattle.filling.specs.inner.Parts.{entryTexts, lineTexts, entryEnds, lineEnds, EntriesFit, Entered, LinesFit, LineFits, Lined, tableFrom}
+use Rattle.block.proofs.Attached.{all-hang, start-bound, attach-length, attach-entries, attach-line, parent-first, parent-later}
+use Rattle.filling.specs.Filling.{Grown, putLineRow, tableFrom, hangingOf}
+use Rattle.filling.specs.inner.Parts.{entryTexts, lineTexts, entryEnds, lineEnds, EntriesFit, Entered, LinesFit, LineFits, Lined}
 use Rattle.filling.specs.declared.Walk.{Walk}
 use Rattle.filling.proofs.Texts.{lines-append, entries-both, comments-both, bytes-both}
+use Rattle.filling.proofs.Hooking.{first-hangs, later-hangs}
 use Rattle.filling.proofs.Growing.{line, own-entries, line-fit, line-put}
 
 -- ---- lines after lines
@@ -106,11 +107,6 @@ no-entries : (v : Walk) (o : List ℕ) → Room (length o) (lineEnds v) (lineTex
     → v .noted < 18446744073709551616 → v .bytes < 18446744073709551616 → EntriesFit [] v o
 unfolding table concat
 no-entries v o r a b c = record { entries = omega arith; noted = omega arith; bytes = omega arith; room = r .1 }
-
--- with no line before it a line has no parent
-none-before : (st ct : ℕ → ℕ) (s : ℕ) → onHang (hangs st ct s 0) (λ p e. p) 0 ≡ 0
-unfolding hangs
-none-before st ct s = no-parent s (near st s 0) _ _ (near-none st s)
 
 -- ---- the first k lines of these are in
 
@@ -250,20 +246,25 @@ module _ (ps : List Play) (w : Walk) (o₀ : List ℕ) (f : LinesFit (attach ps)
         hang-read start some =
             hangs-followed linked start ∙ hangs-before (startAt seen) (starts ps) (countAt seen) (counts ps) start start k refl some start-read count-read
 
-        -- and so line k finds its parent; line 0 has none
-        pub parent-read : onHang (hangsBy (tableFrom o₁ (w .lines)) (starts ps k) k) (λ p e. p) 0 ≡ parentIn ps k
-        unfolding parentIn
-        parent-read = go (decLt 0 k)
+        -- as many rows stand before line k
+        pub row-number : k ≡ (x .lines - w .lines) / 8
+        row-number = omega (arith, d .lines, lined-end)
+
+        -- and so line k is hooked on its parent, if it hangs; line 0 has none
+        pub hooks : (0 < k → Hangs (starts ps) (counts ps) k) → (e : ℕ) × (hangingOf (w .lines) (starts ps k) x o₁ ≡ On (parentIn ps k) e)
+        hooks h = go (decLt 0 k)
           where
-            go : Dec (0 < k) → onHang (hangsBy seen (starts ps k) k) (λ p e. p) 0 ≡ onHang (hangs (starts ps) (counts ps) (starts ps k) k) (λ p e. p) 0
-            go (yes z) = ap (λ (r : Hang). onHang r (λ p e. p) 0) (hang-read (starts ps k) z)
+            go : Dec (0 < k) → (e : ℕ) × (hangingOf (w .lines) (starts ps k) x o₁ ≡ On (parentIn ps k) e)
+            go (yes z) =
+                let p = near (starts ps) (starts ps k) k in
+                let e = starts ps k - starts ps p in (
+                  e,
+                  sym (later-hangs (w .lines) (starts ps k) x o₁ row-number (λ q. omega arith)) ∙ hang-read (starts ps k) z ∙ hangs-on (starts ps) (counts ps) k (h z)
+                      ∙ ap (λ (q : ℕ). On q e) (sym (parent-later ps k (h z))),
+                )
             go (no z) =
-                let e : k ≡ 0 = omega arith in
-                ap (λ (r : Hang). onHang r (λ p e. p) 0) (hangs-followed linked (starts ps k))
-                ∙ ap (λ (j : ℕ). onHang (hangs (startAt seen) (countAt seen) (starts ps k) j) (λ p e. p) 0) e
-                ∙ none-before (startAt seen) (countAt seen) (starts ps k)
-                ∙ sym (none-before (starts ps) (counts ps) (starts ps k))
-                ∙ ap (λ (j : ℕ). onHang (hangs (starts ps) (counts ps) (starts ps k) j) (λ p e. p) 0) (sym e)
+                let y : k ≡ 0 = omega arith in
+                (0, sym (first-hangs (w .lines) (starts ps k) x o₁ row-number y) ∙ ap (λ (q : ℕ). On q 0) (sym (ap (parentIn ps) y ∙ parent-first ps)))
 
     -- ---- line k: its entries are in, and its row is put
 

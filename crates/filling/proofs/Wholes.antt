@@ -17,10 +17,10 @@ use Rattle.block.proofs.Tabling.{table-length}
 use Rattle.block.proofs.RowPlaces.{header-wide, line-wide, entry-wide, comment-wide}
 use Rattle.block.proofs.Lengths.{head-length}
 use Rattle.filling.specs.Filling.{lengthOf, begun, headFor, frontPut}
-use Rattle.filling.specs.inner.Parts.{sizesOf}
-use Rattle.filling.specs.inner.Parts.{lineTexts, lineEnds, Headed, HeadersFit, LinesFit}
+use Rattle.filling.specs.inner.Parts.{sizesOf, lineTexts, lineEnds, Headed, HeadersFit, LinesFit, Opens, putHeaders}
 use Rattle.filling.specs.declared.Sizes.{Sizes}
 use Rattle.filling.specs.declared.Walk.{Walk}
+use Rattle.filling.proofs.Growing.{headers-put}
 use Rattle.filling.proofs.Putting.{length-short}
 
 module _ (version : ℕ) (p : Position) (hs : List Header) (ls : List Line) where
@@ -200,3 +200,20 @@ module _ (version : ℕ) (p : Position) (hs : List Header) (ls : List Line) wher
                 let f = as-texts texts-are (then-fill room-steps front-filled last) in
                 let e : length (all texts) ≡ n = omega (arith, all-long, size) in
                 whole (omega (arith, e, fits)) f places-are ∙ ap (λ (k : ℕ). all texts ++ drop k o) e ∙ ap (λ (l : List ℕ). l ++ drop n o) block-is
+
+    -- ---- a block that was opened, and whose header entries were put
+
+    module _ {w₀ w : Walk} {n₀ : ℕ} {o q o₁ : List ℕ} (t : Opens version z p w₀ n₀ o q) (a : w ≡ putHeaders hs w₀ q .walk) (c : o₁ ≡ putHeaders hs w₀ q .buffer) where
+      opened-headers : Headed hs (begun z) w q o₁
+      opened-headers =
+          subst (λ (x : Walk). Headed hs (begun z) x q o₁) (sym (a ∙ ap (λ (x : Walk). putHeaders hs x q .walk) (t .walk)))
+          (subst (λ (l : List ℕ). Headed hs (begun z) (putHeaders hs (begun z) q .walk) q l) (sym (c ∙ ap (λ (x : Walk). putHeaders hs x q .buffer) (t .walk)))
+          (headers-put hs (headers-fit (t .short) o (t .room) q (t .front))))
+
+      -- its lines have room
+      pub opened-lines : LinesFit ls w o₁
+      opened-lines = lines-fit (t .short) o (t .room) q (t .front) w o₁ opened-headers
+
+      -- and with them it is whole
+      pub opened-block : {o₂ : List ℕ} → o₂ ≡ puts o₁ (lineEnds w) (lineTexts 0 0 (w .bytes) ls) → o₂ ≡ encodeFlat version (positionBytes p) hs ls es cs ++ drop n o
+      opened-block = block-filled (t .short) o (t .room) q (t .front) w o₁ opened-headers

@@ -1,15 +1,19 @@
 -- A block being filled: its length, its front, and what one part more makes of it.              (01, The block; Numbers of refusal: 4, 5)
 -- Assumes nothing: these are definitions.
-use Prim.Native.Nat.{ℕ, _+_, _*_, _-_}
+use Prim.Native.Nat.{ℕ, _+_, _*_, _-_, _/_}
 use mathlib.Core.List.{List, [], _∷_, _++_}
 use mathlib.Core.Bool.{Bool, false}
-use lib.ListN.{length, drop}
+use lib.ListN.{length, take, drop}
 use lib.Dec.{eqb, leb, ltb}
 use Rattle.lists.specs.Pick.{pick}
 use Rattle.lent.specs.Bytes.{fitting}
 use Rattle.lent.specs.Stored.{put}
 use Rattle.jkf.specs.Answers.{Outcome, refuse}
 use Rattle.jkf.specs.Model.{Header, Noted}
+use Rattle.jkf.specs.Attaching.{onHang}
+use Rattle.jkf.specs.Following.{hangsBy}
+use Rattle.jkf.specs.declared.Hang.{Hang}
+use Rattle.jkf.specs.declared.Hang.the-variants.{On}
 use Rattle.jkf.specs.declared.Answer.{Answer}
 use Rattle.jkf.specs.declared.Answer.the-variants.{BlockTooLong, BufferShort}
 use Rattle.jkf.specs.declared.Entry.{Entry}
@@ -19,6 +23,8 @@ use Rattle.block.specs.PositionBytes.{positionBytes}
 use Rattle.block.specs.Encode.{headBytes, blockLength, lineBytes, headerRow, commentRow}
 use Rattle.filling.specs.declared.Sizes.{Sizes}
 use Rattle.filling.specs.declared.Walk.{Walk}
+use Rattle.filling.specs.declared.Hooked.{Hooked}
+use Rattle.filling.specs.declared.Hooked.the-variants.{Put, Loose}
 use Rattle.filling.specs.declared.Opening.{Opening}
 use Rattle.filling.specs.declared.Opening.the-variants.{Begun, Refused}
 
@@ -189,6 +195,26 @@ putEntry e first count w o =
     })
     (put o (w .moves) (entryBytes e (pick (eqb count 0) 0 first) count)))
     (grown w o)
+
+-- ---- a line, hung on those before it                                                              (01, Attaching rule)
+
+-- The rows of the lines, from the place where they begin.
+abbrev pub tableFrom : List ℕ → ℕ → List ℕ
+tableFrom o rows = take (length o - rows) (drop rows o)
+
+-- Where the next line hangs: the first on none, told as entry 0 of line 0; any other on a line before it.
+unfoldable pub hangingOf : ℕ → ℕ → Walk → List ℕ → Hang
+hangingOf rows start v o =
+    let k = (v .lines - rows) / 8 in let h = hangsBy (tableFrom o rows) start k in pick (eqb k 0) (On 0 0) h
+
+-- Its row behind them, with the parent that was found; or that it hangs on none.
+unfoldable pub hookedOf : ℕ → ℕ → Walk → Walk → List ℕ → Hooked
+hookedOf rows start w v o =
+    onHang (hangingOf rows start v o) (λ p e. Put (putLineRow start (w .entries) (v .entries - w .entries) p v o .walk)) Loose
+
+unfoldable pub hookedIn : ℕ → ℕ → Walk → Walk → List ℕ → List ℕ
+hookedIn rows start w v o =
+    onHang (hangingOf rows start v o) (λ p e. putLineRow start (w .entries) (v .entries - w .entries) p v o .buffer) o
 
 -- ---- several parts, one after another
 

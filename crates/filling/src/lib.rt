@@ -1,8 +1,10 @@
 // A block being filled: how long it is, its front, and the ends at which its parts grow. Each part is put whole or, where it has no
 // room, not at all.
+mod hangs;
 mod opens;
 mod puts;
 
+pub use hangs::hang_line;
 use jkf::Answer;
 pub use opens::open;
 pub use puts::put_comment;
@@ -36,4 +38,10 @@ pub struct Walk {
 pub enum Opening {
     Begun(Walk, u64),
     Refused(Answer),
+}
+
+// The block with one line more, or that it hangs on none.
+pub enum Hooked {
+    Put(Walk),
+    Loose,
 }

@@ -1,6 +1,6 @@
 -- The parts that were filled in are the block of what the text says; or the first variation that does not hang is told.
 -- Assumes nothing.
-use Prim.Native.Nat.{ℕ, _≤_}
+use Prim.Native.Nat.{ℕ}
 use native.Mathlib.Omega.{arith}
 use mathlib.Core.Path.{_≡_, refl, sym, ap, ap₂, _∙_, subst}
 use mathlib.Core.List.{List, _++_}
@@ -15,15 +15,14 @@ use Rattle.jkf.specs.declared.Answer.the-variants.{Done, NoEntry}
 use Rattle.jkf.specs.Model.{Header, Line}
 use Rattle.block.specs.PositionBytes.{positionBytes}
 use Rattle.block.specs.Encode.{entriesOf, commentsOf, encodeFlat, encode}
-use Rattle.filling.specs.Filling.{atFront, unlessRefused, lengthOf, begun, opening, opened}
+use Rattle.filling.specs.Filling.{atFront, unlessRefused, lengthOf, opening, opened}
 use Rattle.filling.specs.inner.Parts.{putHeaders, Opens}
-use Rattle.filling.specs.inner.Parts.{lineTexts, lineEnds, Headed, LinesFit}
+use Rattle.filling.specs.inner.Parts.{lineTexts, lineEnds, LinesFit}
 use Rattle.filling.specs.declared.Sizes.{Sizes}
 use Rattle.filling.specs.declared.Walk.{Walk}
 use Rattle.filling.specs.declared.Opening.the-variants.{Begun, Refused}
-use Rattle.filling.proofs.Growing.{headers-put}
 use Rattle.filling.proofs.Putting.{opens, refuses, unrefused}
-use Rattle.filling.proofs.Wholes.{front-size, front-rest, headers-fit, lines-fit, block-filled}
+use Rattle.filling.proofs.Wholes.{front-size, front-rest, opened-lines, opened-block}
 use Rattle.plays.specs.Plays.{playsAt}
 use Rattle.parser.specs.inner.Headers.{headersAt}
 use Rattle.parser.specs.inner.Lines.{hanging}
@@ -112,26 +111,17 @@ module _ (s : List ℕ) {p : Position} (c : Cursor) (hs : List ℕ) (f : Prepare
   -- ---- filled
 
   module _ (w : Walk) (n : ℕ) (o : List ℕ) (m : Opened (parse s) w n o) where
-    short : lengthOf (parsedSizes (parse s)) ≤ 65535
-    short = m .1 .short
-
-    room : lengthOf (parsedSizes (parse s)) ≤ length (m .0)
-    room = m .1 .room
-
     module _ (v : Walk) (o₁ : List ℕ) (a : v ≡ putHeaders (headersAt s hs) w o .walk) (b : o₁ ≡ putHeaders (headersAt s hs) w o .buffer) where
-      headed : Headed hd (begun (parsedSizes (parse s))) v o o₁
-      headed =
-          let z = begun (parsedSizes (parse s)) in
-          let a₁ : v ≡ putHeaders hd z o .walk = a ∙ ap₂ (λ (l : List Header) (x : Walk). putHeaders l x o .walk) headers-there (m .1 .walk) in
-          let b₁ : o₁ ≡ putHeaders hd z o .buffer = b ∙ ap₂ (λ (l : List Header) (x : Walk). putHeaders l x o .buffer) headers-there (m .1 .walk) in
-          subst (λ (x : Walk). Headed hd z x o o₁) (sym a₁)
-          (subst (λ (l : List ℕ). Headed hd z (putHeaders hd z o .walk) o l) (sym b₁)
-          (headers-put hd (headers-fit 1 (parse s .position) hd ls position-long short (m .0) room o (m .1 .front))))
+      walk-there : v ≡ putHeaders hd w o .walk
+      walk-there = a ∙ ap (λ (l : List Header). putHeaders l w o .walk) headers-there
+
+      buffer-there : o₁ ≡ putHeaders hd w o .buffer
+      buffer-there = b ∙ ap (λ (l : List Header). putHeaders l w o .buffer) headers-there
 
       pub lines-there : LinesFit (attach (playsAt s (c .at) .state)) v o₁
       lines-there =
           subst (λ (ps : List Play). LinesFit (attach ps) v o₁) (sym plays-there)
-          (lines-fit 1 (parse s .position) hd ls position-long short (m .0) room o (m .1 .front) v o₁ headed)
+          (opened-lines 1 (parse s .position) hd ls position-long (m .1) walk-there buffer-there)
 
       pub all-stored : (h : Hanging) (end : Cursor) {o₂ : List ℕ} → h ≡ hanging (allHung (playsAt s (c .at) .state)) (playsAt s (c .at) .at)
           → (allHung (playsAt s (c .at) .state) ≡ all → o₂ ≡ puts o₁ (lineEnds v) (lineTexts 0 0 (v .bytes) (attach (playsAt s (c .at) .state)))) → h ≡ AllHung end
@@ -140,9 +130,9 @@ module _ (s : List ℕ) {p : Position} (c : Cursor) (hs : List ℕ) (f : Prepare
           let (x, y) = hanging-all (allHung (playsAt s (c .at) .state)) (playsAt s (c .at) .at) end (sym q ∙ e) in
           let k = hung-filled (parse s) o (ap allHung (sym plays-there) ∙ x) in
           let l : length (encode (recordOf (parse s))) ≡ lengthOf (parsedSizes (parse s)) = sym block-long in
-          let z = block-filled 1 (parse s .position) hd ls position-long short (m .0) room o (m .1 .front) v o₁ headed
+          let z = opened-block 1 (parse s .position) hd ls position-long (m .1) walk-there buffer-there
           (g x ∙ ap (λ (ps : List Play). puts o₁ (lineEnds v) (lineTexts 0 0 (v .bytes) (attach ps))) plays-there) in
-          let r = front-rest 1 (parse s .position) hd ls position-long short (m .0) room o (m .1 .front) in (
+          let r = front-rest 1 (parse s .position) hd ls position-long (m .1 .short) (m .0) (m .1 .room) o (m .1 .front) in (
             ap₂ Done (y ∙ taken-there) (m .1 .total ∙ needed-length f) ∙ sym (k .0),
             z ∙ ap₂ _++_ block-is (sym r ∙ ap (λ (j : ℕ). drop j o) block-long) ∙ sym (k .1),
           )

@@ -12,18 +12,18 @@ use Rattle.lent.specs.inner.Regions.{first as next, puts, Filled}
 use Rattle.lent.proofs.Regions.{filled-length, put-none, room-at}
 use Rattle.text.specs.declared.Cursor.{Cursor}
 use Rattle.jkf.specs.Attaching.{hangs, onHang, all, first, hungFrom, Play, play, playOf, starts, counts, parentIn, attach, allHung}
-use Rattle.jkf.specs.Following.{hangsBy}
 use Rattle.jkf.specs.declared.Hang.{Hang}
 use Rattle.jkf.specs.declared.Hang.the-variants.{On, Nowhere}
 use Rattle.jkf.proofs.Hangings.{hung-more, hung-lost}
 use Rattle.jkf.specs.Model.{Noted, Line}
 use Rattle.block.specs.Encode.{table, concat}
 use Rattle.block.proofs.Attached.{attach-length, parent-first}
-use Rattle.filling.specs.Filling.{putEntries, putLineRow}
-use Rattle.filling.specs.inner.Parts.{entryTexts, lineTexts, entryEnds, lineEnds, EntriesFit, Entered, LinesFit, LineFits, Lined, tableFrom}
+use Rattle.filling.specs.Filling.{putEntries, putLineRow, hangingOf}
+use Rattle.filling.specs.inner.Parts.{entryTexts, lineTexts, entryEnds, lineEnds, EntriesFit, Entered, LinesFit, LineFits, Lined}
 use Rattle.filling.specs.declared.Walk.{Walk}
 use Rattle.filling.proofs.Growing.{line}
-use Rattle.filling.proofs.Lines.{lineAt, take-more, lined-none, room-upto, room-for, room-for-none, entries-fit, hang-read, row-lined, all-lined}
+use Rattle.filling.proofs.Hooking.{later-hangs}
+use Rattle.filling.proofs.Lines.{lineAt, take-more, lined-none, room-upto, room-for, room-for-none, entries-fit, hang-read, row-number, row-lined, all-lined}
 use Rattle.plays.specs.Plays.{noted, entriesAt, plyAt, skippedAt, skipsAt, variationsAt, slotAt, pastMain, mainAt, playsAt}
 use Rattle.plays.specs.declared.Reached.{Reached}
 use Rattle.parser.specs.inner.Lines.{mainLine}
@@ -191,11 +191,13 @@ module _ (s : List ℕ) (at : ℕ) (w : Walk) (o₀ : List ℕ) (f : LinesFit (a
         some-here : length es ≡ 0 → ⊥
         some-here z = ne (omega (arith, entered .entries, z))
 
-        hang-is : (h : Hang) (start : ℕ) → start ≡ plyAt s (c .at) → h ≡ hangsBy (tableFrom o₁ (w .lines)) start k → hangs (starts ps) (counts ps) (starts ps k) k ≡ h
+        hang-is : (h : Hang) (start : ℕ) → start ≡ plyAt s (c .at) → hangingOf (w .lines) start (x .walk) o₁ ≡ h → hangs (starts ps) (counts ps) (starts ps k) k ≡ h
         hang-is h start e y =
             let z : start ≡ plyAt s place = e ∙ ap (plyAt s) p in
             ap (λ (n : ℕ). hangs (starts ps) (counts ps) n k) (start-here some-here ∙ sym z)
-            ∙ sym (y ∙ hang-read ps w o₀ f k (i .few) (i .done) origin (i .hung) es entered entries-room start (i .some))
+            ∙ sym (hang-read ps w o₀ f k (i .few) (i .done) origin (i .hung) es entered entries-room start (i .some))
+            ∙ later-hangs (w .lines) start (x .walk) o₁ (row-number ps w o₀ f k (i .few) (i .done) origin (i .hung) es entered entries-room) (λ q. omega (arith, i .some))
+            ∙ y
 
         -- the walk goes on
         pub next-less : (q₂ : Cursor) → q₂ .at ≡ skippedAt s (x .next .at) → (to < q₂ .at) × (q₂ .at ≤ length s)
@@ -210,7 +212,7 @@ module _ (s : List ℕ) (at : ℕ) (w : Walk) (o₀ : List ℕ) (f : LinesFit (a
             let r = room-at (length o₀) (lineEnds w) (textsOf (take k ls)) 0 (room-upto ps w o₀ f k) (omega arith) in
             (omega (arith, r, next-long), more-left some-here)
 
-        module _ (h : Hang) (start : ℕ) (z : start ≡ plyAt s (c .at)) (y : h ≡ hangsBy (tableFrom o₁ (w .lines)) start k) where
+        module _ (h : Hang) (start : ℕ) (z : start ≡ plyAt s (c .at)) (y : hangingOf (w .lines) start (x .walk) o₁ ≡ h) where
           start-is : starts ps k ≡ start
           start-is = start-here some-here ∙ ap (plyAt s) (sym p) ∙ sym z
 

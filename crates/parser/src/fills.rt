@@ -1,7 +1,7 @@
 // All lines of play of a text, filled in, each variation hung where the attaching rule says.   (the Rust's merge_forks)
 use crate::Hanging;
+use filling::Hooked;
 use filling::Walk;
-use jkf::Hang;
 use plays::Reached;
 use text::Cursor;
 ghost use mathlib.Core.Path.{_≡_};
@@ -52,7 +52,7 @@ pub(crate) fn fill_lines(s: &[u8], c: Cursor, w: Walk, out: &mut [u8]) -> Hangin
     let main = fill_main(s, c, w, out);
     let mut walk = main.walk;
     let mut next = main.next;
-    let mut k = 1;
+    let mut k = 1u64;
     loop {
         let at = plays::skips(next, s);
         let line = plays::fill_moves(s, at, walk, out);
@@ -61,11 +61,10 @@ pub(crate) fn fill_lines(s: &[u8], c: Cursor, w: Walk, out: &mut [u8]) -> Hangin
             return Hanging::AllHung(next);
         }
         let start = plays::ply(at, s);
-        let Hang::On(parent, _) = jkf::hang_of(&out[table..], k, start) else {
-            return Hanging::Lost(k as u64, start);
+        let Hooked::Put(u) = filling::hang_line(out, table, start, walk, v) else {
+            return Hanging::Lost(k, start);
         };
-        let count = v.entries - walk.entries;
-        walk = filling::put_line(out, v, start, walk.entries, count, parent);
+        walk = u;
         next = plays::skipped(line.next, s);
         k += 1;
     }

@@ -1,18 +1,17 @@
 -- On the way to an edited block: the lines before line p, new ones, and the lines from line q on; how they are put, and their sizes.
 -- Assumes nothing: these are definitions.
-use Prim.Native.Nat.{ℕ, _+_, _-_, _/_}
+use Prim.Native.Nat.{ℕ, _+_, _-_}
 use mathlib.Core.Path.{_≡_}
 use mathlib.Core.List.{List, _++_}
 use lib.ListN.{length, take, drop}
-use Rattle.jkf.specs.Attaching.{onHang, all, Play, play, starts, attach, allHung}
-use Rattle.jkf.specs.Following.{hangsBy}
+use Rattle.jkf.specs.Attaching.{all, Play, play, starts, attach, allHung}
 use Rattle.jkf.specs.Model.{Noted, Record}
 use Rattle.block.specs.Encode.{commentsOf, commentText}
 use Rattle.block.specs.Decode.{run, headersIn, linesIn, movesIn, headerIn, startOf, firstEntry, entryCount, notedIn, decode}
 use Rattle.block.specs.Sound.{headerBytes, entriesBefore}
 use Rattle.block.specs.PositionBytes.{positionIn}
-use Rattle.filling.specs.Filling.{opening, opened, Grown, putLineRow, putAll, putEntries}
-use Rattle.filling.specs.inner.Parts.{onOpening, putHeaders, tableFrom}
+use Rattle.filling.specs.Filling.{opening, opened, Grown, grown, hookedOf, hookedIn, putAll, putEntries}
+use Rattle.filling.specs.inner.Parts.{onOpening, putHeaders, onHooked}
 use Rattle.filling.specs.declared.Sizes.{Sizes}
 use Rattle.filling.specs.declared.Walk.{Walk}
 use Rattle.filling.specs.declared.Opening.{Opening}
@@ -51,11 +50,9 @@ playIn b k = play (startOf b k) (run (notedIn b) (firstEntry b k) (entryCount b 
 
 -- ---- lines put one after another
 
--- The row of a line whose entries were put between two walks: it is the next after those that stand from a place on, and its parent is the
--- one that is found along the parents in these.
+-- The row of a line whose entries were put between two walks; where the line hangs on none, which is not met, the block is as it was.
 abbrev pub putHung : ℕ → ℕ → Walk → Walk → List ℕ → Grown
-putHung rows start w v o =
-    putLineRow start (w .entries) (v .entries - w .entries) (onHang (hangsBy (tableFrom o rows) start ((v .lines - rows) / 8)) (λ p e. p) 0) v o
+putHung rows start w v o = grown (onHooked (hookedOf rows start w v o) (λ u. u) v) (hookedIn rows start w v o)
 
 -- A line of play: its entries, and then its row.
 unfoldable pub putPlay : ℕ → Play → Walk → List ℕ → Grown

@@ -1,9 +1,9 @@
 -- The parts of a block that grow: the texts of their regions, that there is room for them, and that they were filled in.
 -- Assumes nothing: these are definitions.
-use Prim.Native.Nat.{ℕ, _+_, _*_, _-_, _≤_, _<_}
+use Prim.Native.Nat.{ℕ, _+_, _*_, _≤_, _<_}
 use mathlib.Core.Path.{_≡_}
 use mathlib.Core.List.{List, [], _∷_}
-use lib.ListN.{length, take, drop}
+use lib.ListN.{length}
 use Rattle.lent.specs.inner.Regions.{Filled, Room}
 use Rattle.jkf.specs.Model.{Header, Noted, Line}
 use Rattle.block.specs.Encode.{table, headerRow, headerStep, headerText, lineRow, lineStep, entryRow, entryStep, commentRow, commentStep, entriesOf, commentsOf, commentText}
@@ -11,6 +11,8 @@ use Rattle.filling.specs.declared.Walk.{Walk}
 use Rattle.jkf.specs.declared.Answer.{Answer}
 use Rattle.jkf.specs.declared.Position.{Position}
 use Rattle.filling.specs.declared.Sizes.{Sizes}
+use Rattle.filling.specs.declared.Hooked.{Hooked}
+use Rattle.filling.specs.declared.Hooked.the-variants.{Put, Loose}
 use Rattle.filling.specs.declared.Opening.{Opening}
 use Rattle.filling.specs.declared.Opening.the-variants.{Begun, Refused}
 use Rattle.filling.specs.Filling.{lengthOf, begun, frontPut, Grown, putHeader, putAll}
@@ -128,6 +130,10 @@ abbrev pub onOpening : {A : Type 0} → Opening → (Walk → ℕ → A) → (An
 onOpening (Begun w n) f g = f w n
 onOpening (Refused a) f g = g a
 
+abbrev pub onHooked : {A : Type 0} → Hooked → (Walk → A) → A → A
+onHooked (Put w) f d = f w
+onHooked Loose f d = d
+
 abbrev pub putHeaders : List Header → Walk → List ℕ → Grown
 putHeaders = putAll putHeader
 
@@ -138,7 +144,3 @@ pub record Opens (version : ℕ) (z : Sizes) (p : Position) (w : Walk) (n : ℕ)
   pub short : lengthOf z ≤ 65535
   pub room : lengthOf z ≤ length o
   pub front : o₁ ≡ frontPut version z p o
-
--- The rows of a block being filled, from the place where they begin.
-abbrev pub tableFrom : List ℕ → ℕ → List ℕ
-tableFrom o rows = take (length o - rows) (drop rows o)

@@ -1,13 +1,9 @@
 -- The entries of the line, and then its row (`play-made`).
 -- Assumes nothing.
 use native.Mathlib.Omega.{arith}
-use mathlib.Core.Path.{ap, ap₂, _∙_}
-use lib.ListN.{length}
+use mathlib.Core.Path.{ap₂}
 use denote.Ref.{now}
 use Rattle.block.specs.Decode.{run, notedIn}
-use Rattle.filling.specs.Filling.{putNoted}
-use Rattle.filling.specs.declared.Walk.{Walk}
-use Rattle.filling.proofs.Growing.{all-size, noted-size, entries-stay}
 use Rattle.edit.specs.inner.Splicing.{playIn}
 use Rattle.edit.proofs.Sounds.{entries-within}
 use Rattle.edit.proofs.Hung.{play-made}
@@ -40,15 +36,7 @@ start-of-requires : tie.Need-start-of-requires
 start-of-requires c κs = search needs
 
 put-hung-requires : tie.Need-put-hung-requires
-put-hung-requires c κs =
-    let a = c .before .before .before .before .before .before .before .before .before .before in
-    let e = c .before .before .before .before .copy-entries .ensures in
-    let es = run (notedIn (now (a .args .b))) (c .before .before .before .before .before .before .before .first-entry .result) (c .before .before .before .before .before .before .entry-count .result) in
-    let t = entries-stay es (a .args .w) (now (a .args .out)) in (
-      omega (arith, ap (λ (v : Walk). v .lines) (e .0) ∙ t .0, a .pre .2),
-      omega (arith, ap length (e .1) ∙ all-size putNoted noted-size es (a .args .w) (now (a .args .out)), a .pre .3),
-      omega (arith, ap (λ (v : Walk). v .entries) (e .0), t .1),
-    )
+put-hung-requires c κs = search needs
 
 same-length : tie.Need-same-length
 same-length c = search needs

@@ -1,50 +1,44 @@
--- The parent is the one found in the rows, and the row is put with it.
+-- The row was put, or nothing was.
 -- Assumes nothing.
+use mathlib.Core.Path.{sym, ap, _∙_}
+use Rattle.filling.specs.inner.Parts.{onHooked}
+use Rattle.filling.specs.declared.Hooked.{Hooked}
 use borrow.Author.Needs.{needs}
 use Rattle.edit.proofs.lines.put_hung.Statement.{statement}
 use Rattle.edit.proofs.lines.put_hung.Tie as tie
 use Rattle.edit.proofs.lines.put_hung.Reads as reads
 use Rattle.edit.proofs.lines.put_hung.Lts as lts
-use Rattle.edit.proofs.lines.parent_in.Reads as parent-in-reads
-use Rattle.filling.proofs.put_line.Reads as put-line-reads
+use Rattle.filling.proofs.hang_line.Reads as hang-line-reads
 
-sub-k : tie.Need-sub-k
-sub-k c = search needs
+hang-line-requires : tie.Need-hang-line-requires
+hang-line-requires c κs = search needs
 
-sub-parent-in : tie.Need-sub-parent-in
-sub-parent-in c = search needs
+enum-known-u : tie.Need-enum-known-u
+enum-known-u c = search needs
 
-part-parent-in-start : tie.Need-part-parent-in-start
-part-parent-in-start c = search needs
-
-part-parent-in-end : tie.Need-part-parent-in-end
-part-parent-in-end c = search needs
-
-parent-in-requires : tie.Need-parent-in-requires
-parent-in-requires c κs = search needs
-
-sub-put-line : tie.Need-sub-put-line
-sub-put-line c = search needs
-
-put-line-requires : tie.Need-put-line-requires
-put-line-requires c κs = search needs
+enum-told : tie.Need-enum-told
+enum-told c = search needs
 
 same-length : tie.Need-same-length
 same-length c = search needs
 
 returns : tie.Need-returns
-returns c = rw (← c .before .before .before .before .before .before .parent-in .ensures) (c .before .before .put-line .ensures)
+returns c = let a = c .before .before .before .before .before .before .before .args in (ap (λ (h : Hooked). onHooked h (λ u. u) (a .v)) (sym (c .enum-told .given .1) ∙ c .before .before .before .before .hang-line .ensures .0), c .before .before .before .before .hang-line .ensures .1)
+
+same-length-2 : tie.Need-same-length-2
+same-length-2 c = search needs
+
+returns-2 : tie.Need-returns-2
+returns-2 c = let a = c .before .before .before .before .before .before .before .before .args in (ap (λ (h : Hooked). onHooked h (λ u. u) (a .v)) (sym (c .before .u .given .1) ∙ c .before .before .before .before .before .hang-line .ensures .0), c .before .before .before .before .before .hang-line .ensures .1)
 
 pub put-hung-spec : {M : Type 1} → statement M
 put-hung-spec =
     tie.close
     (tie.spec
-    sub-k
-    sub-parent-in
-    part-parent-in-start
-    part-parent-in-end
-    parent-in-requires
-    sub-put-line
-    put-line-requires
+    hang-line-requires
+    enum-known-u
+    enum-told
     same-length
-    returns)
+    returns
+    same-length-2
+    returns-2)

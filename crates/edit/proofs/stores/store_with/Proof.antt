@@ -1,21 +1,15 @@
 -- The lines before the new one, its own and those after it are put: the block is whole.
 -- Assumes nothing.
-use Prim.Native.Nat.{_≤_}
 use native.Mathlib.Omega.{arith}
 use mathlib.Core.Path.{refl, sym, ap, _∙_}
 use mathlib.Core.List.{[], _∷_}
 use lib.ListN.{length}
 use Rattle.block.specs.Encode.{encode}
-use Rattle.block.specs.Decode.{run}
-use Rattle.filling.specs.Filling.{putNoted}
-use Rattle.filling.specs.declared.Walk.{Walk}
-use Rattle.filling.proofs.Growing.{all-size, noted-size, entries-stay}
-use Rattle.plays.specs.Plays.{entriesAt}
 use Rattle.edit.specs.Edit.{variationOf}
-use Rattle.edit.specs.inner.Splicing.{recordAfter, playIn}
+use Rattle.edit.specs.inner.Splicing.{recordAfter}
 use Rattle.edit.proofs.Measured.{extent-small, added-one}
-use Rattle.edit.proofs.Hung.{play-size, play-rows, plays-size, plays-rows, play-made}
-use Rattle.edit.proofs.Assembled.{rows-begin, begun-stored, refused-stored, stored-size, put-between}
+use Rattle.edit.proofs.Hung.{play-made}
+use Rattle.edit.proofs.Assembled.{begun-stored, refused-stored, stored-size, put-between}
 use borrow.Author.Needs.{needs}
 use Rattle.edit.proofs.stores.store_with.Statement.{statement}
 use Rattle.edit.proofs.stores.store_with.Tie as tie
@@ -37,28 +31,13 @@ enum-known-w : tie.Need-enum-known-w
 enum-known-w c = search needs
 
 copy-lines-requires : tie.Need-copy-lines-requires
-copy-lines-requires c κs =
-    let a = c .before .before .before .before .before .before .before .before .before .before .before in
-    let g = c .before .before .before .before .before .before .begin-edited .ensures in
-    let w = c .before .before .w .given in
-    (a .pre .0 .0, omega (arith, a .pre .0 .1), omega arith, rows-begin (a .args .b .now) (a .pre .0 .0) (a .args .n) (a .args .n) (variationOf (a .args .t .now) ∷ []) (omega arith, a .pre .0 .1) (added-one (a .args .t .now) (a .pre .0 .3)) (g .0) (a .args .n) (a .args .out .now) (sym (w .1) ∙ g .1 .0) (g .1 .1))
+copy-lines-requires c κs = let a = c .before .before .before .before .before .before .before .before .before .before .before in (a .pre .0 .0, omega (arith, a .pre .0 .1))
 
 fill-moves-requires : tie.Need-fill-moves-requires
 fill-moves-requires c κs = search needs
 
 put-hung-requires : tie.Need-put-hung-requires
-put-hung-requires c κs =
-    let a = c .before .before .before .before .before .before .before .before .before .before .before .before .before .before .before .before .before .before .before in
-    let g = c .before .before .before .before .before .before .before .before .before .before .before .before .before .before .begin-edited .ensures in
-    let w = c .before .before .before .before .before .before .before .before .before .before .w .given in
-    let v = c .before .before .before .before .before .before .before .copy-lines in
-    let x = c .before .before .before .fill-moves in
-    let ps = run (playIn (a .args .b .now)) 0 (a .args .n) in
-    let t = entries-stay (entriesAt (a .args .t .now) 0 .state) (v .result) (v .last .1 .1 .1 .1 .1 .0) in (
-      omega (arith, ap (λ (u : Walk). u .lines) (x .ensures .0) ∙ t .0, ap (λ (u : Walk). u .lines) (v .ensures .0), plays-rows (w .0 .0 .lines) ps (w .0 .0) (c .before .before .before .before .before .before .before .before .before .before .before .before .before .before .begin-edited .last .1 .1 .1 .1 .0) (omega arith)),
-      omega (arith, ap length (x .ensures .1 .0) ∙ all-size putNoted noted-size (entriesAt (a .args .t .now) 0 .state) (v .result) (v .last .1 .1 .1 .1 .1 .0), ap length (v .ensures .1) ∙ plays-size (w .0 .0 .lines) ps (w .0 .0) (c .before .before .before .before .before .before .before .before .before .before .before .before .before .before .begin-edited .last .1 .1 .1 .1 .0), rows-begin (a .args .b .now) (a .pre .0 .0) (a .args .n) (a .args .n) (variationOf (a .args .t .now) ∷ []) (omega arith, a .pre .0 .1) (added-one (a .args .t .now) (a .pre .0 .3)) (g .0) (a .args .n) (a .args .out .now) (sym (w .1) ∙ g .1 .0) (g .1 .1)),
-      omega (arith, ap (λ (u : Walk). u .entries) (x .ensures .0), t .1),
-    )
+put-hung-requires c κs = tt
 
 lines-in-requires : tie.Need-lines-in-requires
 lines-in-requires c κs = search needs
@@ -67,22 +46,7 @@ sub-copy-lines : tie.Need-sub-copy-lines
 sub-copy-lines c = omega (arith, c .lines-in .ensures .0, c .before .before .before .before .before .before .before .before .before .before .before .before .before .before .before .before .before .before .before .before .before .before .before .pre .0 .1)
 
 copy-lines-requires-2 : tie.Need-copy-lines-requires-2
-copy-lines-requires-2 c κs =
-    let a = c .before .before .before .before .before .before .before .before .before .before .before .before .before .before .before .before .before .before .before .before .before .before .before .before in
-    let g = c .before .before .before .before .before .before .before .before .before .before .before .before .before .before .before .before .before .before .before .begin-edited .ensures in
-    let w = c .before .before .before .before .before .before .before .before .before .before .before .before .before .before .before .w .given in
-    let v = c .before .before .before .before .before .before .before .before .before .before .before .before .copy-lines in
-    let rows = w .0 .0 .lines in
-    let ps = run (playIn (a .args .b .now)) 0 (a .args .n) in
-    let o = c .before .before .before .before .before .before .before .before .before .before .before .before .before .before .before .before .before .before .before .begin-edited .last .1 .1 .1 .1 .0 in
-    let y = variationOf (a .args .t .now) in
-    let m = play-made (c .before .before .before .before .before .before .before .before .before .before .before .before .before .before .before .w .given .0 .0 .lines) (variationOf (a .args .t .now)) (c .before .before .before .before .before .before .before .before .before .before .before .before .copy-lines .result) (c .before .before .before .before .before .before .before .before .before .before .before .before .copy-lines .last .1 .1 .1 .1 .1 .0) (a .pre .0 .4) refl (c .before .before .before .before .before .before .before .before .fill-moves .ensures .0) (c .before .before .before .before .before .before .before .before .fill-moves .ensures .1 .0) (c .before .before .before .before .put-hung .ensures .0) (c .before .before .before .before .put-hung .ensures .1) in
-    let low : rows ≤ v .result .lines = omega (arith, ap (λ (u : Walk). u .lines) (v .ensures .0), plays-rows rows ps (w .0 .0) o (omega arith)) in (
-      a .pre .0 .0,
-      omega (arith, c .before .lines-in .ensures .0, a .pre .0 .1),
-      omega (arith, ap (λ (u : Walk). u .lines) (m .0), play-rows rows y (v .result) (v .last .1 .1 .1 .1 .1 .0) low),
-      omega (arith, ap length (m .1) ∙ play-size rows y (v .result) (v .last .1 .1 .1 .1 .1 .0), ap length (v .ensures .1) ∙ plays-size rows ps (w .0 .0) o, rows-begin (a .args .b .now) (a .pre .0 .0) (a .args .n) (a .args .n) (variationOf (a .args .t .now) ∷ []) (omega arith, a .pre .0 .1) (added-one (a .args .t .now) (a .pre .0 .3)) (g .0) (a .args .n) (a .args .out .now) (sym (w .1) ∙ g .1 .0) (g .1 .1)),
-    )
+copy-lines-requires-2 c κs = let a = c .before .before .before .before .before .before .before .before .before .before .before .before .before .before .before .before .before .before .before .before .before .before .before .before in (a .pre .0 .0, omega (arith, c .before .lines-in .ensures .0, a .pre .0 .1))
 
 enum-known-a : tie.Need-enum-known-a
 enum-known-a c = search needs

@@ -6,12 +6,9 @@ use mathlib.Core.Path.{sym, ap, _∙_}
 use mathlib.Core.List.{[]}
 use lib.ListN.{length}
 use Rattle.block.specs.Encode.{encode}
-use Rattle.block.specs.Decode.{run}
-use Rattle.filling.specs.declared.Walk.{Walk}
-use Rattle.edit.specs.inner.Splicing.{recordAfter, playIn}
+use Rattle.edit.specs.inner.Splicing.{recordAfter}
 use Rattle.edit.proofs.Measured.{added-none}
-use Rattle.edit.proofs.Hung.{plays-size, plays-rows}
-use Rattle.edit.proofs.Assembled.{rows-begin, begun-stored, refused-stored, stored-size, put-next}
+use Rattle.edit.proofs.Assembled.{begun-stored, refused-stored, stored-size, put-next}
 use borrow.Author.Needs.{needs}
 use Rattle.edit.proofs.stores.store_without.Statement.{statement}
 use Rattle.edit.proofs.stores.store_without.Tie as tie
@@ -31,11 +28,7 @@ enum-known-w : tie.Need-enum-known-w
 enum-known-w c = search needs
 
 copy-lines-requires : tie.Need-copy-lines-requires
-copy-lines-requires c κs =
-    let a = c .before .before .before .before .before .before .before .before .before .before in
-    let g = c .before .before .before .before .before .before .begin-edited .ensures in
-    let w = c .before .before .w .given in
-    (a .pre .0, omega (arith, a .pre .1), omega arith, rows-begin (a .args .b .now) (a .pre .0) (a .args .k) (a .args .k + a .args .n) [] (omega arith, a .pre .1) added-none (g .0) (a .args .n) (a .args .out .now) (sym (w .1) ∙ g .1 .0) (g .1 .1))
+copy-lines-requires c κs = let a = c .before .before .before .before .before .before .before .before .before .before in (a .pre .0, omega (arith, a .pre .1))
 
 lines-in-requires : tie.Need-lines-in-requires
 lines-in-requires c κs = search needs
@@ -44,19 +37,7 @@ sub-copy-lines : tie.Need-sub-copy-lines
 sub-copy-lines c = search needs
 
 copy-lines-requires-2 : tie.Need-copy-lines-requires-2
-copy-lines-requires-2 c κs =
-    let a = c .before .before .before .before .before .before .before .before .before .before .before .before .before .before .before in
-    let g = c .before .before .before .before .before .before .before .before .before .before .before .begin-edited .ensures in
-    let w = c .before .before .before .before .before .before .before .w .given in
-    let v = c .before .before .before .before .copy-lines in
-    let rows = w .0 .0 .lines in
-    let ps = run (playIn (a .args .b .now)) 0 (a .args .k) in
-    let o = c .before .before .before .before .before .before .before .before .before .before .before .begin-edited .last .1 .1 .1 .1 .0 in (
-      a .pre .0,
-      omega (arith, c .before .lines-in .ensures .0, a .pre .1),
-      omega (arith, ap (λ (u : Walk). u .lines) (v .ensures .0), plays-rows rows ps (w .0 .0) o (omega arith)),
-      omega (arith, ap length (v .ensures .1) ∙ plays-size rows ps (w .0 .0) o, rows-begin (a .args .b .now) (a .pre .0) (a .args .k) (a .args .k + a .args .n) [] (omega arith, a .pre .1) added-none (g .0) (a .args .n) (a .args .out .now) (sym (w .1) ∙ g .1 .0) (g .1 .1)),
-    )
+copy-lines-requires-2 c κs = let a = c .before .before .before .before .before .before .before .before .before .before .before .before .before .before .before in (a .pre .0, omega (arith, c .before .lines-in .ensures .0, a .pre .1))
 
 enum-known-a : tie.Need-enum-known-a
 enum-known-a c = search needs
