@@ -31,12 +31,13 @@ void kif_read(const uint8_t *text, size_t text_len, uint8_t *out, size_t out_len
  * Success changes only the text's bytes, and a refusal nothing. */
 void kif_write(const uint8_t *block, size_t block_len, uint8_t *out, size_t out_len, uint64_t *number, uint64_t *first, uint64_t *second);
 
-/* Puts the one variation that a text holds, wholly move lines with comments, into a line of a block, at the ply that its first move is
- * numbered by. The edited block goes into the front of out, which must overlap neither: 0, its length and the new line's number; or, in
+/* Puts the one variation that a text holds, wholly move lines with comments, numbered one by one, into a line of a block, at the ply that
+ * its first move is numbered by. The edited block goes into the front of out, which must overlap neither: 0, its length and the new line's number; or, in
  * this order,
  *   7, 0, 0               where the slice is not just a sound block;
  *   10, line, 0           where it has no such line;
- *   11, 0, 0              where the text is not one variation, is over 65,535 bytes or is not UTF-8;
+ *   11, 0, 0              where the text is not one variation, is over 65,535 bytes or is not UTF-8, or a number in it is not one more
+ *                         than the number before it;
  *   12, line, ply         where the ply is 0 or not one of the line's;
  *   13, line, ply         where a variation hangs there already;
  *   4, length, 0          where the block would be over 65,535 bytes, and this length is needed;

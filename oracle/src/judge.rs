@@ -219,10 +219,13 @@ fn line_numbered(record: &Record, line: u64) -> Option<(usize, &Line)> {
     Some((index, record.lines.get(index)?))
 }
 
-/// Ply and entries of a text that is wholly move lines with comments.
+/// Ply and entries of a text that is wholly move lines with comments, numbered one by one from the first, as 02 (iii) asks.
 fn variation(text: &[u8]) -> Option<(u64, Vec<Entry>)> {
     let text = str::from_utf8(text).ok().filter(|text| text.len() <= LIMIT)?;
     let (rest, moves) = read_moves(text).ok()?;
+    if moves.windows(2).any(|pair| pair[0].0.checked_add(1) != Some(pair[1].0)) {
+        return None;
+    }
     let entries = moves.iter().map(|(_, entry): &(usize, MoveFormat)| translate::entry(entry)).collect();
     rest.is_empty().then_some((moves[0].0 as u64, entries))
 }

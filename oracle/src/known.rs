@@ -207,6 +207,10 @@ fn orders() {
     assert_eq!(put_in(&block, 9, b""), (10, 9, 0));
     assert_eq!(put_in(&block, 0, &long(b"9")), (11, 0, 0));
     assert_eq!(put_in(&block, 0, "9同歩打\nx\n".as_bytes()), (11, 0, 0));
+    for numbers in ["4 6", "4 5 7", "4 4", "4 5 5", "4 3", "18446744073709551615 0"] {
+        let text: String = numbers.split(' ').map(|number| format!("{number}同歩打\n")).collect();
+        assert_eq!(put_in(&block, 0, text.as_bytes()), (11, 0, 0), "{numbers}");
+    }
     assert_eq!(put_in(&block, 0, filling.replace('5', "0").as_bytes()), (12, 0, 0));
     assert_eq!(put_in(&block, 0, filling.as_bytes()), (13, 0, 5));
     assert_eq!(put_in(&block, 0, filling.replace('5', "4").as_bytes()).0, 4);

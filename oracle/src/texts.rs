@@ -57,11 +57,16 @@ pub fn numbered(r: &mut Rng) -> Vec<u8> {
     maker.text.into_bytes()
 }
 
-/// A variation to put in, mostly at this ply and mostly well formed.
+/// A variation to put in, mostly at this ply and mostly well formed; of one in eight a number is not one more than the one before.
 pub fn variation(r: &mut Rng, ply: u64) -> Vec<u8> {
     let mut maker = Maker::new(r);
     let moves = 1 + maker.r.below(4);
-    maker.moves(ply, moves);
+    let mut numbers: Vec<u64> = (0..moves as u64).map(|k| ply.wrapping_add(k)).collect();
+    if maker.r.one_in(8) {
+        let at = maker.r.below(moves);
+        numbers[at] = maker.stray_number(numbers[at]);
+    }
+    maker.numbered(&numbers);
     match maker.r.below(40) {
         0 => maker.line("変化：2手"),
         1 => maker.skip_line(),
@@ -371,9 +376,26 @@ impl<'a> Maker<'a> {
         lines.push((start, moves as u64));
     }
 
+    /// A number that may not follow: off by one or two either way, far off, or the largest.
+    fn stray_number(&mut self, number: u64) -> u64 {
+        match self.r.below(6) {
+            0 => u64::MAX,
+            1 => self.r.next(),
+            2 => number.wrapping_add(2),
+            3 => number.wrapping_sub(2),
+            4 => number.wrapping_sub(1),
+            _ => number.wrapping_add(1),
+        }
+    }
+
     /// Move lines with comments, numbered from this ply on.
     fn moves(&mut self, start: u64, count: usize) {
-        for ply in start..start + count as u64 {
+        self.numbered(&(start..start + count as u64).collect::<Vec<_>>());
+    }
+
+    /// Move lines with comments, numbered so.
+    fn numbered(&mut self, numbers: &[u64]) {
+        for &ply in numbers {
             self.blanks();
             self.number(ply);
             self.blanks();

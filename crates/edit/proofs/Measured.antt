@@ -2,20 +2,21 @@
 -- Assumes nothing.
 use Prim.Native.Nat.{ℕ, _+_, _-_, _≤_}
 use native.Mathlib.Omega.{arith}
-use mathlib.Core.Path.{_≡_, refl, ap}
+use mathlib.Core.Path.{_≡_, refl, ap, _∙_}
 use mathlib.Core.List.{List, [], _∷_, _++_, append-nil}
 use lib.ListN.{length, length-append}
+use Rattle.lists.specs.Repeat.{Ended}
 use Rattle.jkf.specs.Model.{Noted}
 use Rattle.block.specs.Encode.{concat, commentsOf, commentText}
 use Rattle.block.specs.Decode.{headersIn, linesIn, movesIn}
 use Rattle.block.specs.Sound.{headerBytes, entriesBefore}
 use Rattle.filling.specs.declared.Sizes.{Sizes}
 use Rattle.filling.proofs.Texts.{commented, written}
-use Rattle.plays.specs.Plays.{entriesAt}
-use Rattle.plays.specs.Counted.{extentAt}
+use Rattle.plays.specs.Plays.{entriesAt, sequenceAt, plyAt}
+use Rattle.plays.specs.Counted.{extentAt, extentOf}
 use Rattle.plays.specs.declared.Extent.{Extent}
 use Rattle.edit.specs.Edit.{variationOf}
-use Rattle.edit.specs.inner.Splicing.{commentsWithin, bytesWithin, addedSizes, sizesAfter}
+use Rattle.edit.specs.inner.Splicing.{numberedIn, commentsWithin, bytesWithin, addedSizes, sizesAfter}
 use Rattle.edit.proofs.Texts.{text-small}
 
 -- ---- three lists of entries, one after the other
@@ -33,30 +34,32 @@ module _ (xs ys zs : List Noted) where
 
 -- ---- the text's, as they were counted
 
-module _ {x : Extent} (t : List ℕ) (is : x ≡ extentAt t 0) where
-  abbrev own : List Noted
-  own = entriesAt t 0 .state
-
-  pub entries-are : x .entries ≡ length own
-  unfolding extentAt
+module _ {x : Extent} (r : Ended (List Noted)) (is : x ≡ extentOf r) where
+  pub entries-are : x .entries ≡ length (r .state)
+  unfolding extentOf
   entries-are = ap (λ (y : Extent). y .entries) is
 
-  comments-are : x .comments ≡ length (commentsOf own)
-  unfolding extentAt
+  comments-are : x .comments ≡ length (commentsOf (r .state))
+  unfolding extentOf
   comments-are = ap (λ (y : Extent). y .comments) is
 
-  bytes-are : x .bytes ≡ length (commentText (commentsOf own))
-  unfolding extentAt
+  bytes-are : x .bytes ≡ length (commentText (commentsOf (r .state)))
+  unfolding extentOf
   bytes-are = ap (λ (y : Extent). y .bytes) is
 
-  pub end-is : x .next .at ≡ entriesAt t 0 .at
-  unfolding extentAt
+  pub end-is : x .next .at ≡ r .at
+  unfolding extentOf
   end-is = ap (λ (y : Extent). y .next .at) is
+
+-- what was counted from the number that was read on
+pub counted : (t : List ℕ) {j : ℕ} {x : Extent} → j ≡ plyAt t 0 → x ≡ extentOf (sequenceAt j t 0) → x ≡ extentOf (numberedIn t)
+counted t p e = e ∙ ap (λ (n : ℕ). extentOf (sequenceAt n t 0)) p
 
 pub extent-small : (t : List ℕ) (x : Extent) → x ≡ extentAt t 0 → length t ≤ 65535 → (x .entries ≤ 65535) × (x .comments ≤ 65535) × (x .bytes ≤ 65535)
 extent-small t x is h =
     let a = text-small t h in
-    (omega (arith, a .0, entries-are t is), omega (arith, a .1, comments-are t is), omega (arith, a .2, bytes-are t is))
+    let r = entriesAt t 0 in
+    (omega (arith, a .0, entries-are r is), omega (arith, a .1, comments-are r is), omega (arith, a .2, bytes-are r is))
 
 -- the line of a text, counted
 pub added-one : (t : List ℕ) {x : Extent} → x ≡ extentAt t 0
@@ -64,7 +67,7 @@ pub added-one : (t : List ℕ) {x : Extent} → x ≡ extentAt t 0
 unfolding concat
 added-one t {x} e =
     let own : entriesAt t 0 .state ++ [] ≡ entriesAt t 0 .state = append-nil (entriesAt t 0 .state) in
-    rw (entries-are t e, comments-are t e, bytes-are t e, own)
+    let r = entriesAt t 0 in rw (entries-are r e, comments-are r e, bytes-are r e, own)
 
 -- no line, counted
 pub added-none : record { headers = 0; lines = 0; entries = 0; comments = 0; bytes = 0 } ≡ addedSizes []

@@ -11,7 +11,7 @@ use Rattle.jkf.specs.declared.Answer.{Answer}
 use Rattle.jkf.specs.declared.Answer.the-variants.{NoSuchPart, NotOneVariation, OutsideLine, EntryTaken}
 use Rattle.jkf.specs.Model.{Line, Record}
 use Rattle.jkf.specs.Attaching.{Play, play, starts, counts, attach}
-use Rattle.plays.specs.Plays.{entriesAt, plyAt}
+use Rattle.plays.specs.Plays.{entriesAt, numbersAt, inSequence, plyAt}
 
 -- ---- the lines afresh
 
@@ -39,14 +39,19 @@ pub data Edited : Type 0 where
 
 -- ---- put-in: the text
 
--- One variation: not too long, UTF-8, and to the last byte move lines with their comments, at least one. (01, Numbers of refusal: 11)
+-- The numbers that are printed in a text go up by one, from the first to the last.                     (02, request (iii))
+abbrev pub isNumbered : List ℕ → Bool
+isNumbered t = eqb (inSequence (plyAt t 0) (numbersAt t 0)) (length (entriesAt t 0 .state))
+
+-- One variation: not too long, UTF-8, and to the last byte move lines with their comments, at least one, each numbered one more than the
+-- one before it.                                                          (01, Numbers of refusal: 11; 02, request (iii))
 unfoldable pub isVariation : List ℕ → Bool
 isVariation t =
     pick (ltb 65535 (length t))
     false
     (pick (eqb (length (entriesAt t 0 .state)) 0)
     false
-    (pick (eqb (entriesAt t 0 .at) (length t)) (eqb (wellFormedBytes t) (length t)) false))
+    (pick (eqb (entriesAt t 0 .at) (length t)) (pick (isNumbered t) (eqb (wellFormedBytes t) (length t)) false) false))
 
 -- The line of play of a text: its first printed number is the ply that it starts at.
 abbrev pub variationOf : List ℕ → Play

@@ -8,12 +8,12 @@ ghost use mathlib.Core.Bool.{false};
 ghost use Rattle.lists.specs.Pick.{pick};
 ghost use Rattle.block.specs.Decode.{linesIn, startOf, parentOf, decode};
 ghost use Rattle.block.specs.inner.Sounds.{Sound};
-ghost use Rattle.plays.specs.Plays.{entriesAt};
 ghost use Rattle.edit.specs.Edit.{playsIn, isVariation, isPlyOf, carries, placeOf, removedFrom};
+ghost use Rattle.edit.specs.inner.Splicing.{numberedIn};
 
-// Whether a text is one variation, of which so many entries were counted up to this end.
+// Whether a text is one variation, of which so many entries, numbered one by one, were counted up to this end.
 pub(crate) fn is_variation(t: &[u8], entries: usize, end: usize) -> bool
-    requires { ⌜ (entries ≡ length (entriesAt (now t) 0 .state)) × (end ≡ entriesAt (now t) 0 .at) ⌝ }
+    requires { ⌜ (entries ≡ length (numberedIn (now t) .state)) × (end ≡ numberedIn (now t) .at) ⌝ }
     ensures { λ r. ⌜ r ≡ isVariation (now (t .entry)) ⌝ }
 {
     if 65535 < t.len() {

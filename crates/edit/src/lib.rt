@@ -19,6 +19,7 @@ ghost use mathlib.Core.Bool.{true};
 ghost use Prim.Native.Nat.{_<_};
 ghost use Rattle.block.specs.Decode.{linesIn, decode};
 ghost use Rattle.block.specs.inner.Sounds.{Sound};
+ghost use Rattle.plays.specs.Plays.{plyAt};
 ghost use Rattle.plays.specs.Counted.{extentAt};
 ghost use Rattle.edit.specs.Edit.{isVariation, variationOf, insertOn, insert, remove};
 ghost use Rattle.edit.specs.Outcomes.{editedOf, putInOf, cutOf};
@@ -29,13 +30,12 @@ pub(crate) struct Comments {
     pub bytes: usize,
 }
 
-// On line k, where its ply is.
-fn insert_on(b: &[u8], k: usize, t: &[u8], x: Extent, out: &mut [u8]) -> Answer
-    requires { ⌜ Sound (now b) × (k < linesIn (now b)) × (isVariation (now t) ≡ true) × (x ≡ extentAt (now t) 0) ⌝ }
+// On line k, where its ply j is.
+fn insert_on(b: &[u8], k: usize, t: &[u8], j: u64, x: Extent, out: &mut [u8]) -> Answer
+    requires { ⌜ Sound (now b) × (k < linesIn (now b)) × (isVariation (now t) ≡ true) × (j ≡ plyAt (now t) 0) × (x ≡ extentAt (now t) 0) ⌝ }
     ensures { λ r. ⌜ r ≡ editedOf (insertOn (decode (now (b .entry))) k (variationOf (now (t .entry)))) (now (out .entry)) .answer ⌝ }
     ensures { λ r. ⌜ now (out .exit) ≡ editedOf (insertOn (decode (now (b .entry))) k (variationOf (now (t .entry)))) (now (out .entry)) .buffer ⌝ }
 {
-    let j = plays::ply(Cursor { at: 0 }, t);
     if !is_ply_of(b, k, j) {
         return Answer::OutsideLine(k as u64, j);
     }
@@ -54,11 +54,13 @@ fn insert(b: &[u8], line: u64, t: &[u8], out: &mut [u8]) -> Answer
     if block::lines_in(b) as u64 <= line {
         return Answer::NoSuchPart(line);
     }
-    let x = plays::count_moves(Cursor { at: 0 }, t);
+    let start = Cursor { at: 0 };
+    let j = plays::ply(start, t);
+    let x = plays::count_sequence(start, t, j);
     if !is_variation(t, x.entries, x.next.at) {
         return Answer::NotOneVariation;
     }
-    insert_on(b, line as usize, t, x, out)
+    insert_on(b, line as usize, t, j, x, out)
 }
 
 // Puts one variation into a block: the block that the attaching rule makes afresh goes into the front of a lent buffer.

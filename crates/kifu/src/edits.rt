@@ -1,7 +1,11 @@
 // Edits of a block, into a buffer that is as long as a block can be.
 use crate::files;
+use crate::notes;
 use crate::refusals;
 use jkf::Figures;
+use libc::STDERR_FILENO;
+use moves::MoveLine;
+use text::Cursor;
 
 // How long the edited block is, or that there is none.
 pub enum Edited {
@@ -23,6 +27,43 @@ pub(crate) fn cut(name: &[u8], b: &[u8], line: u64, out: &mut [u8]) -> Edited {
     made(name, jkf::figures_of(edit::cut(b, line, out)))
 }
 
+// The number that was expected where so many entries follow a first one; the last number of 64 bits has none after it.
+fn say_expected(first: u64, count: u64) -> bool {
+    if u64::MAX - first < count {
+        return io::write_all(STDERR_FILENO, b", and no number is above the one before it");
+    }
+    notes::say(STDERR_FILENO, b", where ", first + count, b" is expected")
+}
+
+// Says at which line of a text its numbers do not go up by one; and whether they do not.
+fn tell_stray(name: &[u8], text: &[u8]) -> bool {
+    let start = Cursor { at: 0 };
+    let first = plays::ply(start, text);
+    let x = plays::count_sequence(start, text, first);
+    let MoveLine::Numbered(number, _, _) = moves::move_line(x.next, text) else {
+        return false;
+    };
+    notes::say_name(b"kifu: refused: ", name);
+    let line = notes::line_at(text, x.next.at);
+    notes::say_two(
+        STDERR_FILENO,
+        b"line ",
+        line,
+        b": the move is numbered ",
+        number,
+        b"",
+    );
+    say_expected(first, x.entries as u64);
+    io::write_all(STDERR_FILENO, b" (refusal 11)\n")
+}
+
+// Why a text is not one variation.
+fn tell_text(name: &[u8], text: &[u8], f: Figures) {
+    if !tell_stray(name, text) {
+        refusals::tell(name, f);
+    }
+}
+
 // With the variation of a text. Refusal 11 is about that text's file, all others about the block's.
 fn put_text(
     name: &[u8],
@@ -34,7 +75,8 @@ fn put_text(
 ) -> Edited {
     let f = jkf::figures_of(edit::put_in(b, line, text, out));
     if f.number == 11 {
-        return made(variation, f);
+        tell_text(variation, text, f);
+        return Edited::Refused;
     }
     made(name, f)
 }

@@ -37,3 +37,19 @@ pub(crate) fn tell(name: &[u8], what: &[u8], n: u64) {
     say_name(b"kifu: note: ", name);
     say(STDERR_FILENO, what, n, b"\n");
 }
+
+// The number of the line that a place stands in, from 1.
+pub(crate) fn line_at(text: &[u8], at: usize) -> u64 {
+    let mut line = 1;
+    let mut i = 0;
+    while i < text.len() {
+        if i == at {
+            return line;
+        }
+        if text[i] == b'\n' {
+            line += 1;
+        }
+        i += 1;
+    }
+    line
+}

@@ -21,6 +21,7 @@ pub mod Records
 pub mod ReadPlays
 pub mod ReadHeaders
 pub mod Keeps
+pub mod Colors
 pub mod Blocks
 pub mod Modes
 pub mod ByHand

@@ -110,6 +110,7 @@ module _ (b : List ℕ) (k : ℕ) (t : List ℕ) where
 pub record PutDone (b : List ℕ) (k : ℕ) (t : List ℕ) (after : List ℕ) (i : ℕ) : Type 0 where
   pub sound : Sound b
   pub put : PutsIn (playsIn (decode b .lines)) k (plyAt t 0)
+  pub text : isVariation t ≡ true
   pub place : i ≡ putPlace b k t
   pub formed : Formed (relined (decode b) (putLines b k t))
   pub front : after ≡ encode (relined (decode b) (putLines b k t))
@@ -133,6 +134,7 @@ put-done b t o bs ts k n i =
         record {
           sound = s;
           put = ok;
+          text = v;
           place = p;
           formed = relined-formed b s bs (putLines b k t) (still-lines ps k (variationOf t) ok) stand short;
           front = front;

@@ -11,12 +11,12 @@ use Rattle.block.specs.Decode.{run}
 use Rattle.parser.proofs.Alls.{all-append, all-concat}
 
 module _ {A : Type 0} {P : A → Type 0} where
-  all-take : {l : List A} (n : ℕ) → All P l → All P (take n l)
+  pub all-take : {l : List A} (n : ℕ) → All P l → All P (take n l)
   all-take zero h = none
   all-take (suc n) none = none
   all-take (suc n) (next p h) = next p (all-take n h)
 
-  all-drop : {l : List A} (n : ℕ) → All P l → All P (drop n l)
+  pub all-drop : {l : List A} (n : ℕ) → All P l → All P (drop n l)
   all-drop zero h = h
   all-drop (suc n) none = none
   all-drop (suc n) (next p h) = all-drop n h

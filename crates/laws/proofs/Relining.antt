@@ -263,15 +263,15 @@ module _ (b : List ℕ) (s : Sound b) (u : Bytes b) where
 
 pub text-line : (t : List ℕ) → Bytes t → isVariation t ≡ true → Side (variationOf t)
 text-line t u v =
-    let (_, some, w) = variation-says t v in
+    let said = variation-says t v in
     record {
-      some = omega (arith, some);
+      some = omega (arith, said .some);
       each =
           entries-all t Later (λ at n e c q.
           let f = line-is (move-line-fits t at) q .entry in (
             record {
               row = λ m. bytes-from _ (entry-bytes-small e f _ _);
-              valids = comments-all t (λ c. claim (valid c)) (λ at from to end q. remark-well t at from to end w q) (c .at);
+              valids = comments-all t (λ c. claim (valid c)) (λ at from to end q. remark-well t at from to end (said .formed) q) (c .at);
               texts = comments-all t AllBytes (λ at from to end q. bytes-take (to .at - from .at) (bytes-drop (from .at) (bytes-from t u))) (c .at);
             },
             later-kind 0 e f,

@@ -31,24 +31,44 @@ use Rattle.laws.specs.Modes.{Mode, whole, textIn, leftIn, AllWritten, By
 
 -- ---- a record once read, then written
 
--- The blocks of which reading back is promised: one that the reader answered, and what a later put-in or cut answered of such a block.
+-- An edit of a block that was done: a variation put in by its text, or a line cut out.
+pub data EditOf (b : List ℕ) : List ℕ → Type 0 where
+  put : (k : ℕ) (t o : List ℕ) (n i : ℕ) → Bytes t → putInOf b k t o .answer ≡ Done n i → EditOf b (frontOf n (putInOf b k t o))
+  cut : (k : ℕ) (o : List ℕ) (n m : ℕ) → cutOf b k o .answer ≡ Done n m → EditOf b (frontOf n (cutOf b k o))
+
+-- Any number of edits, one after the other.
+pub data EditsOf (b : List ℕ) : List ℕ → Type 0 where
+  none : EditsOf b b
+  then : {c d : List ℕ} → EditsOf b c → EditOf c d → EditsOf b d
+
+-- The blocks of which reading back is promised: one that the reader answered, and what an edit made of such a block.
 pub data OnceRead : List ℕ → Type 0 where
   read : (s o : List ℕ) (t n : ℕ) → Bytes s → readOf s o .answer ≡ Done t n → OnceRead (frontOf n (readOf s o))
-  put : (b : List ℕ) (k : ℕ) (t o : List ℕ) (n i : ℕ) → OnceRead b → Bytes t → putInOf b k t o .answer ≡ Done n i → OnceRead (frontOf n (putInOf b k t o))
-  cut : (b : List ℕ) (k : ℕ) (o : List ℕ) (n m : ℕ) → OnceRead b → cutOf b k o .answer ≡ Done n m → OnceRead (frontOf n (cutOf b k o))
+  then : {b c : List ℕ} → OnceRead b → EditOf b c → OnceRead c
 
 -- A reading that takes n bytes and finds r in them: the block of r at the front of the lent buffer, and the rest as it was.
 abbrev pub readInto : ℕ → Record → List ℕ → Outcome
 readInto n r o = record { answer = Done n (length (encode r)); buffer = encode r ++ drop (length (encode r)) o }
 
--- Where the colours of such a block follow their plies, and `write` is done with a text of at most 65,535 bytes, `read` takes all of that text
--- and answers the block of what the text leaves of the record, for every buffer that has room for it; and that block holds what is left.
-abbrev pub ReadsBack : Type 0
-ReadsBack =
-    (b : List ℕ) → OnceRead b → ColorsFollow (decode b)
-    → (o : List ℕ) (n l : ℕ) → writeOf b o .answer ≡ Done n l → n ≤ 65535
+-- Where `write` is done with a text of at most 65,535 bytes, `read` takes all of that text and answers the block of what the text leaves of the
+-- record, for every buffer that has room for it; and that block holds what is left.
+abbrev pub TextReadsBack : List ℕ → Type 0
+TextReadsBack b =
+    (o : List ℕ) (n l : ℕ) → writeOf b o .answer ≡ Done n l → n ≤ 65535
     → (o′ : List ℕ) → length (encode (left (decode b))) ≤ length o′
     → (readOf (frontOf n (writeOf b o)) o′ ≡ readInto n (left (decode b)) o′) × (decode (encode (left (decode b))) ≡ left (decode b))
+
+-- So for each block that was once read and in which the colours follow their plies.
+abbrev pub ReadsBack : Type 0
+ReadsBack = (b : List ℕ) → OnceRead b → ColorsFollow (decode b) → TextReadsBack b
+
+-- Where each colour follows its ply, it does so after any number of edits.                            (02, request (iii))
+abbrev pub ColorsStay : Type 0
+ColorsStay = (b c : List ℕ) → Bytes b → EditsOf b c → ColorsFollow (decode b) → ColorsFollow (decode c)
+
+-- So for edits of a record that was read nothing more is asked than of the record itself.             (02, request (iii))
+abbrev pub EditsReadBack : Type 0
+EditsReadBack = (b c : List ℕ) → OnceRead b → ColorsFollow (decode b) → EditsOf b c → TextReadsBack c
 
 -- Nothing more is lost the second time, and the text is then the same.
 abbrev pub LosesOnce : Type 0

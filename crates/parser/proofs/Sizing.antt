@@ -14,7 +14,7 @@ use Rattle.jkf.specs.Attaching.{Play, play}
 use Rattle.block.specs.Encode.{concat, commentsOf, commentText}
 use Rattle.filling.proofs.Texts.{commented, written}
 use Rattle.plays.specs.Plays.{noted, entriesAt, plyAt, skippedAt, skipsAt, variationsAt, slotAt, pastMain, mainAt, playsAt}
-use Rattle.plays.specs.Counted.{remarksAt, extentAt}
+use Rattle.plays.specs.Counted.{remarksAt, extentAt, extentOf}
 use Rattle.parser.specs.inner.Lines.{mainExtents, extentsAt}
 use Rattle.plays.specs.inner.Entries.{playEntries}
 use Rattle.plays.specs.declared.Remarks.{Remarks}
@@ -49,7 +49,7 @@ module _ (s : List ℕ) (at : ℕ) where
     pub short : at + (k .count + k .bytes + (x .entries + (x .comments + x .bytes))) ≤ pastMain s (slot .at)
 
   pub main-tally : MainTally (extentAt s (slot .at)) (remarksAt s (skippedAt s at))
-  unfolding extentAt remarksAt
+  unfolding extentOf remarksAt
   main-tally =
       let e = main-entries in
       let n = commented (noted Slot (slot .state) ∷ []) mains in
@@ -131,7 +131,7 @@ module _ (s : List ℕ) {at₀ : ℕ} (z : Extents) (i : Sizing s at₀ z) where
     rest = variationsAt s (skippedAt s (entriesAt s place .at)) .state
 
     some-entries : length (entriesAt s place .state) ≡ 0 → ⊥
-    unfolding extentAt
+    unfolding extentOf
     some-entries = some
 
     plays-are : variationsAt s (z .next .at) .state ≡ play (plyAt s place) (entriesAt s place .state) ∷ rest
@@ -143,7 +143,7 @@ module _ (s : List ℕ) {at₀ : ℕ} (z : Extents) (i : Sizing s at₀ z) where
 
     pub sizing-more : (c : Cursor) → c .at ≡ skippedAt s (extentAt s place .next .at)
         → Sizing s at₀ (record { lines = z .lines + 1; entries = z .entries + line .entries; comments = z .comments + line .comments; bytes = z .bytes + line .bytes; next = c })
-    unfolding extentAt
+    unfolding extentOf
     sizing-more c q =
         let es = entriesAt s place .state in
         let n : length (playEntries (variationsAt s (z .next .at) .state)) ≡ length es + length (playEntries rest) = ap length entries-are ∙ length-append es (playEntries rest) in
@@ -160,13 +160,13 @@ module _ (s : List ℕ) {at₀ : ℕ} (z : Extents) (i : Sizing s at₀ z) where
         })
 
     pub sizing-less : z .next .at < skippedAt s (extentAt s place .next .at) × (skippedAt s (extentAt s place .next .at) ≤ length s)
-    unfolding extentAt
+    unfolding extentOf
     sizing-less =
         let t = line-there s place some-entries in
         (omega (arith, t .past, skips-from s (z .next .at)), line-within s place (skips-within s (z .next .at) (i .within)))
 
   pub sizing-done : extentAt s place .entries ≡ 0 → z ≡ extentsAt s at₀
-  unfolding extentsAt extentAt concat
+  unfolding extentsAt extentOf concat
   sizing-done e =
       let none = variations-none s (z .next .at) e in
       let l : length (playsAt s at₀ .state) ≡ z .lines = omega (arith, i .lines, ap (λ (r : Ended (List Play)). length (r .state)) none) in

@@ -3,10 +3,10 @@
 use Prim.Native.Nat.{ℕ, _+_, _-_, _≤_, _<_}
 use native.Mathlib.Omega.{arith}
 use mathlib.Core.Path.{_≡_, refl, sym, ap, _∙_}
-use mathlib.Core.List.{List, _∷_, _++_}
+use mathlib.Core.List.{List, [], _∷_, _++_}
 use lib.ListN.{length, length-append, length-drop}
 use lib.Seq.{length-take-le}
-use Rattle.lists.specs.Repeat.{Ended}
+use Rattle.lists.specs.Repeat.{Ended, ended}
 use Rattle.text.specs.declared.Cursor.{Cursor}
 use Rattle.jkf.specs.declared.Entry.{Entry}
 use Rattle.jkf.specs.Model.{Noted}
@@ -14,12 +14,14 @@ use Rattle.block.specs.Encode.{concat, commentsOf, commentText}
 use Rattle.block.proofs.Tabling.{concat-append}
 use Rattle.moves.specs.Moves.{moveLineAt, commentLineAt}
 use Rattle.moves.specs.declared.Remark.the-variants.{Stands, NoRemark}
-use Rattle.moves.specs.declared.MoveLine.the-variants.{Numbered, NoLine}
+use Rattle.moves.specs.declared.MoveLine.the-variants.{Numbered}
 use Rattle.moves.proofs.Goings.{move-goes, remark-goes}
-use Rattle.plays.specs.Plays.{noted, commentsAt, entriesAt}
-use Rattle.plays.specs.Counted.{remarksAt, extentAt}
-use Rattle.plays.proofs.Items.{textOf, comments-more, comments-none, comments-from, comments-within, entries-more, entries-none, entries-within}
-use Rattle.plays.proofs.Weights.{comments-short, entries-short}
+use Rattle.plays.specs.Plays.{noted, commentsAt}
+use Rattle.plays.specs.Counted.{remarksAt, extentOf}
+use Rattle.plays.specs.inner.Extending.{Roomy, extended}
+use Rattle.plays.specs.declared.Extent.{Extent}
+use Rattle.plays.proofs.Items.{textOf, comments-more, comments-none, comments-from, comments-within}
+use Rattle.plays.proofs.Weights.{comments-short}
 
 -- ---- comments
 
@@ -73,79 +75,78 @@ module _ (s : List ℕ) {at₀ count bytes : ℕ} (at : ℕ) (i : Remarking s at
 
 -- ---- entries
 
-pub record Extending (s : List ℕ) (at₀ entries comments bytes at : ℕ) : Type 0 where
-  pub number : length (entriesAt s at₀ .state) ≡ entries + length (entriesAt s at .state)
-  pub remarks : length (commentsOf (entriesAt s at₀ .state)) ≡ comments + length (commentsOf (entriesAt s at .state))
-  pub size : length (commentText (commentsOf (entriesAt s at₀ .state))) ≡ bytes + length (commentText (commentsOf (entriesAt s at .state)))
-  pub end : entriesAt s at₀ .at ≡ entriesAt s at .at
+-- what is counted of a whole, and the rest of it
+pub record Extending (whole rest : Ended (List Noted)) (x : Extent) : Type 0 where
+  pub number : length (whole .state) ≡ x .entries + length (rest .state)
+  pub remarks : length (commentsOf (whole .state)) ≡ x .comments + length (commentsOf (rest .state))
+  pub size : length (commentText (commentsOf (whole .state))) ≡ x .bytes + length (commentText (commentsOf (rest .state)))
+  pub end : whole .at ≡ rest .at
 
-pub extending-start : (s : List ℕ) (at : ℕ) → Extending s at 0 0 0 at
-extending-start s at = record { number = omega arith; remarks = omega arith; size = omega arith; end = refl }
+pub extending-start : (whole : Ended (List Noted)) (c : Cursor) → Extending whole whole (record { entries = 0; comments = 0; bytes = 0; next = c })
+extending-start whole c = record { number = omega arith; remarks = omega arith; size = omega arith; end = refl }
 
-module _ (s : List ℕ) {at₀ entries comments bytes : ℕ} (at : ℕ) (i : Extending s at₀ entries comments bytes at) where
-  module _ (n : ℕ) (e : Entry) (c : Cursor) (q : moveLineAt s at ≡ Numbered n e c) where
-    abbrev next : ℕ
-    next = commentsAt s (c .at) .at
-
-    abbrev rest : List Noted
-    rest = entriesAt s next .state
-
+module _ (s : List ℕ) {whole rest : Ended (List Noted)} {x : Extent} (i : Extending whole rest x) where
+  module _ (e : Entry) (at : ℕ) (r : Ended (List Noted)) (q : rest ≡ ended (r .at) (noted e (commentsAt s at .state) ∷ r .state)) where
     abbrev here : List (List ℕ)
-    here = commentsAt s (c .at) .state
+    here = commentsAt s at .state
 
-    entries-are : entriesAt s at .state ≡ noted e here ∷ rest
-    entries-are = ap (λ (r : Ended (List Noted)). r .state) (entries-more s at n e c q)
+    entries-are : rest .state ≡ noted e here ∷ r .state
+    entries-are = ap (λ (r : Ended (List Noted)). r .state) q
 
-    remarks-are : commentsOf (entriesAt s at .state) ≡ here ++ commentsOf rest
+    remarks-are : commentsOf (rest .state) ≡ here ++ commentsOf (r .state)
     unfolding concat
     remarks-are = ap commentsOf entries-are
 
-    remarks-long : length (commentsOf (entriesAt s at .state)) ≡ length here + length (commentsOf rest)
-    remarks-long = ap length remarks-are ∙ length-append here (commentsOf rest)
+    remarks-long : length (commentsOf (rest .state)) ≡ length here + length (commentsOf (r .state))
+    remarks-long = ap length remarks-are ∙ length-append here (commentsOf (r .state))
 
-    text-long : length (commentText (commentsOf (entriesAt s at .state))) ≡ length (commentText here) + length (commentText (commentsOf rest))
+    text-long : length (commentText (commentsOf (rest .state))) ≡ length (commentText here) + length (commentText (commentsOf (r .state)))
     text-long =
-        ap (λ (cs : List (List ℕ)). length (commentText cs)) remarks-are ∙ ap length (concat-append (λ c. c) here (commentsOf rest))
-        ∙ length-append (commentText here) (commentText (commentsOf rest))
+        ap (λ (cs : List (List ℕ)). length (commentText cs)) remarks-are ∙ ap length (concat-append (λ c. c) here (commentsOf (r .state)))
+        ∙ length-append (commentText here) (commentText (commentsOf (r .state)))
 
-    pub extending-more : Extending s at₀ (entries + 1) (comments + remarksAt s (c .at) .count) (bytes + remarksAt s (c .at) .bytes) (remarksAt s (c .at) .next .at)
+    extending-more : Extending whole r (extended x (remarksAt s at))
     unfolding remarksAt
     extending-more =
         record {
           number = omega (arith, i .number, ap length entries-are);
           remarks = omega (arith, i .remarks, remarks-long);
           size = omega (arith, i .size, text-long);
-          end = i .end ∙ ap (λ (r : Ended (List Noted)). r .at) (entries-more s at n e c q);
+          end = i .end ∙ ap (λ (r : Ended (List Noted)). r .at) q;
         }
 
     -- so no sum overflows
-    pub extending-bound : length s < 9223372036854775808
-        → (entries + 1 < 18446744073709551616) × (comments + remarksAt s (c .at) .count < 18446744073709551616) × (bytes + remarksAt s (c .at) .bytes < 18446744073709551616)
+    pub extending-room : length (whole .state) + (length (commentsOf (whole .state)) + length (commentText (commentsOf (whole .state)))) ≤ length s
+        → length s < 9223372036854775808 → Roomy x (remarksAt s at)
     unfolding remarksAt
-    extending-bound h =
-        let k = move-goes s at n e c q in
-        let w = entries-within s next (comments-within s (c .at) (k .within)) in
-        let f = ap (λ (r : Ended (List Noted)). r .at) (entries-more s at n e c q) in
-        let b = entries-short s at₀ in (
-          omega (arith, b, i .end, f, w, i .number, ap length entries-are, h),
-          omega (arith, b, i .end, f, w, i .remarks, remarks-long, h),
-          omega (arith, b, i .end, f, w, i .size, text-long, h),
-        )
+    extending-room b h =
+        record {
+          entries = omega (arith, b, i .number, ap length entries-are, h);
+          comments = omega (arith, b, i .remarks, remarks-long, h);
+          bytes = omega (arith, b, i .size, text-long, h);
+        }
 
-    pub extending-less : at < remarksAt s (c .at) .next .at × (remarksAt s (c .at) .next .at ≤ length s)
-    unfolding remarksAt
-    extending-less =
-        let k = move-goes s at n e c q in
-        (omega (arith, k .past, comments-from s (c .at)), comments-within s (c .at) (k .within))
+  -- and the walk goes on past the comments
+  pub extending-on : (e : Entry) (at : ℕ) (walk : ℕ → Ended (List Noted))
+      → rest ≡ ended (walk (commentsAt s at .at) .at) (noted e (commentsAt s at .state) ∷ walk (commentsAt s at .at) .state)
+      → Extending whole (walk (remarksAt s at .next .at)) (extended x (remarksAt s at))
+  unfolding remarksAt
+  extending-on e at walk q = extending-more e at (walk (commentsAt s at .at)) q
 
-  pub extending-done : (c : Cursor) → c .at ≡ at → moveLineAt s at ≡ NoLine
-      → record { entries = entries; comments = comments; bytes = bytes; next = c } ≡ extentAt s at₀
-  unfolding extentAt concat
-  extending-done c e q =
-      let none = entries-none s at q in
-      let n : length (entriesAt s at₀ .state) ≡ entries = omega (arith, i .number, ap (λ (r : Ended (List Noted)). length (r .state)) none) in
-      let m : length (commentsOf (entriesAt s at₀ .state)) ≡ comments = omega (arith, i .remarks, ap (λ (r : Ended (List Noted)). length (commentsOf (r .state))) none) in
-      let b : length (commentText (commentsOf (entriesAt s at₀ .state))) ≡ bytes =
+  pub extending-done : (at : ℕ) → x .next .at ≡ at → rest ≡ ended at [] → x ≡ extentOf whole
+  unfolding extentOf concat
+  extending-done at e none =
+      let n : length (whole .state) ≡ x .entries = omega (arith, i .number, ap (λ (r : Ended (List Noted)). length (r .state)) none) in
+      let m : length (commentsOf (whole .state)) ≡ x .comments = omega (arith, i .remarks, ap (λ (r : Ended (List Noted)). length (commentsOf (r .state))) none) in
+      let b : length (commentText (commentsOf (whole .state))) ≡ x .bytes =
       omega (arith, i .size, ap (λ (r : Ended (List Noted)). length (commentText (commentsOf (r .state)))) none) in
-      let a : entriesAt s at₀ .at ≡ c .at = i .end ∙ ap (λ (r : Ended (List Noted)). r .at) none ∙ sym e in
+      let a : whole .at ≡ x .next .at = i .end ∙ ap (λ (r : Ended (List Noted)). r .at) none ∙ sym e in
       rw (n, m, b, a)
+
+-- past a move line and its comments, within the text
+pub line-past : (s : List ℕ) (at n : ℕ) (e : Entry) (c : Cursor) → moveLineAt s at ≡ Numbered n e c
+    → (at < remarksAt s (c .at) .next .at) × (remarksAt s (c .at) .next .at ≤ length s)
+unfolding remarksAt
+line-past s at n e c q =
+    let k = move-goes s at n e c q in
+    (omega (arith, k .past, comments-from s (c .at)), comments-within s (c .at) (k .within))

@@ -18,7 +18,8 @@ use Rattle.moves.specs.declared.Remark.the-variants.{Stands, NoRemark}
 use Rattle.moves.specs.declared.MoveLine.{MoveLine}
 use Rattle.moves.specs.declared.MoveLine.the-variants.{Numbered, NoLine}
 use Rattle.moves.proofs.Goings.{move-goes, skip-goes, remark-goes}
-use Rattle.plays.specs.Plays.{noted, commentItem, commentsAt, entryItem, entriesAt, skippedAt, skipItem, skipsAt}
+use Rattle.jkf.specs.Model.{Noted}
+use Rattle.plays.specs.Plays.{noted, commentItem, commentsAt, lineItem, entryItem, entriesAt, numberItem, numbersAt, skippedAt, skipItem, skipsAt}
 
 -- where an item goes on, and with what
 pub on-both : {A : Type 0} {p q : ℕ} {a b : A} → more p a ≡ more q b → (p ≡ q) × (a ≡ b)
@@ -66,17 +67,20 @@ module _ (s : List ℕ) where
 
   -- ---- entries
 
-  pub entry-goes : ItemGoes (entryItem s) (length s)
-  unfolding entryItem
-  entry-goes at next a = go (moveLineAt s at) refl
+  line-goes : {A : Type 0} (f : ℕ → Noted → A) → ItemGoes (lineItem f s) (length s)
+  line-goes f at next a = go (moveLineAt s at) refl
     where
       go : (r : MoveLine) → moveLineAt s at ≡ r
-          → onMoveLine r (λ n e c. more (commentsAt s (c .at) .at) (noted e (commentsAt s (c .at) .state))) stop ≡ more next a → (at < next) × (next ≤ length s)
+          → onMoveLine r (λ n e c. more (commentsAt s (c .at) .at) (f n (noted e (commentsAt s (c .at) .state)))) stop ≡ more next a → (at < next) × (next ≤ length s)
       go (Numbered n x c) q e =
           let h = move-goes s at n x c q in
           let k = on-more e in
           (omega (arith, k, h .past, comments-from (c .at)), omega (arith, k, comments-within (c .at) (h .within)))
       go NoLine q e = no-more e
+
+  pub entry-goes : ItemGoes (entryItem s) (length s)
+  unfolding entryItem
+  entry-goes = line-goes (λ n e. e)
 
   pub entries-more : (at n : ℕ) (e : Entry) (c : Cursor) → moveLineAt s at ≡ Numbered n e c
       → entriesAt s at ≡ ended (entriesAt s (commentsAt s (c .at) .at) .at) (noted e (commentsAt s (c .at) .state) ∷ entriesAt s (commentsAt s (c .at) .at) .state)
@@ -93,6 +97,17 @@ module _ (s : List ℕ) where
 
   pub entries-within : (at : ℕ) → at ≤ length s → entriesAt s at .at ≤ length s
   entries-within at h = omega (arith, entries-max at)
+
+  -- ---- their numbers
+
+  pub numbers-more : (at n : ℕ) (e : Entry) (c : Cursor) → moveLineAt s at ≡ Numbered n e c → numbersAt s at ≡ n ∷ numbersAt s (commentsAt s (c .at) .at)
+  unfolding numbersAt numberItem
+  numbers-more at n e c q =
+      ap (λ (r : Ended (List ℕ)). r .state) (many-more (numberItem s) (length s) (line-goes (λ m x. m)) at (commentsAt s (c .at) .at) n (rw q))
+
+  pub numbers-none : (at : ℕ) → moveLineAt s at ≡ NoLine → numbersAt s at ≡ []
+  unfolding numbersAt numberItem
+  numbers-none at q = ap (λ (r : Ended (List ℕ)). r .state) (many-stop (numberItem s) (length s) at (rw q))
 
   -- ---- skip lines
 

@@ -2,3 +2,4 @@ pub mod Items
 pub mod Weights
 pub mod Counting
 pub mod Filled
+pub mod Sequences

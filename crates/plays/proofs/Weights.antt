@@ -7,6 +7,7 @@ use mathlib.Core.List.{List, [], _∷_}
 use lib.ListN.{length, drop, length-append, length-drop}
 use lib.Seq.{length-take-le}
 use Rattle.lists.specs.Repeat.{Step, more, stop, ended, onStep, manyFrom}
+use Rattle.lists.proofs.Repeats.{many-within}
 use Rattle.jkf.specs.Model.{Noted}
 use Rattle.block.specs.Encode.{concat, commentsOf, commentText}
 use Rattle.block.proofs.Tabling.{concat-append}
@@ -17,7 +18,7 @@ use Rattle.moves.specs.declared.MoveLine.{MoveLine}
 use Rattle.moves.specs.declared.MoveLine.the-variants.{Numbered, NoLine}
 use Rattle.moves.proofs.Goings.{move-goes, remark-goes}
 use Rattle.plays.specs.Plays.{noted, commentItem, commentsAt, entryItem, entriesAt}
-use Rattle.plays.proofs.Items.{on-both, no-more, textOf}
+use Rattle.plays.proofs.Items.{on-both, no-more, textOf, entry-goes}
 
 -- ---- of a list, one by one
 
@@ -80,6 +81,9 @@ entries-weight (e ∷ es) =
     omega (arith, entries-weight es, length-append (e .comments) (commentsOf es), ap length (concat-append (λ c. c) (e .comments) (commentsOf es)), length-append (commentText (e .comments)) (commentText (commentsOf es)))
 
 module _ (s : List ℕ) where
+  abbrev some : ℕ → ℕ → List Noted
+  some k at = manyFrom (entryItem s) k at .state
+
   entry-takes : (at next : ℕ) (x : Noted) → entryItem s at ≡ more next x → at + entryWeight x ≤ next
   unfolding entryItem
   entry-takes at next x = go (moveLineAt s at) refl
@@ -92,8 +96,15 @@ module _ (s : List ℕ) where
           omega (arith, p, y, move-goes s at n e c q .past, comments-short s (c .at))
       go NoLine q e = no-more e
 
+  -- so many of them as the fuel says
+  entries-weigh : (k at : ℕ) → at + (length (some k at) + (length (commentsOf (some k at)) + length (commentText (commentsOf (some k at))))) ≤ manyFrom (entryItem s) k at .at
+  entries-weigh k at = omega (arith, many-weighs (entryItem s) entryWeight entry-takes k at, entries-weight (some k at))
+
   pub entries-short : (at : ℕ)
       → at + (length (entriesAt s at .state) + (length (commentsOf (entriesAt s at .state)) + length (commentText (commentsOf (entriesAt s at .state))))) ≤ entriesAt s at .at
   unfolding entriesAt
-  entries-short at =
-      omega (arith, many-weighs (entryItem s) entryWeight entry-takes (length s) at, entries-weight (manyFrom (entryItem s) (length s) at .state))
+  entries-short at = entries-weigh (length s) at
+
+  -- and all this is no more than the text has
+  pub entries-room : (k at : ℕ) → length (some k at) + (length (commentsOf (some k at)) + length (commentText (commentsOf (some k at)))) ≤ length s
+  entries-room k at = omega (arith, entries-weigh k at, many-within (entryItem s) (length s) (entry-goes s) k at)

@@ -3,7 +3,9 @@
 use Prim.Native.Nat.{ℕ}
 use mathlib.Core.List.{List}
 use lib.ListN.{length}
+use Rattle.lists.specs.Repeat.{Ended}
 use Rattle.text.specs.Text.{cursor}
+use Rattle.jkf.specs.Model.{Noted}
 use Rattle.block.specs.Encode.{commentsOf, commentText}
 use Rattle.plays.specs.Plays.{commentsAt, entriesAt}
 use Rattle.plays.specs.declared.Remarks.{Remarks}
@@ -18,12 +20,16 @@ remarksAt s at =
       next = cursor (commentsAt s at .at);
     }
 
--- A line of play from a place on: its entries, their comments and the bytes of these.
-unfoldable pub extentAt : List ℕ → ℕ → Extent
-extentAt s at =
+-- Entries and the place past them: how many, their comments and the bytes of these.
+unfoldable pub extentOf : Ended (List Noted) → Extent
+extentOf r =
     record {
-      entries = length (entriesAt s at .state);
-      comments = length (commentsOf (entriesAt s at .state));
-      bytes = length (commentText (commentsOf (entriesAt s at .state)));
-      next = cursor (entriesAt s at .at);
+      entries = length (r .state);
+      comments = length (commentsOf (r .state));
+      bytes = length (commentText (commentsOf (r .state)));
+      next = cursor (r .at);
     }
+
+-- A line of play from a place on.
+abbrev pub extentAt : List ℕ → ℕ → Extent
+extentAt s at = extentOf (entriesAt s at)

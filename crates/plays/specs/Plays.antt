@@ -1,7 +1,7 @@
 -- Lines of play: comments, move lines with their comments, skip lines.                               (01, Reading rules: then)
 -- Assumes nothing: these are definitions.
-use Prim.Native.Nat.{ℕ, _-_}
-use mathlib.Core.List.{List, _∷_}
+use Prim.Native.Nat.{ℕ, suc, _+_, _-_}
+use mathlib.Core.List.{List, [], _∷_}
 use lib.ListN.{length, take, drop}
 use lib.Dec.{eqb}
 use Rattle.lists.specs.Pick.{pick}
@@ -23,13 +23,33 @@ commentItem s at = onRemark (commentLineAt s at) (λ from to next. more (next .a
 unfoldable pub commentsAt : List ℕ → ℕ → Ended (List (List ℕ))
 commentsAt s at = manyFrom (commentItem s) (length s) at
 
--- A move line with its comments.                                                                     (the Rust's move_with_comments)
+-- A move line with its comments, and what is made of its number and its entry.
+abbrev pub lineItem : {A : Type 0} → (ℕ → Noted → A) → List ℕ → ℕ → Step A
+lineItem f s at =
+    onMoveLine (moveLineAt s at) (λ n e c. more (commentsAt s (c .at) .at) (f n (noted e (commentsAt s (c .at) .state)))) stop
+
+-- Its entry.                                                                                         (the Rust's move_with_comments)
 unfoldable pub entryItem : List ℕ → ℕ → Step Noted
-entryItem s at =
-    onMoveLine (moveLineAt s at) (λ n e c. more (commentsAt s (c .at) .at) (noted e (commentsAt s (c .at) .state))) stop
+entryItem = lineItem (λ n e. e)
 
 unfoldable pub entriesAt : List ℕ → ℕ → Ended (List Noted)
 entriesAt s at = manyFrom (entryItem s) (length s) at
+
+-- The numbers that are printed on the move lines of the same line of play.
+unfoldable pub numberItem : List ℕ → ℕ → Step ℕ
+numberItem = lineItem (λ n e. n)
+
+unfoldable pub numbersAt : List ℕ → ℕ → List ℕ
+numbersAt s at = manyFrom (numberItem s) (length s) at .state
+
+-- How many of some numbers, from the first on, go up by one from n.                                  (02, request (iii))
+unfoldable pub inSequence : ℕ → List ℕ → ℕ
+inSequence n [] = 0
+inSequence n (m ∷ ms) = let r = inSequence (n + 1) ms in pick (eqb m n) (suc r) 0
+
+-- A line of play as far as its numbers go up by one from n: it ends before the first move line that is numbered otherwise.
+unfoldable pub sequenceAt : ℕ → List ℕ → ℕ → Ended (List Noted)
+sequenceAt n s at = manyFrom (entryItem s) (inSequence n (numbersAt s at)) at
 
 -- The number that is printed at a place, 0 where there is none: a line of play starts at the number of its first move.
 -- (01, Reading rules: a variation)

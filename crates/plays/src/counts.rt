@@ -1,13 +1,17 @@
 // Lines of play, counted.
 use crate::Extent;
 use crate::Remarks;
+use moves::MoveLine;
 use moves::Remark;
 use text::Cursor;
 use text::Number;
 use text::Place;
 ghost use mathlib.Core.Path.{_≡_};
-ghost use Rattle.plays.specs.Plays.{plyAt, skippedAt, skipsAt};
-ghost use Rattle.plays.specs.Counted.{remarksAt, extentAt};
+ghost use Prim.Native.Nat.{_+_};
+ghost use lib.Dec.{eqb};
+ghost use Rattle.plays.specs.Plays.{plyAt, sequenceAt, skippedAt, skipsAt};
+ghost use Rattle.plays.specs.Counted.{remarksAt, extentOf, extentAt};
+ghost use Rattle.plays.specs.inner.Extending.{Roomy, extended};
 
 // Comments from a place on.
 pub fn count_comments(c: Cursor, s: &[u8]) -> Remarks
@@ -39,28 +43,66 @@ pub fn ply(c: Cursor, s: &[u8]) -> u64
     n
 }
 
+// One entry more, with its comments.
+fn extended(x: Extent, remarks: Remarks) -> Extent
+    requires { ⌜ Roomy x remarks ⌝ }
+    ensures { λ r. ⌜ r ≡ extended x remarks ⌝ }
+{
+    let next = remarks.next;
+    Extent {
+        entries: x.entries + 1,
+        comments: x.comments + remarks.count,
+        bytes: x.bytes + remarks.bytes,
+        next,
+    }
+}
+
 // A line of play from a place on: move lines, each with its comments.   (the Rust's moves_with_index)
 pub fn count_moves(c: Cursor, s: &[u8]) -> Extent
     ensures { λ r. ⌜ r ≡ extentAt (now (s .entry)) (c .at) ⌝ }
 {
-    let mut entries = 0;
-    let mut comments = 0;
-    let mut bytes = 0;
-    let mut next = c;
+    let mut x = Extent {
+        entries: 0,
+        comments: 0,
+        bytes: 0,
+        next: c,
+    };
     loop {
-        let Place::Past(past) = moves::move_line_end(next, s) else {
-            return Extent {
-                entries,
-                comments,
-                bytes,
-                next,
-            };
+        let Place::Past(past) = moves::move_line_end(x.next, s) else {
+            return x;
         };
-        let remarks = count_comments(past, s);
-        entries += 1;
-        comments += remarks.count;
-        bytes += remarks.bytes;
-        next = remarks.next;
+        x = extended(x, count_comments(past, s));
+    }
+}
+
+// Whether a number is the k-th after n.
+fn is_next(number: u64, n: u64, k: usize) -> bool
+    ensures { λ r. ⌜ r ≡ eqb number (n + k) ⌝ }
+{
+    if number < n {
+        return false;
+    }
+    number - n == k as u64
+}
+
+// A line of play from a place on, as far as its numbers go up by one from n.
+pub fn count_sequence(c: Cursor, s: &[u8], n: u64) -> Extent
+    ensures { λ r. ⌜ r ≡ extentOf (sequenceAt n (now (s .entry)) (c .at)) ⌝ }
+{
+    let mut x = Extent {
+        entries: 0,
+        comments: 0,
+        bytes: 0,
+        next: c,
+    };
+    loop {
+        let MoveLine::Numbered(number, _, past) = moves::move_line(x.next, s) else {
+            return x;
+        };
+        if !is_next(number, n, x.entries) {
+            return x;
+        }
+        x = extended(x, count_comments(past, s));
     }
 }
 

@@ -59,12 +59,18 @@ x
 ";
 
 /// Lines, and texts that are put into them, in buffers of every length.
-const KNOWN: [(u64, &str); 19] = [
+const KNOWN: [(u64, &str); 26] = [
     (0, "4同歩打\n"),
     (0, "5同歩打\n"),
     (1, "8同歩打\n"),
     (1, "5同歩打\n6同銀成(77)(1:2:3/4:5)\n*g\n*\n"),
+    (1, "6投了\n*&x\n&y\n7中断\n"),
     (1, "6投了\n*&x\n&y\n9中断\n"),
+    (0, "4投了\n5投了\n6投了\n"),
+    (0, "4投了\n6投了\n7投了\n"),
+    (0, "4投了\n5投了\n7投了\n"),
+    (0, "4投了\n5投了\n5投了\n"),
+    (0, "4投了\n3投了\n"),
     (2, "3詰み\n"),
     (2, "4詰み\n"),
     (0, "\t1投了\r\n"),
@@ -72,6 +78,7 @@ const KNOWN: [(u64, &str); 19] = [
     (0, "9投了\n"),
     (0, "0投了\n"),
     (0, "18446744073709551615投了\n"),
+    (0, "18446744073709551615投了\n0投了\n"),
     (0, "18446744073709551616投了\n"),
     (3, "1投了\n"),
     (u64::MAX, ""),
@@ -99,7 +106,7 @@ pub(super) fn put_ins(sample: &mut Sample) {
         let call = drawn(sample, cases::to_put_in);
         add_once(sample, &call);
     }
-    let text = "1投了\n".repeat(3_260).into_bytes();
+    let text: Vec<u8> = (1..=3_260).flat_map(|ply| format!("{ply}投了\n").into_bytes()).collect();
     sample.add_lent(9, &asked(&block, 0, &text), &judge::put_in(&block, 0, &text));
 }
 

@@ -1,7 +1,7 @@
 -- Two tests in their order.
 -- Assumes nothing.
 use native.Mathlib.Omega.{arith}
-use mathlib.Core.Path.{refl, sym, _∙_}
+use mathlib.Core.Path.{refl, sym, ap, _∙_}
 use denote.Ref.{now}
 use borrow.Author.Needs.{needs}
 use borrow.Author.Tests.{not-true, not-false}
@@ -9,7 +9,10 @@ use Rattle.jkf.proofs.Answering.{told}
 use Rattle.edit.proofs.Outcomes.{insert-past, no-variation, variation}
 use Rattle.edit.proofs.insert.Statement.{statement}
 use Rattle.edit.proofs.insert.Tie as tie
-use Rattle.edit.proofs.Measured.{entries-are, end-is}
+use Rattle.plays.specs.Counted.{extentOf}
+use Rattle.edit.specs.inner.Splicing.{numberedIn}
+use Rattle.edit.proofs.Texts.{numbered-all}
+use Rattle.edit.proofs.Measured.{counted, entries-are, end-is}
 
 lines-in-requires : tie.Need-lines-in-requires
 lines-in-requires c κs = tt
@@ -19,35 +22,41 @@ returns c =
     let a = c .before .before .before .before .before .args in
     told (insert-past (now (a .b)) (a .line) (now (a .out)) (now (a .t)) (omega (arith, c .if1 .taken, c .before .lines-in .ensures .0))) (refl, refl)
 
-count-moves-requires : tie.Need-count-moves-requires
-count-moves-requires c κs = tt
+ply-requires : tie.Need-ply-requires
+ply-requires c κs = tt
+
+count-sequence-requires : tie.Need-count-sequence-requires
+count-sequence-requires c κs = tt
 
 is-variation-requires : tie.Need-is-variation-requires
 is-variation-requires c κs =
-    let t = now (c .before .before .before .before .before .before .args .t) in
-    let e = c .count-moves .ensures in
-    (entries-are t e, end-is t e)
+    let t = now (c .before .before .before .before .before .before .before .args .t) in
+    let e = counted t (c .before .ply .ensures) (c .count-sequence .ensures) in
+    (entries-are (numberedIn t) e, end-is (numberedIn t) e)
 
 returns-2 : tie.Need-returns-2
 returns-2 c =
-    let a = c .before .before .before .before .before .before .before .before .args in
+    let a = c .before .before .before .before .before .before .before .before .before .args in
     told
-    (no-variation (now (a .b)) (a .line) (now (a .out)) (now (a .t)) (omega (arith, c .before .before .before .if1 .left, c .before .before .before .before .lines-in .ensures .0))
+    (no-variation (now (a .b)) (a .line) (now (a .out)) (now (a .t)) (omega (arith, c .before .before .before .before .if1 .left, c .before .before .before .before .before .lines-in .ensures .0))
     (sym (c .before .is-variation .ensures) ∙ not-true _ (c .if2 .taken)))
     (refl, refl)
 
 insert-on-requires : tie.Need-insert-on-requires
 insert-on-requires c κs =
-    (c .before .before .before .before .before .before .before .before .before .pre, omega (arith, c .before .before .before .before .if1 .left, c .before .before .before .before .before .lines-in .ensures .0), sym (c .before .before .is-variation .ensures) ∙ not-false _ (c .before .if2 .left), c .before .before .before .count-moves .ensures)
+    let t = now (c .before .before .before .before .before .before .before .before .before .before .args .t) in
+    let j = c .before .before .before .before .ply .ensures in
+    let v = sym (c .before .before .is-variation .ensures) ∙ not-false _ (c .before .if2 .left) in
+    (c .before .before .before .before .before .before .before .before .before .before .pre, omega (arith, c .before .before .before .before .before .if1 .left, c .before .before .before .before .before .before .lines-in .ensures .0), v, j, counted t j (c .before .before .before .count-sequence .ensures) ∙ ap extentOf (numbered-all t v))
 
 same-length : tie.Need-same-length
 same-length c = search needs
 
 returns-3 : tie.Need-returns-3
 returns-3 c =
-    let a = c .before .before .before .before .before .before .before .before .before .before .before .before .args in
+    let a = c .before .before .before .before .before .before .before .before .before .before .before .before .before .args in
     told
-    (variation (now (a .b)) (a .line) (now (a .out)) (now (a .t)) (omega (arith, c .before .before .before .before .before .before .before .if1 .left, c .before .before .before .before .before .before .before .before .lines-in .ensures .0))
+    (variation (now (a .b)) (a .line) (now (a .out)) (now (a .t)) (omega (arith, c .before .before .before .before .before .before .before .before .if1 .left, c .before .before .before .before .before .before .before .before .before .lines-in .ensures .0))
     (sym (c .before .before .before .before .before .is-variation .ensures) ∙ not-false _ (c .before .before .before .before .if2 .left)))
     (c .before .before .insert-on .ensures)
 
@@ -57,7 +66,8 @@ insert-spec =
     (tie.spec
     lines-in-requires
     returns
-    count-moves-requires
+    ply-requires
+    count-sequence-requires
     is-variation-requires
     returns-2
     insert-on-requires

@@ -1,9 +1,11 @@
--- On the way to an edited block: the lines before line p, new ones, and the lines from line q on; how they are put, and their sizes.
+-- On the way to an edited block: what was counted of a text; the lines before line p, new ones, and the lines from line q on; how they are
+-- put, and their sizes.
 -- Assumes nothing: these are definitions.
 use Prim.Native.Nat.{ℕ, _+_, _-_}
 use mathlib.Core.Path.{_≡_}
 use mathlib.Core.List.{List, _++_}
 use lib.ListN.{length, take, drop}
+use Rattle.lists.specs.Repeat.{Ended}
 use Rattle.jkf.specs.Attaching.{all, Play, play, starts, attach, allHung}
 use Rattle.jkf.specs.Model.{Noted, Record}
 use Rattle.block.specs.Encode.{commentsOf, commentText}
@@ -16,8 +18,15 @@ use Rattle.filling.specs.declared.Sizes.{Sizes}
 use Rattle.filling.specs.declared.Walk.{Walk}
 use Rattle.filling.specs.declared.Opening.{Opening}
 use Rattle.filling.specs.declared.Opening.the-variants.{Begun, Refused}
+use Rattle.plays.specs.Plays.{plyAt, sequenceAt}
 use Rattle.plays.specs.inner.Entries.{playEntries}
 use Rattle.edit.specs.Edit.{playsIn}
+
+-- ---- the text
+
+-- The entries of a text as far as its numbers go up by one from the first.
+abbrev pub numberedIn : List ℕ → Ended (List Noted)
+numberedIn t = sequenceAt (plyAt t 0) t 0
 
 -- ---- the lines
 

@@ -27,7 +27,8 @@ use Rattle.converter.specs.declared.Obstacle.{Obstacle}
 use Rattle.converter.specs.declared.Obstacle.the-variants.{At, Clear}
 use Rattle.edit.specs.Edit.{playsIn, placeOf, variationOf}
 use Rattle.laws.specs.Blocks.{Bytes}
-use Rattle.laws.specs.Back.{OnceRead, read, put, cut, readInto, ReadsBack}
+use Rattle.laws.specs.Back.{EditOf, put, cut, EditsOf, none, then as after, OnceRead, read, then, readInto, ReadsBack, EditsReadBack}
+use Rattle.laws.proofs.Back.Colors.{colors-stay}
 use Rattle.laws.proofs.Decoded.{decode-encode}
 use Rattle.laws.proofs.Made.{sound-encode}
 use Rattle.laws.proofs.Forming.{refused as not-done, read-done}
@@ -50,23 +51,24 @@ record SayableBlock (b : List ℕ) : Type 0 where
 sayable-encode : (r : Record) → Formed r → Sayable r → SayableBlock (encode r)
 sayable-encode r g s = record { bytes = g .bytes; sound = sound-encode r g; sayable = subst Sayable (sym (decode-encode r g)) s }
 
-once-sayable : {b : List ℕ} → OnceRead b → SayableBlock b
-once-sayable (read s o t n bs e) =
-    let (front, formed) = read-done s o bs t n e in
-    subst SayableBlock (sym front) (sayable-encode (recordOf (parse s)) formed (read-sayable s))
-once-sayable (put b k t o n i h ts e) =
-    let w = once-sayable h in
+edit-sayable : {b c : List ℕ} → SayableBlock b → EditOf b c → SayableBlock c
+edit-sayable {b} w (put k t o n i ts e) =
     let d = put-done b t o (w .bytes) ts k n i e in
     let ps = playsIn (decode b .lines) in
     let j = plyAt t 0 in
     let z : 0 < placeOf ps k j = omega arith in
     subst SayableBlock (sym (d .front))
     (sayable-encode _ (d .formed) (fresh-sayable (decode b) _ (w .sayable) (put-sayable (placeOf ps k j) (variationOf t) ps z (entries-sayable t 0) (w .sayable .plays))))
-once-sayable (cut b k o n m h e) =
-    let w = once-sayable h in
+edit-sayable {b} w (cut k o n m e) =
     let d = cut-done b o (w .bytes) k n m e in
     let z : 0 < k = omega (arith, d .cut .later) in
     subst SayableBlock (sym (d .front)) (sayable-encode _ (d .formed) (fresh-sayable (decode b) _ (w .sayable) (without-sayable k _ _ z (w .sayable .plays))))
+
+once-sayable : {b : List ℕ} → OnceRead b → SayableBlock b
+once-sayable (read s o t n bs e) =
+    let (front, formed) = read-done s o bs t n e in
+    subst SayableBlock (sym front) (sayable-encode (recordOf (parse s)) formed (read-sayable s))
+once-sayable (then h e) = edit-sayable (once-sayable h) e
 
 -- ---- a writing that is done
 
@@ -120,3 +122,10 @@ reads-back b h c o n l e short o′ room =
       decode-encode (left r) (subst Formed (plain-said r g (w .sayable) c (d .clear))
           (read-done (recordText r) o′ (plain-bytes r g (w .sayable) c (d .clear)) (length (recordText r)) (length (encode (left r))) (ap (λ (x : Outcome). x .answer) back) .1)),
     )
+
+once-edited : {b c : List ℕ} → OnceRead b → EditsOf b c → OnceRead c
+once-edited h none = h
+once-edited h (after es e) = then (once-edited h es) e
+
+pub edits-read-back : EditsReadBack
+edits-read-back b c h f es = reads-back c (once-edited h es) (colors-stay b c (once-sayable h .bytes) es f)

@@ -19,7 +19,7 @@ use Rattle.moves.specs.Moves.{squareAt, moveToAt, promoteAt, originAt, moveFrom
 use Rattle.kakinoki.specs.Informations.{hashLineAt, hashLinesAt, paddedEndAt, presetLineAt, turnLineAt, pieceAt, pieceStep, piecesAt, handAt, heldAt, handLineAt, valueAt, keyValueAt, headerAt, keyedAt, handsOrKeyedAt, informationAt, informationItem, informationsAt, faultAt, tell, tellAll, pairsOf, headerPlacesFrom, headerPlacesAt}
 use Rattle.kakinoki.specs.Boards.{whiteAt, cellAt, cellsFrom, rowEndAt, rowAt, rowsFrom, boardAt}
 use Rattle.kakinoki.specs.Starts.{addHands, merged, positionOf, headersSaid, headerPlaces, startRead}
-use Rattle.plays.specs.Plays.{commentItem, commentsAt, entryItem, entriesAt, plyAt, skippedAt, skipsAt, playItem, variationItem, variationsAt, mainAt, playsAt}
+use Rattle.plays.specs.Plays.{commentItem, commentsAt, entryItem, entriesAt, numberItem, numbersAt, inSequence, plyAt, skippedAt, skipsAt, playItem, variationItem, variationsAt, mainAt, playsAt}
 use Rattle.parser.specs.Parse.{headersOf, parse, needed}
 use Rattle.parser.specs.Read.{filledWith, readStored, startedOf, readOf}
 use Rattle.edit.specs.Edit.{fresh, isVariation, isPlyOf, carries, above, insertAt, insertOn, insert, notBelow, remove}
@@ -63,7 +63,7 @@ unfolding hashLineAt hashLinesAt paddedEndAt presetLineAt turnLineAt pieceAt pie
 starts = tt
 
 unfoldable pub readings : Unit {0}
-unfolding commentItem commentsAt entryItem entriesAt plyAt skippedAt skipsAt playItem variationItem variationsAt mainAt playsAt headersOf parse needed filledWith readStored startedOf readOf
+unfolding commentItem commentsAt entryItem entriesAt numberItem numbersAt inSequence plyAt skippedAt skipsAt playItem variationItem variationsAt mainAt playsAt headersOf parse needed filledWith readStored startedOf readOf
 readings = tt
 
 unfoldable pub edits : Unit {0}
