@@ -1,6 +1,9 @@
 //! A call of 01 with what it is given, the lent buffer apart.
 
 use crate::judge::{self, Answer, Outcome};
+#[cfg(feature = "linked")]
+use crate::pairs;
+use crate::pairs::Asked;
 use crate::sound::sound;
 use std::fmt;
 
@@ -11,6 +14,8 @@ pub enum Call {
     Write { block: Vec<u8> },
     PutIn { block: Vec<u8>, line: u64, text: Vec<u8>, from_text: bool },
     Cut { block: Vec<u8>, line: u64, from_text: bool },
+    /// Two put-ins into one block, in either order.
+    Pair { block: Vec<u8>, one: Asked, other: Asked },
     Comment { block: Vec<u8>, k: u64 },
     Key { block: Vec<u8>, k: u64 },
     Value { block: Vec<u8>, k: u64 },
@@ -25,10 +30,22 @@ impl Call {
             Call::Write { block } => judge::write(block),
             Call::PutIn { block, line, text, .. } => judge::put_in(block, *line, text),
             Call::Cut { block, line, .. } => judge::cut(block, *line),
+            Call::Pair { block, one, .. } => judge::put_in(block, one.0, &one.1),
             Call::Comment { block, k } => Outcome::Answered(judge::comment(block, *k).0),
             Call::Key { block, k } => Outcome::Answered(judge::key(block, *k).0),
             Call::Value { block, k } => Outcome::Answered(judge::value(block, *k).0),
             Call::Sound { block } => Outcome::Answered(Answer { number: sound(block).into(), first: 0, second: 0 }),
+        }
+    }
+
+    /// The calls that are made, each with what the judge says: this one, or those of both orders.
+    #[cfg(feature = "linked")]
+    pub fn steps(&self) -> Vec<(Call, Outcome)> {
+        match self {
+            Call::Pair { block, one, other } => {
+                [pairs::in_order(block, one, other), pairs::in_order(block, other, one)].concat()
+            }
+            _ => vec![(self.clone(), self.judged())],
         }
     }
 
@@ -48,6 +65,9 @@ impl fmt::Display for Call {
             Call::Write { block } => write!(f, "write {}", Hex(block)),
             Call::PutIn { block, line, text, .. } => write!(f, "put_in {} {line} {}", Hex(block), Quoted(text)),
             Call::Cut { block, line, .. } => write!(f, "cut {} {line}", Hex(block)),
+            Call::Pair { block, one, other } => {
+                write!(f, "put_in {} {} {} and {} {}", Hex(block), one.0, Quoted(&one.1), other.0, Quoted(&other.1))
+            }
             Call::Comment { block, k } => write!(f, "comment {} {k}", Hex(block)),
             Call::Key { block, k } => write!(f, "key {} {k}", Hex(block)),
             Call::Value { block, k } => write!(f, "value {} {k}", Hex(block)),

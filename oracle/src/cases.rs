@@ -101,6 +101,21 @@ fn filled_up(r: &mut Rng) -> Call {
     Call::PutIn { block: encode(&record), line: *line, text: text.clone(), from_text: false }
 }
 
+pub fn small_pair(seed: u64) -> Call {
+    edits::pair(seed)
+}
+
+/// Two put-ins into one block, as others draw them.
+pub fn a_pair(seed: u64) -> Call {
+    let r = &mut Rng::new(seed);
+    let (block, _) = to_be_edited(r);
+    let [one, other] = [(); 2].map(|()| match put_in(r, block.clone(), false) {
+        Call::PutIn { line, text, .. } => (line, text),
+        _ => unreachable!(),
+    });
+    Call::Pair { block, one, other }
+}
+
 /// A put-in into a block that the reader answered.
 pub fn to_edit(seed: u64) -> Call {
     let r = &mut Rng::new(seed);

@@ -3,17 +3,18 @@
 use crate::attach;
 use crate::call::Call;
 use crate::cases;
-use crate::edits::EDITS;
+use crate::edits::{EDITS, PAIRS};
 use crate::judge::{self, Answer, Outcome};
 use crate::known;
 use crate::left::{colours_follow, left};
+use crate::pairs;
 use crate::record::{decode, encode, Record, LIMIT};
 use crate::runner::{caught, run, Kind};
 use crate::short::SHORT;
 use crate::small::SMALL;
 use crate::sound::sound;
 
-const KINDS: [Kind; 15] = [
+const KINDS: [Kind; 17] = [
     Kind { name: "short texts", share: 17, all: Some(SHORT), make: cases::short_text, test: reading },
     Kind { name: "texts", share: 20, all: None, make: cases::any_text, test: reading },
     Kind { name: "bytes", share: 13, all: None, make: cases::altered_block, test: soundness },
@@ -22,6 +23,8 @@ const KINDS: [Kind; 15] = [
     Kind { name: "writing", share: 8, all: None, make: cases::to_write, test: writing },
     Kind { name: "small edits", share: 10, all: Some(EDITS), make: cases::small_edit, test: small_editing },
     Kind { name: "put-ins", share: 10, all: None, make: cases::to_put_in, test: putting_in },
+    Kind { name: "small pairs", share: 10, all: Some(PAIRS), make: cases::small_pair, test: pairing },
+    Kind { name: "pairs", share: 10, all: None, make: cases::a_pair, test: pairing },
     Kind { name: "cuts", share: 8, all: None, make: cases::to_cut, test: cutting },
     Kind { name: "edits", share: 6, all: None, make: cases::to_edit, test: editing },
     Kind { name: "comments", share: 2, all: None, make: cases::a_comment, test: looking_up },
@@ -119,6 +122,12 @@ fn putting_in(call: &Call) -> u64 {
         Outcome::Made { result: block.clone(), answer: Answer { number: 0, first: block.len() as u64, second: 1 } };
     assert_eq!(judge::cut(&result, answer.second), restored);
     number
+}
+
+/// Both orders come to the same.
+fn pairing(call: &Call) -> u64 {
+    let Call::Pair { block, one, other } = call else { unreachable!() };
+    pairs::agree(block, one, other)
 }
 
 /// Just the run goes; the kept lines keep their entries and, renumbered, their parents; the rule made afresh agrees.

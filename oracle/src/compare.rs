@@ -44,6 +44,10 @@ const KINDS: &[Kind] = &[
     Kind { name: "small edits", share: 92, all: Some(crate::edits::EDITS), make: cases::small_edit, test: compared },
     #[cfg(feature = "kif_put_in")]
     Kind { name: "put_in", share: 7, all: None, make: cases::to_put_in, test: compared },
+    #[cfg(feature = "kif_put_in")]
+    Kind { name: "small pairs", share: 10, all: Some(crate::edits::PAIRS), make: cases::small_pair, test: compared },
+    #[cfg(feature = "kif_put_in")]
+    Kind { name: "pairs", share: 10, all: None, make: cases::a_pair, test: compared },
     #[cfg(feature = "kif_cut")]
     Kind { name: "cut", share: 4, all: None, make: cases::to_cut, test: compared },
     #[cfg(feature = "kif_read")]
@@ -68,7 +72,8 @@ fn compared(call: &Call) -> u64 {
 /// The numbers that the longest buffer gets, if answers and bytes are the same for all calls with every buffer and what
 /// they make of texts reads back as it should; or how port and judge first differ.
 fn all_compared(calls: &[Call]) -> Result<Vec<u64>, String> {
-    let asked: Vec<_> = calls.iter().map(|call| (call.clone(), call.judged())).collect();
+    let steps: Vec<_> = calls.iter().map(Call::steps).collect();
+    let asked = steps.concat();
     if let Some((_, difference)) = first_difference(&asked, lengths) {
         return Err(difference);
     }
@@ -78,7 +83,7 @@ fn all_compared(calls: &[Call]) -> Result<Vec<u64>, String> {
         return Err(format!("then {call}\n  {difference}"));
     }
     BACK.set(tally);
-    Ok(asked.iter().map(|(_, outcome)| outcome.answer_in(LONGEST).number).collect())
+    Ok(steps.iter().map(|steps| steps.last().unwrap().1.answer_in(LONGEST).number).collect())
 }
 
 /// The first call that the port does not answer as it should with one of these lengths lent, and how. One small stack

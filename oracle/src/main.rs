@@ -22,6 +22,7 @@ mod lent;
 mod listing;
 mod normalizer;
 mod original;
+mod pairs;
 #[cfg(feature = "linked")]
 mod port;
 mod record;

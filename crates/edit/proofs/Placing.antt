@@ -1,6 +1,7 @@
 -- Where a variation is put in: line k is the nearest before its place that starts at or below it, the lines between start above it, and the
 -- line after its place starts below it, since one that starts at the same ply would hang on line k already.
 --     PutsIn                 what a put-in asks
+--     unmet                  no line hangs on that entry
 --     new-hangs              the new line hangs on line k
 --     before-same            a line before it finds what it found
 --     after-same             a line after it finds what it found, by its new number
@@ -115,7 +116,7 @@ module _ (ps : List Play) (k j : ℕ) (ok : PutsIn ps k j) where
   place-above i a b = run .each i (omega arith) b
 
   -- no other line hangs on that entry
-  unmet : (i : ℕ) → 0 < i → i < length ps → parentIn ps i ≡ k → starts ps i ≡ j → ⊥
+  pub unmet : (i : ℕ) → 0 < i → i < length ps → parentIn ps i ≡ k → starts ps i ≡ j → ⊥
   unmet i z l p s =
       let e : 1 + (i - 1) ≡ i = omega arith in
       let w : lineOf (drop 1 (attach ps)) (i - 1) ≡ record { start = starts ps i; parent = parentIn ps i; entries = playOf ps i .entries } =

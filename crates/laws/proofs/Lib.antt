@@ -22,5 +22,6 @@ pub mod Unique
 pub mod Back
 pub mod Cases
 pub mod EditsDone
+pub mod Orders
 pub mod Edits
 pub mod Theorems

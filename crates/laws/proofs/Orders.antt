@@ -1,0 +1,6 @@
+pub mod NewNumbers
+pub mod Apart
+pub mod Swapped
+pub mod Alone
+pub mod Ordered
+pub mod Hold
