@@ -12,15 +12,20 @@
 extern "C" {
 #endif
 
-/* Reads a text into the front of out, which must not overlap it: 0, the bytes taken and the block's length; or, in this order,
+/* How long a buffer must be for the block of a text: 0, that length and the bytes taken; or, in this order,
  *   1, length, 0          where the text is over 65,535 bytes;
  *   2, n, 0               where it is not UTF-8, its first n bytes being well formed;
  *   3, at, 0              where the hand line that begins at byte at cannot be read;
- *   4, length, 0          where the block would be over 65,535 bytes, and this length is needed;
+ *   4, length, 0          where the block would be over 65,535 bytes, and this length is needed. */
+void kif_measure(const uint8_t *text, size_t text_len, uint64_t *number, uint64_t *first, uint64_t *second);
+
+/* Reads a text into the front of out, which must not overlap it: 0, the bytes taken and the block's length. It measures by itself; or, in
+ * this order,
+ *   1 to 4                as kif_measure;
  *   5, length, 0          where out is shorter than the length needed;
  *   6, variation, ply     where a variation, counted from 1, has no entry to hang on.
  * Success changes only the block's bytes, 6 sets the whole of out to zero, and the others change nothing in it. */
-void kif_read(const uint8_t *text, size_t text_len, uint8_t *out, size_t out_len, uint64_t *number, uint64_t *first, uint64_t *second);
+void kif_fill(const uint8_t *text, size_t text_len, uint8_t *out, size_t out_len, uint64_t *number, uint64_t *first, uint64_t *second);
 
 /* Writes a block's text into the front of out, which must not overlap it: 0, the text's length and how many lines it leaves out; or,
  * in this order,

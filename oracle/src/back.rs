@@ -36,8 +36,8 @@ impl Tally {
     /// Where a call's record counts: nowhere if it came of no text, since 01 promises nothing of blocks made by hand.
     fn counts_of(&mut self, call: &Call) -> Option<&mut Counts> {
         match call {
-            _ if cfg!(not(all(feature = "kif_read", feature = "kif_write"))) => None,
-            Call::Read { .. } => Some(&mut self.read),
+            _ if cfg!(not(all(feature = "kif_fill", feature = "kif_write"))) => None,
+            Call::Fill { .. } => Some(&mut self.read),
             Call::PutIn { from_text: true, .. } | Call::Cut { from_text: true, .. } => Some(&mut self.edited),
             _ => None,
         }
@@ -68,7 +68,7 @@ impl Counts {
         self.back += 1;
         let result = encode(&left(&record));
         let answer = Answer { number: 0, first: text.len() as u64, second: result.len() as u64 };
-        Some((Call::Read { text: text.clone() }, Outcome::Made { result, answer }))
+        Some((Call::Fill { text: text.clone() }, Outcome::Made { result, answer }))
     }
 
     fn print(&self, name: &str) {

@@ -41,7 +41,7 @@ pub fn bench() {
 
 /// What reading makes of a text.
 fn block(text: &str) -> Option<Vec<u8>> {
-    match judge::read(text.as_bytes()) {
+    match judge::fill(text.as_bytes()) {
         Outcome::Made { result, .. } => Some(result),
         _ => None,
     }

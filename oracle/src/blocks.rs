@@ -63,7 +63,7 @@ pub fn read_block(r: &mut Rng) -> Vec<u8> {
 /// The block of the first of these texts that is read.
 pub fn read_from(r: &mut Rng, text: fn(&mut Rng) -> Vec<u8>) -> Vec<u8> {
     loop {
-        if let Outcome::Made { result, .. } = judge::read(&text(r)) {
+        if let Outcome::Made { result, .. } = judge::fill(&text(r)) {
             return result;
         }
     }

@@ -10,7 +10,8 @@ use std::fmt;
 /// An edit's `from_text` tells whether its block came of reading a text, and of edits after that, if any.
 #[derive(Clone, PartialEq, Eq)]
 pub enum Call {
-    Read { text: Vec<u8> },
+    Measure { text: Vec<u8> },
+    Fill { text: Vec<u8> },
     Write { block: Vec<u8> },
     PutIn { block: Vec<u8>, line: u64, text: Vec<u8>, from_text: bool },
     Cut { block: Vec<u8>, line: u64, from_text: bool },
@@ -26,7 +27,8 @@ impl Call {
     /// What the judge says. A look-up gives its part by offset and length, `sound` its answer in place of a number.
     pub fn judged(&self) -> Outcome {
         match self {
-            Call::Read { text } => judge::read(text),
+            Call::Measure { text } => judge::measure(text),
+            Call::Fill { text } => judge::fill(text),
             Call::Write { block } => judge::write(block),
             Call::PutIn { block, line, text, .. } => judge::put_in(block, *line, text),
             Call::Cut { block, line, .. } => judge::cut(block, *line),
@@ -38,12 +40,16 @@ impl Call {
         }
     }
 
-    /// The calls that are made, each with what the judge says: this one, or those of both orders.
+    /// The calls that are made, each with what the judge says: this one, that of measuring behind filling, or those of both orders.
     #[cfg(feature = "linked")]
     pub fn steps(&self) -> Vec<(Call, Outcome)> {
         match self {
             Call::Pair { block, one, other } => {
                 [pairs::in_order(block, one, other), pairs::in_order(block, other, one)].concat()
+            }
+            Call::Fill { text } => {
+                let measure = Call::Measure { text: text.clone() };
+                vec![(self.clone(), self.judged()), (measure.clone(), measure.judged())]
             }
             _ => vec![(self.clone(), self.judged())],
         }
@@ -52,7 +58,7 @@ impl Call {
     /// The text that the call is given, if any.
     pub fn text_mut(&mut self) -> Option<&mut Vec<u8>> {
         match self {
-            Call::Read { text } | Call::PutIn { text, .. } => Some(text),
+            Call::Measure { text } | Call::Fill { text } | Call::PutIn { text, .. } => Some(text),
             _ => None,
         }
     }
@@ -61,7 +67,8 @@ impl Call {
 impl fmt::Display for Call {
     fn fmt(&self, f: &mut fmt::Formatter) -> fmt::Result {
         match self {
-            Call::Read { text } => write!(f, "read {}", Quoted(text)),
+            Call::Measure { text } => write!(f, "measure {}", Quoted(text)),
+            Call::Fill { text } => write!(f, "fill {}", Quoted(text)),
             Call::Write { block } => write!(f, "write {}", Hex(block)),
             Call::PutIn { block, line, text, .. } => write!(f, "put_in {} {line} {}", Hex(block), Quoted(text)),
             Call::Cut { block, line, .. } => write!(f, "cut {} {line}", Hex(block)),

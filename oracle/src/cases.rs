@@ -11,16 +11,16 @@ use crate::small;
 use crate::texts;
 
 pub fn short_text(seed: u64) -> Call {
-    Call::Read { text: short::short(seed) }
+    Call::Fill { text: short::short(seed) }
 }
 
 pub fn any_text(seed: u64) -> Call {
-    Call::Read { text: texts::text(&mut Rng::new(seed)) }
+    Call::Fill { text: texts::text(&mut Rng::new(seed)) }
 }
 
 pub fn numbered_text(seed: u64) -> Call {
     let r = &mut Rng::new(seed);
-    Call::Read { text: if r.one_in(200) { written_to_the_limit(r) } else { texts::numbered(r) } }
+    Call::Fill { text: if r.one_in(200) { written_to_the_limit(r) } else { texts::numbered(r) } }
 }
 
 /// A text with so long a comment that what is written of it is as long as a text may be, or has up to two bytes fewer
@@ -28,7 +28,7 @@ pub fn numbered_text(seed: u64) -> Call {
 fn written_to_the_limit(r: &mut Rng) -> Vec<u8> {
     let moves: String = (1..10 + r.below(1_700)).map(|ply| format!("{ply}同歩打(0:0/0:0)\n")).collect();
     let commented = |length| format!("手数\n*{}\n{moves}", "x".repeat(length)).into_bytes();
-    let Outcome::Made { result: block, .. } = judge::read(&commented(0)) else { unreachable!() };
+    let Outcome::Made { result: block, .. } = judge::fill(&commented(0)) else { unreachable!() };
     let Outcome::Made { result: written, .. } = judge::write(&block) else { unreachable!() };
     commented(LIMIT - 2 + r.below(5) - written.len())
 }

@@ -53,15 +53,26 @@ pub fn check(cases: u64, seed: u64) -> bool {
 }
 
 fn reading(call: &Call) -> u64 {
-    let Call::Read { text } = call else { unreachable!() };
+    let Call::Fill { text } = call else { unreachable!() };
     let outcome = call.judged();
     let number = buffers(&outcome);
+    measured(judge::measure(text), &outcome);
     if let Outcome::Made { result, answer } = outcome {
         assert!(answer.first <= text.len() as u64 && answer.second == result.len() as u64);
         assert!(sound(&result), "the reader's block is not sound");
         reads_back(&result);
     }
     number
+}
+
+/// Measuring tells the length at which filling turns, and the bytes that it takes; or refuses as filling does.
+fn measured(measured: Outcome, filled: &Outcome) {
+    let Outcome::Answered(told) = measured else { panic!("measuring makes nothing") };
+    match filled {
+        Outcome::Answered(refusal) => assert_eq!(told, *refusal),
+        Outcome::Unattached { needed, .. } => assert_eq!((told.number, told.first), (0, *needed as u64)),
+        Outcome::Made { answer, .. } => assert_eq!((told.number, told.first, told.second), (0, answer.second, answer.first)),
+    }
 }
 
 /// Both definitions of soundness agree, and a sound block is its record's encoding.
@@ -236,7 +247,7 @@ fn reads_back(block: &[u8]) {
     if text.len() > LIMIT || !colours_follow(&left) {
         return;
     }
-    let Outcome::Made { result: again, answer: taken } = judge::read(&text) else {
+    let Outcome::Made { result: again, answer: taken } = judge::fill(&text) else {
         panic!("what was written is refused");
     };
     assert_eq!(taken.first, answer.first, "what was written is not wholly taken");

@@ -32,10 +32,10 @@ const KINDS: &[Kind] = &[
     Kind { name: "key", share: 1, all: None, make: cases::a_key, test: compared },
     #[cfg(feature = "kif_value")]
     Kind { name: "value", share: 1, all: None, make: cases::a_value, test: compared },
-    #[cfg(feature = "kif_read")]
+    #[cfg(feature = "kif_fill")]
     Kind { name: "short texts", share: 31, all: Some(crate::short::SHORT), make: cases::short_text, test: compared },
-    #[cfg(feature = "kif_read")]
-    Kind { name: "read", share: 20, all: None, make: cases::any_text, test: compared },
+    #[cfg(feature = "kif_fill")]
+    Kind { name: "texts", share: 20, all: None, make: cases::any_text, test: compared },
     #[cfg(feature = "kif_write")]
     Kind { name: "small blocks", share: 6, all: Some(crate::small::SMALL), make: cases::small_block, test: compared },
     #[cfg(feature = "kif_write")]
@@ -50,7 +50,7 @@ const KINDS: &[Kind] = &[
     Kind { name: "pairs", share: 10, all: None, make: cases::a_pair, test: compared },
     #[cfg(feature = "kif_cut")]
     Kind { name: "cut", share: 4, all: None, make: cases::to_cut, test: compared },
-    #[cfg(feature = "kif_read")]
+    #[cfg(feature = "kif_fill")]
     Kind { name: "numbered", share: 10, all: None, make: cases::numbered_text, test: compared },
     #[cfg(all(feature = "kif_put_in", feature = "kif_cut"))]
     Kind { name: "edits again", share: 10, all: None, make: cases::to_edit_again, test: compared },
@@ -83,7 +83,7 @@ fn all_compared(calls: &[Call]) -> Result<Vec<u64>, String> {
         return Err(format!("then {call}\n  {difference}"));
     }
     BACK.set(tally);
-    Ok(steps.iter().map(|steps| steps.last().unwrap().1.answer_in(LONGEST).number).collect())
+    Ok(steps.iter().map(|steps| steps[0].1.answer_in(LONGEST).number).collect())
 }
 
 /// The first call that the port does not answer as it should with one of these lengths lent, and how. One small stack
@@ -124,7 +124,7 @@ fn difference(call: &Call, outcome: &Outcome, lent: &mut Lent, length: usize) ->
 fn lengths(call: &Call, outcome: &Outcome) -> Vec<usize> {
     let needed = outcome.needed().unwrap_or(0);
     match call {
-        Call::Read { .. } | Call::Write { .. } | Call::PutIn { .. } | Call::Cut { .. } => {
+        Call::Fill { .. } | Call::Write { .. } | Call::PutIn { .. } | Call::Cut { .. } => {
             vec![0, needed.saturating_sub(1), needed, 65_535, 65_536, LONGEST]
         }
         _ => vec![0],

@@ -77,34 +77,49 @@ fn refused(number: u64, first: u64, second: u64) -> Outcome {
     Outcome::Answered(answer(number, first, second))
 }
 
-pub fn read(text: &[u8]) -> Outcome {
+/// A text that refusals 1 to 4 let pass: its record, whose parents are still to be put in; these, or the first variation that has
+/// no entry to hang on and its ply; and how many bytes are taken.
+struct Taken {
+    record: Record,
+    parents: Result<Vec<usize>, (u64, u64)>,
+    bytes: usize,
+}
+
+fn taken(text: &[u8]) -> Result<Taken, Answer> {
     if text.len() > LIMIT {
-        return refused(1, text.len() as u64, 0);
+        return Err(answer(1, text.len() as u64, 0));
     }
-    let text = match str::from_utf8(text) {
-        Ok(text) => text,
-        Err(error) => return refused(2, error.valid_up_to() as u64, 0),
-    };
-    let (rest, head) = match read_head(text) {
-        Ok(head) => head,
-        Err(error) => return refused(3, hand_line(text, error), 0),
-    };
+    let text = str::from_utf8(text).map_err(|error| answer(2, error.valid_up_to() as u64, 0))?;
+    let (rest, head) = read_head(text).map_err(|error| answer(3, hand_line(text, error), 0))?;
     let (rest, (main, variations)) = read_lines(rest).expect("no line at all is a main line without moves");
     let variations = variations.into_iter().map(|(start, moves)| (start as u64, moves));
     let lines: Vec<Play> = iter::once((0, main)).chain(variations).collect();
-    let mut record = translate::record(&head, &lines);
+    let record = translate::record(&head, &lines);
     let parents = attach::parents(&record.shape());
     confirm_attaching(text, rest, head, lines, parents.as_deref().ok());
-
-    let (taken, needed) = (text.len() - rest.len(), record.length());
-    if needed > LIMIT {
-        return refused(4, needed as u64, 0);
+    match record.length() {
+        needed if needed > LIMIT => Err(answer(4, needed as u64, 0)),
+        _ => Ok(Taken { record, parents, bytes: text.len() - rest.len() }),
     }
+}
+
+/// The length needed and the bytes taken, or refusals 1 to 4 (02, vii).
+pub fn measure(text: &[u8]) -> Outcome {
+    let measured = taken(text).map(|taken| answer(0, taken.record.length() as u64, taken.bytes as u64));
+    Outcome::Answered(measured.unwrap_or_else(|refusal| refusal))
+}
+
+pub fn fill(text: &[u8]) -> Outcome {
+    let Taken { mut record, parents, bytes } = match taken(text) {
+        Ok(taken) => taken,
+        Err(refusal) => return Outcome::Answered(refusal),
+    };
+    let needed = record.length();
     match parents {
         Err((variation, ply)) => Outcome::Unattached { needed, answer: answer(6, variation, ply) },
         Ok(parents) => {
             record.lines.iter_mut().zip(parents).for_each(|(line, parent)| line.parent = parent);
-            Outcome::Made { result: encode(&record), answer: answer(0, taken as u64, needed as u64) }
+            Outcome::Made { result: encode(&record), answer: answer(0, bytes as u64, needed as u64) }
         }
     }
 }

@@ -59,11 +59,11 @@ fn answered(outcome: Outcome, length: usize) -> (u64, u64, u64) {
 }
 
 fn read(text: &str) -> (u64, u64, u64) {
-    answered(judge::read(text.as_bytes()), LIMIT)
+    answered(judge::fill(text.as_bytes()), LIMIT)
 }
 
 fn block(text: &str) -> Vec<u8> {
-    match judge::read(text.as_bytes()) {
+    match judge::fill(text.as_bytes()) {
         Outcome::Made { result, .. } => result,
         other => panic!("{text:?}: {other:?}"),
     }
@@ -178,7 +178,7 @@ fn writing() {
 /// Where two refusals hold at once, the earlier in 01's order is given.
 fn orders() {
     let long = |text: &[u8]| [text, &[b'x'; LIMIT]].concat();
-    let read = |text: &[u8], length| answered(judge::read(text), length);
+    let read = |text: &[u8], length| answered(judge::fill(text), length);
     assert_eq!(read(&long(b"\xff"), 0), (1, LIMIT as u64 + 1, 0));
     assert_eq!(read(&["先手の持駒：x\n".as_bytes(), b"\xff"].concat(), 0), (2, 20, 0));
     assert_eq!(read("先手の持駒：x\n".as_bytes(), 0), (3, 0, 0));

@@ -5,7 +5,7 @@ include!(concat!(env!("OUT_DIR"), "/jkf.rs"));
 mod attach;
 #[cfg(feature = "linked")]
 mod back;
-#[cfg(feature = "kif_read")]
+#[cfg(feature = "kif_fill")]
 mod bench;
 mod blocks;
 mod call;
@@ -64,14 +64,14 @@ fn obey(words: &[String]) -> Option<bool> {
         ["check", ref numbers @ ..] => Some(check::check(number(numbers, 0, CASES)?, number(numbers, 1, SEED)?)),
         #[cfg(feature = "linked")]
         ["compare", ref numbers @ ..] => Some(compare::compare(number(numbers, 0, CASES)?, number(numbers, 1, SEED)?)),
-        #[cfg(feature = "kif_read")]
+        #[cfg(feature = "kif_fill")]
         ["bench"] => {
             bench::bench();
             Some(true)
         }
-        #[cfg(not(feature = "kif_read"))]
+        #[cfg(not(feature = "kif_fill"))]
         ["bench"] => {
-            eprintln!("bench: the library exports no kif_read");
+            eprintln!("bench: the library exports no kif_fill");
             Some(false)
         }
         ["record", file] => Some(reported(file, recorder::record(file))),

@@ -11,8 +11,10 @@ type Out = *mut u8;
 type Figure = *mut u64;
 
 extern "C" {
-    #[cfg(feature = "kif_read")]
-    fn kif_read(text: In, text_len: usize, out: Out, out_len: usize, number: Figure, first: Figure, second: Figure);
+    #[cfg(feature = "kif_measure")]
+    fn kif_measure(text: In, text_len: usize, number: Figure, first: Figure, second: Figure);
+    #[cfg(feature = "kif_fill")]
+    fn kif_fill(text: In, text_len: usize, out: Out, out_len: usize, number: Figure, first: Figure, second: Figure);
     #[cfg(feature = "kif_write")]
     fn kif_write(block: In, block_len: usize, out: Out, out_len: usize, number: Figure, first: Figure, second: Figure);
     #[cfg(feature = "kif_put_in")]
@@ -54,8 +56,10 @@ extern "C" {
 pub fn answer(call: &Call, out: &mut [u8]) -> Answer {
     let (at, room) = (out.as_mut_ptr(), out.len());
     match call {
-        #[cfg(feature = "kif_read")]
-        Call::Read { text } => lend(|n, a, b| unsafe { kif_read(text.as_ptr(), text.len(), at, room, n, a, b) }),
+        #[cfg(feature = "kif_measure")]
+        Call::Measure { text } => lend(|n, a, b| unsafe { kif_measure(text.as_ptr(), text.len(), n, a, b) }),
+        #[cfg(feature = "kif_fill")]
+        Call::Fill { text } => lend(|n, a, b| unsafe { kif_fill(text.as_ptr(), text.len(), at, room, n, a, b) }),
         #[cfg(feature = "kif_write")]
         Call::Write { block } => lend(|n, a, b| unsafe { kif_write(block.as_ptr(), block.len(), at, room, n, a, b) }),
         #[cfg(feature = "kif_put_in")]

@@ -25,7 +25,7 @@ const UNTOUCHED: u8 = 165;
 /// A kind's letter, what it is, and its recorder.
 type Recorder = (u8, &'static str, fn(&mut Sample));
 
-const RECORDERS: [Recorder; 18] = [
+const RECORDERS: [Recorder; 19] = [
     (b'u', "UTF-8: bytes; count of well-formed ones from the start", leaves::utf8),
     (b't', "blanks, padding, tail, break: which, place, text; found, place after", leaves::steps),
     (b'd', "digits: largest, place, text; 0 none 1 value 2 too large, value, place after", leaves::digits),
@@ -40,7 +40,8 @@ const RECORDERS: [Recorder; 18] = [
     (b'm', "move lines: place, text; found, ply, place after, the entry's 20 bytes", lines::move_lines),
     (b'k', "comments: place, text; found, its text's first place and the one after it, place after", remarks::comments),
     (b'x', "skip lines: place, text; found, place after", remarks::skips),
-    (b'r', "reads: buffer's length, text; number, two figures, the buffer (165 in each byte before)", reads::reads),
+    (b'g', "measures: text; number, two figures", reads::measures),
+    (b'r', "reads: buffer's length, text; number, two figures, the buffer (165 in each byte before)", reads::fills),
     (b'b', "writes: buffer's length, slice; number, two figures, the buffer (165 in each byte before)", writes::writes),
     (b'p', "put-ins: buffer's length, line, block's length, block, text; as of reads", edits::put_ins),
     (b'o', "cuts: buffer's length, line, block's length, block; as of reads", edits::cuts),

@@ -6,7 +6,7 @@ use crate::record::LIMIT;
 /// What the original writes of the block that it reads from this input, or the refusal of reading or writing.
 pub fn text(input: &[u8]) -> String {
     let mut block = vec![0; LIMIT];
-    let read = judge::read(input).deliver(&mut block);
+    let read = judge::fill(input).deliver(&mut block);
     if read.number != 0 {
         return refused(read);
     }

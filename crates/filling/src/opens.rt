@@ -58,7 +58,7 @@ fn begin(z: Sizes) -> Walk
 }
 
 // The length of a block; the largest number where it is past all measure.
-fn length_of(z: Sizes) -> usize
+pub fn length_of(z: Sizes) -> usize
     ensures { λ r. ⌜ r ≡ lengthOf z ⌝ }
 {
     if !are_small(z) {

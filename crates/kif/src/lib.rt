@@ -3,7 +3,7 @@ ghost use mathlib.Core.Path.{_≡_};
 ghost use Rattle.block.specs.Decode.{headersIn, commentsIn, keyOffset, keyLength, valueOffset, valueLength, commentOffset, commentLength};
 ghost use Rattle.block.specs.Sound.{soundb};
 ghost use Rattle.block.specs.Look.{lookAnswer, Answered};
-ghost use Rattle.parser.specs.Read.{readOf};
+ghost use Rattle.parser.specs.Read.{measureOf, fillOf};
 ghost use Rattle.converter.specs.Writing.{writeOf};
 ghost use Rattle.edit.specs.Outcomes.{putInOf, cutOf};
 
@@ -51,19 +51,30 @@ pub extern "C" fn kif_value(
     block::value(block, k, number, first, second);
 }
 
+// How long the block of a text is, and how many bytes are taken.
+#[no_mangle]
+pub extern "C" fn kif_measure(text: &[u8], number: &mut u64, first: &mut u64, second: &mut u64)
+    ensures { λ _. ⌜ Answered (measureOf (now (text .entry))) (now (number .exit)) (now (first .exit)) (now (second .exit)) ⌝ }
+{
+    let f = jkf::figures_of(parser::measure(text));
+    *number = f.number;
+    *first = f.first;
+    *second = f.second;
+}
+
 // Reads a text into the front of a lent buffer.
 #[no_mangle]
-pub extern "C" fn kif_read(
+pub extern "C" fn kif_fill(
     text: &[u8],
     out: &mut [u8],
     number: &mut u64,
     first: &mut u64,
     second: &mut u64,
 )
-    ensures { λ _. ⌜ Answered (readOf (now (text .entry)) (now (out .entry)) .answer) (now (number .exit)) (now (first .exit)) (now (second .exit)) ⌝ }
-    ensures { λ _. ⌜ now (out .exit) ≡ readOf (now (text .entry)) (now (out .entry)) .buffer ⌝ }
+    ensures { λ _. ⌜ Answered (fillOf (now (text .entry)) (now (out .entry)) .answer) (now (number .exit)) (now (first .exit)) (now (second .exit)) ⌝ }
+    ensures { λ _. ⌜ now (out .exit) ≡ fillOf (now (text .entry)) (now (out .entry)) .buffer ⌝ }
 {
-    let f = jkf::figures_of(parser::read(text, out));
+    let f = jkf::figures_of(parser::fill(text, out));
     *number = f.number;
     *first = f.first;
     *second = f.second;

@@ -141,7 +141,7 @@ fn tell_left(word: Word, name: &[u8], left: u64) {
 // Reads a text into a block as long as a block can be, so that no buffer is short.
 fn read(word: Word, line: u64, name: &[u8], text: &[u8], out: &mut [u8]) {
     let mut block = [0u8; 65535];
-    let f = jkf::figures_of(parser::read(text, &mut block));
+    let f = jkf::figures_of(parser::fill(text, &mut block));
     if f.number != 0 {
         refusals::tell(name, f);
         return;

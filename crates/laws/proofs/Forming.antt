@@ -3,6 +3,7 @@
 use Prim.Native.Nat.{ℕ, _+_, _*_, _≤_, _<_}
 use native.Mathlib.Omega.{arith}
 use mathlib.Core.Path.{_≡_, refl, ap, _∙_}
+use mathlib.Core.Bool.{false}
 use mathlib.Core.List.{List, [], _∷_}
 use lib.ListN.{length, getD, take, drop, replicate}
 use lib.Seq.{take-at}
@@ -27,7 +28,9 @@ use Rattle.kakinoki.proofs.Reach.{repeat-keeps}
 use Rattle.plays.specs.Plays.{playsAt}
 use Rattle.filling.specs.Filling.{atFront}
 use Rattle.parser.specs.Parse.{headersOf, parse, recordOf, needed}
-use Rattle.parser.specs.Read.{onFault, onHung, filledWith, readStored, startedOf, readOf}
+use Rattle.parser.specs.Read.{onFault, onHung, onEarly, filledWith, readStored, earlyOf, faultless, fillOf}
+use Rattle.parser.specs.declared.Early.{Early}
+use Rattle.parser.specs.declared.Early.the-variants.{Refused, Passed}
 use Rattle.plays.proofs.Items.{on-more, no-more}
 use Rattle.laws.proofs.Playing.{entries-kind, comments-valid, some-lines, lines-fit}
 use Rattle.laws.proofs.Smalling.{lines-bytes, entries-bytes, remarks-bytes, comments-bytes}
@@ -95,6 +98,25 @@ pub done-second : (t n t′ m : ℕ) → Done t n ≡ Done t′ m → n ≡ m
 unfolding figures
 done-second t n t′ m e = ap (λ (x : Answer). figures x .second) e
 
+-- ---- refusals 1 to 3
+
+-- what refuses early has one of these numbers, and what passes is UTF-8
+pub data EarlySays (s : List ℕ) : Early → Type 0 where
+  refuses : {a : Answer} → 0 < figures a .number → figures a .number ≤ 3 → EarlySays s (Refused a)
+  passes : wellFormedBytes s ≡ length s → EarlySays s Passed
+
+pub early-says : (s : List ℕ) → EarlySays s (earlyOf s)
+unfolding earlyOf faultless figures
+early-says s =
+    by-pick (EarlySays s) (ltb 65535 (length s)) _ _ (λ _. refuses {a = TextTooLong (length s)} (omega arith) (omega arith))
+    (λ _. by-pick (EarlySays s) (ltb (wellFormedBytes s) (length s)) _ _ (λ _. refuses {a = NotUtf8 (wellFormedBytes s)} (omega arith) (omega arith)) (λ n. go (startRead s .fault) n))
+  where
+    go : (f : Fault) → ltb (wellFormedBytes s) (length s) ≡ false → EarlySays s (onFault f (λ at. Refused (HandLine at)) Passed)
+    go (At at) n = refuses {a = HandLine at} (omega arith) (omega arith)
+    go NoFault n = passes (omega (arith, well-within s, ltb-false (wellFormedBytes s) (length s) n))
+
+-- ---- a reading that is done
+
 module _ (s o : List ℕ) (b : (k : ℕ) → getD s k 0 < 256) where
   -- where it says that it is done, the block is at the front of the buffer
   abbrev Fronted : Outcome → Type 0
@@ -118,15 +140,11 @@ module _ (s o : List ℕ) (b : (k : ℕ) → getD s k 0 < 256) where
       (λ n. by-pick Fronted (ltb (length o) (needed (parse s))) _ _ (λ _ t m e. refused (BufferShort (needed (parse s))) t m (omega arith) e)
       (λ _. filled-front w (ltb-false 65535 (needed (parse s)) n)))
 
-  fault-front : (f : Fault) → wellFormedBytes s ≡ length s → Fronted (onFault f (λ at. refuse (HandLine at) o) (readStored (parse s) o))
-  unfolding figures
-  fault-front (At at) w t m e = refused (HandLine at) t m (omega arith) e
-  fault-front NoFault w t m e = stored-front w t m e
-
-  pub read-done : (t m : ℕ) → readOf s o .answer ≡ Done t m
-      → (take m (readOf s o .buffer) ≡ encode (recordOf (parse s))) × Formed (recordOf (parse s))
-  unfolding readOf startedOf figures
-  read-done =
-      by-pick Fronted (ltb 65535 (length s)) _ _ (λ _ t m e. refused (TextTooLong (length s)) t m (omega arith) e)
-      (λ _. by-pick Fronted (ltb (wellFormedBytes s) (length s)) _ _ (λ _ t m e. refused (NotUtf8 (wellFormedBytes s)) t m (omega arith) e)
-      (λ n. fault-front (startRead s .fault) (omega (arith, well-within s, ltb-false (wellFormedBytes s) (length s) n))))
+  pub read-done : (t m : ℕ) → fillOf s o .answer ≡ Done t m
+      → (take m (fillOf s o .buffer) ≡ encode (recordOf (parse s))) × Formed (recordOf (parse s))
+  unfolding fillOf
+  read-done = go (earlyOf s) (early-says s)
+    where
+      go : (e : Early) → EarlySays s e → Fronted (onEarly e (λ a. refuse a o) (readStored (parse s) o))
+      go (Refused a) (refuses h _) t m e = refused a t m h e
+      go Passed (passes w) t m e = stored-front w t m e

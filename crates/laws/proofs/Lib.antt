@@ -14,6 +14,7 @@ pub mod Breaking
 pub mod Heading
 pub mod Forming
 pub mod Reading
+pub mod Measures
 pub mod Firsts
 pub mod Relining
 pub mod Fewer

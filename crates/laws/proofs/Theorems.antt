@@ -4,7 +4,7 @@ use Rattle.block.proofs.Deciding.{sound-says, sound-answers}
 use Rattle.block.specs.Encode.{encode}
 use Rattle.block.proofs.PositionsBack.{position-length}
 use Rattle.block.proofs.Lengths.{block-length}
-use Rattle.parser.specs.Read.{readOf}
+use Rattle.parser.specs.Read.{fillOf}
 use Rattle.laws.specs.Blocks.{frontOf, BlockTheorems}
 use Rattle.laws.proofs.Made.{sound-encode}
 use Rattle.laws.proofs.Decoded.{decode-encode, one-record}
@@ -25,5 +25,5 @@ blocks-hold =
       one-block = λ b c bs cs h k e. one-block b c (sound-says b h) (sound-says c k) bs cs e;
       read-formed = λ s bs w n g. read-formed s bs w n g;
       read-done = read-done;
-      read-sound = λ s o bs t m e. sound-answers (frontOf m (readOf s o)) (read-sound s o bs t m e);
+      read-sound = λ s o bs t m e. sound-answers (frontOf m (fillOf s o)) (read-sound s o bs t m e);
     }

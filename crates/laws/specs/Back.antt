@@ -17,7 +17,7 @@ use Rattle.block.specs.Formed.{Formed}
 use Rattle.kakinoki.specs.Starts.{startRead}
 use Rattle.kakinoki.specs.declared.Fault.the-variants.{NoFault}
 use Rattle.parser.specs.Parse.{Parsed, parse}
-use Rattle.parser.specs.Read.{readOf}
+use Rattle.parser.specs.Read.{fillOf}
 use Rattle.converter.specs.Show.{recordText, handsObstacle, linesObstacle}
 use Rattle.converter.specs.Writing.{writeOf}
 use Rattle.converter.specs.declared.Obstacle.the-variants.{Clear}
@@ -43,7 +43,7 @@ pub data EditsOf (b : List ℕ) : List ℕ → Type 0 where
 
 -- The blocks of which reading back is promised: one that the reader answered, and what an edit made of such a block.
 pub data OnceRead : List ℕ → Type 0 where
-  read : (s o : List ℕ) (t n : ℕ) → Bytes s → readOf s o .answer ≡ Done t n → OnceRead (frontOf n (readOf s o))
+  read : (s o : List ℕ) (t n : ℕ) → Bytes s → fillOf s o .answer ≡ Done t n → OnceRead (frontOf n (fillOf s o))
   then : {b c : List ℕ} → OnceRead b → EditOf b c → OnceRead c
 
 -- A reading that takes n bytes and finds r in them: the block of r at the front of the lent buffer, and the rest as it was.
@@ -56,7 +56,7 @@ abbrev pub TextReadsBack : List ℕ → Type 0
 TextReadsBack b =
     (o : List ℕ) (n l : ℕ) → writeOf b o .answer ≡ Done n l → n ≤ 65535
     → (o′ : List ℕ) → length (encode (left (decode b))) ≤ length o′
-    → (readOf (frontOf n (writeOf b o)) o′ ≡ readInto n (left (decode b)) o′) × (decode (encode (left (decode b))) ≡ left (decode b))
+    → (fillOf (frontOf n (writeOf b o)) o′ ≡ readInto n (left (decode b)) o′) × (decode (encode (left (decode b))) ≡ left (decode b))
 
 -- So for each block that was once read and in which the colours follow their plies.
 abbrev pub ReadsBack : Type 0
@@ -101,7 +101,7 @@ abbrev pub ReadsBackIn : Type 0
 ReadsBackIn =
     (m : Mode) (r : Record) → Formed r → Sayable r → ColorsFollow r → handsObstacle (r .position) ≡ Clear → AllWritten m r
     → length (textIn m r) ≤ 65535 → (o : List ℕ) → length (encode (leftIn m r)) ≤ length o
-    → readOf (textIn m r) o ≡ readInto (length (textIn m r)) (leftIn m r) o
+    → fillOf (textIn m r) o ≡ readInto (length (textIn m r)) (leftIn m r) o
 
 -- ---- by hand                                                                                         (02, xi: records made by hand)
 
@@ -112,4 +112,4 @@ RestoresByHand =
     (b : List ℕ) → Bytes b → soundb b ≡ true → ByHand (decode b) → ColorsFollow (decode b) → AllWritten whole (decode b)
     → handsObstacle (decode b .position) ≡ Clear → linesObstacle (decode b .lines) ≡ Clear
     → length (wholeText (decode b)) ≤ 65535 → (o : List ℕ) → length b ≤ length o
-    → readOf (wholeText (decode b)) o ≡ record { answer = Done (length (wholeText (decode b))) (length b); buffer = b ++ drop (length b) o }
+    → fillOf (wholeText (decode b)) o ≡ record { answer = Done (length (wholeText (decode b))) (length b); buffer = b ++ drop (length b) o }

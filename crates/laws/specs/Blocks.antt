@@ -15,7 +15,7 @@ use Rattle.block.specs.Decode.{decode}
 use Rattle.block.specs.Sound.{soundb}
 use Rattle.block.specs.Formed.{Formed}
 use Rattle.parser.specs.Parse.{parse, recordOf, needed}
-use Rattle.parser.specs.Read.{readOf}
+use Rattle.parser.specs.Read.{fillOf}
 
 -- ---- words
 
@@ -52,6 +52,6 @@ pub record BlockTheorems : Type 0 where
       → Formed (recordOf (parse s))
   -- Where a text is read, with the figures t and m, the first m bytes of the buffer are the block of the record that it says, which is well
   -- formed, and so they are sound.
-  pub read-done : (s o : List ℕ) → Bytes s → (t m : ℕ) → readOf s o .answer ≡ Done t m
-      → (frontOf m (readOf s o) ≡ encode (recordOf (parse s))) × Formed (recordOf (parse s))
-  pub read-sound : (s o : List ℕ) → Bytes s → (t m : ℕ) → readOf s o .answer ≡ Done t m → soundb (frontOf m (readOf s o)) ≡ true
+  pub read-done : (s o : List ℕ) → Bytes s → (t m : ℕ) → fillOf s o .answer ≡ Done t m
+      → (frontOf m (fillOf s o) ≡ encode (recordOf (parse s))) × Formed (recordOf (parse s))
+  pub read-sound : (s o : List ℕ) → Bytes s → (t m : ℕ) → fillOf s o .answer ≡ Done t m → soundb (frontOf m (fillOf s o)) ≡ true

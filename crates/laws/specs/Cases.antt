@@ -19,7 +19,7 @@ use Rattle.jkf.specs.declared.Entry.the-variants.{Moved}
 use Rattle.block.specs.Decode.{run, linesIn, startOf, parentOf}
 use Rattle.moves.specs.Moves.{moveLineAt}
 use Rattle.moves.specs.declared.MoveLine.the-variants.{Numbered, NoLine}
-use Rattle.parser.specs.Read.{readOf}
+use Rattle.parser.specs.Read.{fillOf}
 use Rattle.edit.specs.Outcomes.{putInOf, cutOf}
 use Rattle.shown.specs.Listing.{listingText, refusalText}
 use Rattle.laws.specs.Blocks.{frontOf}
@@ -29,7 +29,7 @@ use Rattle.laws.specs.CaseTexts.{moveLine, originLine, Variation, from, 
 
 -- Reading a text of the main line and these variations.
 abbrev pub reading : List ℕ → List Variation → Outcome
-reading o vs = readOf (textOf vs) o
+reading o vs = fillOf (textOf vs) o
 
 -- The block that a reading stores: its second figure says how long it is.
 abbrev pub blockOf : Outcome → List ℕ
@@ -118,7 +118,7 @@ Holds o (isNoLine n) = moveLineAt (originLine n) 0 ≡ NoLine
 -- The characters are this count, to their last byte.
 Holds o (counts t n) = handCountAt t 0 ≡ As n (cursor (length t))
 -- The listing program prints this of the text.
-Holds o (prints t listed) = listing (readOf t o) ≡ listed
+Holds o (prints t listed) = listing (fillOf t o) ≡ listed
 
 -- The rows.
 unfoldable pub cases : List Case

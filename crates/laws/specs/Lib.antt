@@ -1,5 +1,6 @@
 pub mod Blocks
 pub mod Searches
+pub mod Measures
 pub mod Edits
 pub mod Orders
 pub mod Whole

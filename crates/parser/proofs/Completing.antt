@@ -27,8 +27,9 @@ use Rattle.plays.specs.Plays.{playsAt}
 use Rattle.parser.specs.inner.Headers.{headersAt}
 use Rattle.parser.specs.inner.Lines.{hanging}
 use Rattle.parser.specs.Parse.{Parsed, parse, needed, recordOf}
-use Rattle.parser.specs.Read.{filledWith, readStored}
-use Rattle.parser.specs.inner.Stores.{Prepared, parsedSizes, Opened}
+use Rattle.parser.specs.Read.{filledWith, readStored, measured}
+use Rattle.parser.specs.inner.Stores.{Prepared, parsedSizes, Opened, Surveyed}
+use Rattle.parser.specs.declared.Survey.{Survey}
 use Rattle.parser.specs.declared.Hanging.{Hanging}
 use Rattle.parser.specs.declared.Hanging.the-variants.{AllHung, Lost}
 use Rattle.parser.proofs.Opening.{start-length}
@@ -181,3 +182,9 @@ module _ (s : List ℕ) {p : Position} (c : Cursor) (hs : List ℕ) (f : Prepare
           let same = filled-same (parse s) o o₁ k (subst (λ (j : ℕ). drop j o₁ ≡ drop j o) block-long r) in
           let u = unrefused (needed (parse s)) o (filledWith (parse s) o) (omega (arith, needed-length f, q .short)) (omega (arith, needed-length f, q .room)) in
           (x ∙ ap (λ (g : Outcome). g .answer) (same ∙ sym u), y ∙ ap (λ (g : Outcome). g .buffer) (same ∙ sym u))
+
+-- ---- measured
+
+-- what was counted comes to the length needed
+pub measured-so : {s : List ℕ} {v : Survey} {hs : List ℕ} → Surveyed s v hs → measured (lengthOf (v .sizes)) (v .taken) ≡ measured (needed (parse s)) (parse s .taken)
+measured-so f = ap₂ measured (ap lengthOf (f .sizes) ∙ needed-length (f .ready)) (f .taken)

@@ -4,7 +4,7 @@
 use Prim.Native.Nat.{ℕ, suc, _+_, _-_, _≤_, _<_}
 use native.Mathlib.Nat.{mod-eq-of-lt}
 use native.Mathlib.Omega.{arith}
-use mathlib.Core.Path.{_≡_, refl, sym, ap, _∙_}
+use mathlib.Core.Path.{_≡_, refl, sym, ap, _∙_, subst}
 use mathlib.Core.List.{List, [], _∷_, _++_}
 use lib.ListN.{length, getD, take, drop, replicate, length-append, length-replicate}
 use lib.Seq.{sets-eq, take-at, take-append-le, length-take-le}
@@ -16,7 +16,13 @@ use Rattle.kakinoki.specs.Informations.{low16}
 use Rattle.kakinoki.specs.Starts.{startRead, headerPlaces}
 use Rattle.kakinoki.specs.declared.Start.{Start}
 use Rattle.kakinoki.proofs.Heads.{header-begins, headers-few}
-use Rattle.parser.specs.inner.Stores.{noPlaces, Prepared}
+use Rattle.text.specs.Utf8.{wellFormedBytes}
+use Rattle.jkf.specs.declared.Answer.{Answer}
+use Rattle.parser.specs.Read.{faultless, earlyOf}
+use Rattle.parser.specs.declared.Early.{Early}
+use Rattle.parser.specs.declared.Early.the-variants.{Refused, Passed}
+use Rattle.parser.specs.declared.Survey.{Survey}
+use Rattle.parser.specs.inner.Stores.{noPlaces, Prepared, Surveyed, Sorted}
 
 -- ---- numbers of 16 bits, and a list at a buffer's front
 
@@ -80,32 +86,49 @@ module _ (s : List ℕ) (start : Start) (places : List ℕ) (b : Begun s start p
   pub taken-count : start .headers ≡ length (take (start .headers) places)
   taken-count = sym counted ∙ sym (ap length places-taken)
 
-  -- the buffer has room for them, so as much of it is lent
-  pub sorted-room : start .headers ≤ length noPlaces
-  sorted-room = omega (arith, counted, room)
+  -- a buffer has room for them, so as much of it is lent
+  module _ (o : List ℕ) (wide : 13107 ≤ length o) where
+    pub sorted-room : start .headers ≤ length o
+    sorted-room = omega (arith, counted, places-few)
 
-  pub room-count : start .headers ≡ length (take (start .headers) noPlaces)
-  room-count = sym (length-take-le (start .headers) noPlaces sorted-room)
+    pub room-count : start .headers ≡ length (take (start .headers) o)
+    room-count = sym (length-take-le (start .headers) o sorted-room)
 
-  -- as much of the buffer as there are places was lent, and q is the rest of it
-  module _ (r : ℕ) (out q : List ℕ) (e : (r ≡ keptCount s (take (start .headers) places) (take (start .headers) noPlaces)) × (out ≡ keptBuffer s (take (start .headers) places) (take (start .headers) noPlaces))) where
-    sorted-leads : Leads (kept s (headerPlaces s)) (out ++ q) r
-    sorted-leads =
-        let o = take (start .headers) noPlaces in
-        leads-then q (kept-leads s (headerPlaces s) o out r places-few (omega (arith, counted, room-count)) (e .0 ∙ ap (λ (ps : List ℕ). keptCount s ps o) places-taken)
-        (e .1 ∙ ap (λ (ps : List ℕ). keptBuffer s ps o) places-taken))
+    -- q is the rest of it
+    module _ (r : ℕ) (out q : List ℕ) (e : (r ≡ keptCount s (take (start .headers) places) (take (start .headers) o)) × (out ≡ keptBuffer s (take (start .headers) places) (take (start .headers) o))) where
+      sorted-leads : Leads (kept s (headerPlaces s)) (out ++ q) r
+      sorted-leads =
+          let o′ = take (start .headers) o in
+          leads-then q (kept-leads s (headerPlaces s) o′ out r places-few (omega (arith, counted, room-count)) (e .0 ∙ ap (λ (ps : List ℕ). keptCount s ps o′) places-taken)
+          (e .1 ∙ ap (λ (ps : List ℕ). keptBuffer s ps o′) places-taken))
 
-    pub sorted-within : r ≤ length (out ++ q)
-    sorted-within = sorted-leads .fits
+      pub sorted-within : r ≤ length (out ++ q)
+      sorted-within = sorted-leads .fits
 
-    pub sorted-count : r ≡ length (take r (out ++ q))
-    sorted-count = sym (length-take-le r (out ++ q) sorted-within)
+      pub sorted-count : r ≡ length (take r (out ++ q))
+      sorted-count = sym (length-take-le r (out ++ q) sorted-within)
 
-    pub prepared : Prepared s (start .position) (start .next .at) (take r (out ++ q))
-    prepared =
-        record {
-          short = b .0;
-          position = ap (λ (x : Start). x .position) (b .1);
-          place = ap (λ (x : Start). x .next .at) (b .1);
-          headers = sorted-leads .front;
-        }
+      pub prepared : Prepared s (start .position) (start .next .at) (take r (out ++ q))
+      prepared =
+          record {
+            short = b .0;
+            position = ap (λ (x : Start). x .position) (b .1);
+            place = ap (λ (x : Start). x .next .at) (b .1);
+            headers = sorted-leads .front;
+          }
+
+-- what was found stands with its places at the front of the buffer
+pub sorted-so : (s : List ℕ) (v : Survey) (o : List ℕ) (r : ℕ) → r ≤ length o → Surveyed s v (take r o) → Sorted s v o
+sorted-so s v o r h f =
+    let n : v .sizes .headers ≡ r = f .count ∙ length-take-le r o h in
+    record { room = omega arith; found = subst (λ (k : ℕ). Surveyed s v (take k o)) (sym n) f }
+
+-- ---- refusals 1 to 3
+
+pub late : (s : List ℕ) → length s ≤ 65535 → length s ≤ wellFormedBytes s → earlyOf s ≡ faultless s
+unfolding earlyOf
+late s h k = rw (le-ltb 65535 (length s) h, le-ltb (wellFormedBytes s) (length s) k)
+
+-- a refusal has nothing found
+pub no-pass : {A : Type 0} {a : Answer} {e : Early} → e ≡ Refused a → e ≡ Passed → A
+no-pass p q = let z : _≡_ {A = ℕ} 0 1 = cc in absurd (omega arith)

@@ -112,6 +112,11 @@ sizes-are s z hs n e h t =
     let d : z .bytes ≡ length (commentText (commentsOf (entriesOf (attach ps)))) = ap (λ (y : Extents). y .bytes) e ∙ ap (λ (l : List Noted). length (commentText (commentsOf l))) (sym f) in
     rw (k, a, b, c, d, m)
 
+-- and how much is taken
+pub taken-is : (s : List ℕ) (z : Extents) → z ≡ extentsAt s (startRead s .next .at) → z .next .at ≡ parse s .taken
+unfolding parse extentsAt
+taken-is s z e = ap (λ (y : Extents). y .next .at) e
+
 -- the header texts are not longer than as many texts
 pub headers-short : (s ps : List ℕ) → HeaderLines s ps → length (headerText (headersAt s ps)) ≤ 65535 * length ps
 unfolding concat

@@ -1,4 +1,4 @@
--- What `read` answers, and what the lent buffer then holds.                                           (01, Numbers of refusal)
+-- What `measure` and `fill` answer, and what the lent buffer then holds.                             (01, Numbers of refusal; 02, request (vii))
 -- Assumes nothing: these are definitions.
 use Prim.Native.Nat.{ℕ}
 use mathlib.Core.List.{List}
@@ -8,13 +8,18 @@ use Rattle.lists.specs.Pick.{pick}
 use Rattle.text.specs.Utf8.{wellFormedBytes}
 use Rattle.jkf.specs.Attaching.{Hung, all, first, allHung}
 use Rattle.jkf.specs.Answers.{Outcome, refuse}
-use Rattle.jkf.specs.declared.Answer.the-variants.{Done, TextTooLong, NotUtf8, HandLine, NoEntry}
+use Rattle.jkf.specs.declared.Answer.{Answer}
+use Rattle.jkf.specs.declared.Answer.the-variants.{Done, TextTooLong, NotUtf8, HandLine, BlockTooLong, NoEntry}
 use Rattle.block.specs.Encode.{encode}
 use Rattle.filling.specs.Filling.{unlessRefused, atFront}
 use Rattle.kakinoki.specs.Starts.{startRead}
 use Rattle.kakinoki.specs.declared.Fault.{Fault}
 use Rattle.kakinoki.specs.declared.Fault.the-variants.{NoFault, At}
 use Rattle.parser.specs.Parse.{Parsed, parse, needed, recordOf}
+use Rattle.parser.specs.declared.Early.{Early}
+use Rattle.parser.specs.declared.Early.the-variants.{Refused, Passed}
+
+-- ---- words
 
 abbrev pub onFault : {A : Type 0} → Fault → (ℕ → A) → A → A
 onFault (At at) f d = f at
@@ -23,6 +28,36 @@ onFault NoFault f d = d
 abbrev pub onHung : {A : Type 0} → Hung → (ℕ → ℕ → A) → A → A
 onHung (first k ply) f d = f k ply
 onHung all f d = d
+
+abbrev pub onEarly : {A : Type 0} → Early → (Answer → A) → A → A
+onEarly (Refused a) f d = f a
+onEarly Passed f d = d
+
+-- ---- refusals 1 to 3, in this order                                                                 (01, Numbers of refusal: order)
+
+-- Refusal 3: the hand line that cannot be read.
+unfoldable pub faultless : List ℕ → Early
+faultless s = onFault (startRead s .fault) (λ at. Refused (HandLine at)) Passed
+
+-- Before it 1 and 2.
+unfoldable pub earlyOf : List ℕ → Early
+earlyOf s =
+    let r = faultless s in
+    pick (ltb 65535 (length s))
+    (Refused (TextTooLong (length s)))
+    (pick (ltb (wellFormedBytes s) (length s)) (Refused (NotUtf8 (wellFormedBytes s))) r)
+
+-- ---- measuring                                                                                       (02, request (vii))
+
+-- The length needed and the bytes taken; or refusal 4.
+unfoldable pub measured : ℕ → ℕ → Answer
+measured n taken = pick (ltb 65535 n) (BlockTooLong n) (Done n taken)
+
+-- Refusals 1 to 4. Nothing is lent.
+unfoldable pub measureOf : List ℕ → Answer
+measureOf s = let r = measured (needed (parse s)) (parse s .taken) in onEarly (earlyOf s) (λ a. a) r
+
+-- ---- filling
 
 -- Refusal 6 clears the whole buffer; success puts the block at its front and changes nothing past it.
 unfoldable pub filledWith : Parsed → List ℕ → Outcome
@@ -35,14 +70,6 @@ filledWith p o =
 unfoldable pub readStored : Parsed → List ℕ → Outcome
 readStored p o = unlessRefused (needed p) o (filledWith p o)
 
--- Refusal 3, then the others.
-unfoldable pub startedOf : List ℕ → List ℕ → Outcome
-startedOf s o = let r = readStored (parse s) o in onFault (startRead s .fault) (λ at. refuse (HandLine at) o) r
-
--- Refusals 1 and 2, then the others.                                                                  (01, Numbers of refusal: order)
-unfoldable pub readOf : List ℕ → List ℕ → Outcome
-readOf s o =
-    let r = startedOf s o in
-    pick (ltb 65535 (length s))
-    (refuse (TextTooLong (length s)) o)
-    (pick (ltb (wellFormedBytes s) (length s)) (refuse (NotUtf8 (wellFormedBytes s)) o) r)
+-- Refusals 1 to 6.
+unfoldable pub fillOf : List ℕ → List ℕ → Outcome
+fillOf s o = let r = readStored (parse s) o in onEarly (earlyOf s) (λ a. refuse a o) r

@@ -4,8 +4,13 @@ mod fills;
 mod headers;
 mod reads;
 mod stores;
+mod surveys;
 
-pub use reads::read;
+use filling::Sizes;
+use jkf::Answer;
+use jkf::Position;
+pub use reads::fill;
+pub use reads::measure;
 use text::Cursor;
 
 // All lines of play: how many, their entries, their comments and the bytes of these, and the place past them.
@@ -21,4 +26,20 @@ pub struct Extents {
 pub enum Hanging {
     AllHung(Cursor),
     Lost(u64, u64),
+}
+
+// Whether a text is refused before its block is measured.
+pub enum Early {
+    Refused(Answer),
+    Passed,
+}
+
+// A text before anything of it is stored: whether it is refused; else its position, where its lines of play begin, the sizes of its block, and
+// how many bytes are taken.
+pub struct Survey {
+    pub early: Early,
+    pub position: Position,
+    pub moves: Cursor,
+    pub sizes: Sizes,
+    pub taken: usize,
 }

@@ -1,20 +1,17 @@
-// What a text says, measured and stored as a block.
+// What a text says, stored as a block.
 use crate::Hanging;
-use crate::counts::count_lines;
+use crate::Survey;
 use crate::fills::fill_lines;
-use crate::headers::count_headers;
 use crate::headers::fill_headers;
 use filling::Opening;
-use filling::Sizes;
 use filling::Walk;
 use jkf::Answer;
-use jkf::Position;
 use text::Cursor;
 ghost use mathlib.Core.Path.{_≡_};
 ghost use lib.ListN.{length, replicate};
 ghost use Rattle.parser.specs.Parse.{parse};
 ghost use Rattle.parser.specs.Read.{readStored, filledWith};
-ghost use Rattle.parser.specs.inner.Stores.{Prepared, Opened};
+ghost use Rattle.parser.specs.inner.Stores.{Prepared, Surveyed, Opened};
 
 // The whole buffer set to zero.
 fn clear(out: &mut [u8])
@@ -25,7 +22,7 @@ fn clear(out: &mut [u8])
 }
 
 // All parts of a block that is begun; zeros where a variation has no entry to hang on.
-fn fill(s: &[u8], c: Cursor, headers: &[u16], w: Walk, total: u64, out: &mut [u8]) -> Answer
+fn fill_parts(s: &[u8], c: Cursor, headers: &[u16], w: Walk, total: u64, out: &mut [u8]) -> Answer
     requires { ⌜ Prepared (now s) (parse (now s) .position) (c .at) (now headers) ⌝ }
     requires { ⌜ Opened (parse (now s)) w total (now out) ⌝ }
     ensures { λ r. ⌜ r ≡ filledWith (parse (now (s .entry))) (now (out .entry)) .answer ⌝ }
@@ -41,28 +38,16 @@ fn fill(s: &[u8], c: Cursor, headers: &[u16], w: Walk, total: u64, out: &mut [u8
     }
 }
 
-// Measures the block, refuses it where it is too long or the buffer too short, and fills it.
-pub(crate) fn store(
-    s: &[u8],
-    position: Position,
-    c: Cursor,
-    headers: &[u16],
-    out: &mut [u8],
-) -> Answer
-    requires { ⌜ Prepared (now s) position (c .at) (now headers) ⌝ }
+// The block of a text that was looked through: refused where it is too long or the buffer too short, else filled.
+pub(crate) fn store(s: &[u8], v: Survey, headers: &[u16], out: &mut [u8]) -> Answer
+    requires { ⌜ Surveyed (now s) v (now headers) ⌝ }
     ensures { λ r. ⌜ r ≡ readStored (parse (now (s .entry))) (now (out .entry)) .answer ⌝ }
     ensures { λ r. ⌜ now (out .exit) ≡ readStored (parse (now (s .entry))) (now (out .entry)) .buffer ⌝ }
 {
-    let all = count_lines(c, s);
-    let sizes = Sizes {
-        headers: headers.len(),
-        lines: all.lines,
-        entries: all.entries,
-        comments: all.comments,
-        bytes: count_headers(s, headers) + all.bytes,
-    };
+    let sizes = v.sizes;
+    let position = v.position;
     match filling::open(out, 1, sizes, position) {
-        Opening::Begun(w, total) => fill(s, c, headers, w, total, out),
+        Opening::Begun(w, total) => fill_parts(s, v.moves, headers, w, total, out),
         Opening::Refused(a) => a,
     }
 }

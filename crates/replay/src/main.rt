@@ -14,8 +14,8 @@ ghost use lib.ListN.{length};
 
 // How many records of each kind there were, and in how many the answers agreed. The last place is for unknown kinds.
 pub struct Tally {
-    pub asked: [u64; 19],
-    pub agreed: [u64; 19],
+    pub asked: [u64; 20],
+    pub agreed: [u64; 20],
 }
 
 // Whether to go on, and the tally so far.
@@ -26,7 +26,7 @@ pub struct Turn {
 
 impl Tally {
     fn counted(mut self, kind: usize, agrees: bool) -> Tally {
-        if 18 < kind {
+        if 19 < kind {
             return self;
         }
         self.asked[kind] = std::num::wrapping_add_u64(self.asked[kind], 1);
@@ -54,17 +54,18 @@ fn place_of(kind: u8) -> usize {
         b'm' => 11,
         b'k' => 12,
         b'x' => 13,
-        b'r' => 14,
-        b'b' => 15,
-        b'p' => 16,
-        b'o' => 17,
-        _ => 18,
+        b'g' => 14,
+        b'r' => 15,
+        b'b' => 16,
+        b'p' => 17,
+        b'o' => 18,
+        _ => 19,
     }
 }
 
 // The name of the kind at a place of the tally: rows of 32 bytes.
 fn print_name(place: usize) {
-    let at = if place < 18 { 32 * place } else { 576 };
+    let at = if place < 19 { 32 * place } else { 608 };
     io::write_all(
         STDOUT_FILENO,
         shown::text_at(
@@ -82,6 +83,7 @@ fn print_name(place: usize) {
               \x0amove lines                     \
               \x08comments                       \
               \x0askip lines                     \
+              \x0etexts measured                 \
               \x0atexts read                     \
               \x0eblocks written                 \
               \x11variations put in              \
@@ -102,7 +104,8 @@ fn respond(kind: u8, request: &[u8], out: &mut [u8]) -> usize
         b'm' => lines::move_line(request, out),
         b'k' => lines::comment_line(request, out),
         b'x' => lines::skip_line(request, out),
-        b'r' => reads::read(request, out),
+        b'g' => reads::measure(request, out),
+        b'r' => reads::fill(request, out),
         b'b' => writes::write(request, out),
         b'p' => edits::put_in(request, out),
         b'o' => edits::cut(request, out),
@@ -163,8 +166,8 @@ fn replay_next(fd: i32, tally: Tally) -> Turn {
 // A proved loop has to end, and nothing says that a file does: the turns are counted down from a number that no run uses up.
 fn replay_all(fd: i32) -> Tally {
     let mut tally = Tally {
-        asked: [0u64; 19],
-        agreed: [0u64; 19],
+        asked: [0u64; 20],
+        agreed: [0u64; 20],
     };
     let mut turns = u64::MAX;
     while turns > 0 {
@@ -189,7 +192,7 @@ fn print_line(place: usize, agreed: u64, asked: u64) {
 }
 
 fn print_tally(tally: Tally) {
-    for i in 0..19 {
+    for i in 0..20 {
         print_line(i, tally.agreed[i], tally.asked[i]);
     }
 }

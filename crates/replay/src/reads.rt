@@ -1,4 +1,4 @@
-// What reading a text answers to a request.
+// What measuring a text and reading it into a buffer answer to a request.
 use crate::request::number;
 use crate::request::put_three;
 use crate::request::rest;
@@ -6,7 +6,7 @@ ghost use Prim.Native.Nat.{_≤_};
 ghost use lib.ListN.{length};
 
 // The number and the figures, and behind them the buffer of the length asked for as reading left it.
-pub(crate) fn read(request: &[u8], out: &mut [u8]) -> usize
+pub(crate) fn fill(request: &[u8], out: &mut [u8]) -> usize
     ensures { λ r. ⌜ r ≤ length (now (out .entry)) ⌝ }
 {
     let room = number(request, 0) as usize;
@@ -16,7 +16,19 @@ pub(crate) fn read(request: &[u8], out: &mut [u8]) -> usize
     if out.len() - 24 < room {
         return 0;
     }
-    let f = jkf::figures_of(parser::read(rest(request, 8), &mut out[24..24 + room]));
+    let f = jkf::figures_of(parser::fill(rest(request, 8), &mut out[24..24 + room]));
     put_three(out, f.number, f.first, f.second);
     24 + room
+}
+
+// The number and the figures.
+pub(crate) fn measure(request: &[u8], out: &mut [u8]) -> usize
+    ensures { λ r. ⌜ r ≤ length (now (out .entry)) ⌝ }
+{
+    if out.len() < 24 {
+        return 0;
+    }
+    let f = jkf::figures_of(parser::measure(request));
+    put_three(out, f.number, f.first, f.second);
+    24
 }

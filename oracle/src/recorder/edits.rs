@@ -89,7 +89,7 @@ const KNOWN: [(u64, &str); 26] = [
 ];
 
 fn block_of(text: &str) -> Vec<u8> {
-    match judge::read(text.as_bytes()) {
+    match judge::fill(text.as_bytes()) {
         Outcome::Made { result, .. } => result,
         _ => panic!("a known text is refused"),
     }

@@ -1,6 +1,6 @@
-//! Whole texts, read into a lent buffer.
+//! Whole texts, measured, and read into a lent buffer.
 
-use super::Sample;
+use super::{numbers, Sample};
 use crate::judge::{self, Outcome};
 use crate::short::{short, SHORT};
 use crate::texts;
@@ -63,9 +63,21 @@ const KNOWN: [&str; 48] = [
     "手数\n1投了\n2同歩打\nx\n1中断\nまで\n1詰み\n2千日手\n",
 ];
 
-pub(super) fn reads(sample: &mut Sample) {
+/// The known texts, short ones, drawn ones, and one whose block is over the limit.
+pub(super) fn measures(sample: &mut Sample) {
+    let short = (0..SHORT).step_by(4_871).map(short).filter(|text| says_much(text)).take(150);
+    let known = KNOWN.iter().map(|text| text.as_bytes().to_vec());
+    let mut texts: Vec<_> = known.chain(short).chain([too_much().into_bytes(), b"*\xff".to_vec()]).collect();
+    texts.extend((0..100).map(|_| drawn(sample)));
+    for text in texts {
+        let answer = judge::measure(&text).answer_in(0);
+        sample.add(&text, &numbers(&[answer.number, answer.first, answer.second]));
+    }
+}
+
+pub(super) fn fills(sample: &mut Sample) {
     for text in KNOWN.map(str::as_bytes) {
-        sample.add_lent_all(text, &judge::read(text));
+        sample.add_lent_all(text, &judge::fill(text));
     }
     let some = (0..SHORT).step_by(487).map(short).filter(|text| says_much(text));
     let (plain, boards): (Vec<_>, Vec<_>) = some.partition(|text| text.len() <= PLAIN);
@@ -73,18 +85,18 @@ pub(super) fn reads(sample: &mut Sample) {
         .iter()
         .take(1_000)
         .chain(boards.iter().take(100))
-        .for_each(|text| sample.add_lent_once(text, &judge::read(text)));
+        .for_each(|text| sample.add_lent_once(text, &judge::fill(text)));
     for _ in 0..900 {
         let text = drawn(sample);
-        sample.add_lent_once(&text, &judge::read(&text));
+        sample.add_lent_once(&text, &judge::fill(&text));
     }
     let text = too_much().into_bytes();
-    sample.add_lent(9, &text, &judge::read(&text));
+    sample.add_lent(9, &text, &judge::fill(&text));
 }
 
 /// One that is refused, or taken at least in part.
 fn says_much(text: &[u8]) -> bool {
-    !matches!(judge::read(text), Outcome::Made { answer, .. } if answer.first == 0)
+    !matches!(judge::fill(text), Outcome::Made { answer, .. } if answer.first == 0)
 }
 
 /// A text as `texts` makes them whose record is not too long.
@@ -92,7 +104,7 @@ fn drawn(sample: &mut Sample) -> Vec<u8> {
     loop {
         let text = texts::text(&mut sample.r);
         let is_short = |outcome: Outcome| outcome.needed().unwrap_or(0) <= BLOCK;
-        if text.len() <= TEXT && says_much(&text) && is_short(judge::read(&text)) {
+        if text.len() <= TEXT && says_much(&text) && is_short(judge::fill(&text)) {
             return text;
         }
     }

@@ -31,7 +31,7 @@ const KNOWN: [&str; 12] = [
 /// blocks; and drawn ones.
 pub(super) fn writes(sample: &mut Sample) {
     for text in KNOWN.map(str::as_bytes) {
-        let Outcome::Made { result: block, .. } = judge::read(text) else { panic!("a known text is refused") };
+        let Outcome::Made { result: block, .. } = judge::fill(text) else { panic!("a known text is refused") };
         sample.add_lent_all(&block, &judge::write(&block));
     }
     let at_the_limit = [0, 6, 7, 13].into_iter().flat_map(|place| [99, 100].map(|count| small::hand(place, count)));

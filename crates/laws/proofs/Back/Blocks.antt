@@ -20,7 +20,7 @@ use Rattle.block.specs.Sound.{soundb}
 use Rattle.block.specs.Formed.{Formed}
 use Rattle.parser.specs.Parse.{parse, recordOf}
 use Rattle.plays.specs.Plays.{plyAt}
-use Rattle.parser.specs.Read.{readOf}
+use Rattle.parser.specs.Read.{fillOf}
 use Rattle.converter.specs.Show.{recordText, onObstacle, handsObstacle, linesObstacle, text, refused, showLines, show, leftOut}
 use Rattle.converter.specs.Writing.{textStored, shownOf, writeOf}
 use Rattle.converter.specs.declared.Obstacle.{Obstacle}
@@ -118,7 +118,7 @@ reads-back b h c o n l e short o′ room =
     let d = write-says o n l b e in
     let m = d .count in
     let back = plain-back r g (w .sayable) c (d .clear) (omega arith) o′ room in (
-      ap (λ (t : List ℕ). readOf t o′) (d .front) ∙ back ∙ ap (λ (k : ℕ). readInto k (left r) o′) (sym m),
+      ap (λ (t : List ℕ). fillOf t o′) (d .front) ∙ back ∙ ap (λ (k : ℕ). readInto k (left r) o′) (sym m),
       decode-encode (left r) (subst Formed (plain-said r g (w .sayable) c (d .clear))
           (read-done (recordText r) o′ (plain-bytes r g (w .sayable) c (d .clear)) (length (recordText r)) (length (encode (left r))) (ap (λ (x : Outcome). x .answer) back) .1)),
     )

@@ -20,7 +20,7 @@ use Rattle.kakinoki.specs.Starts.{startRead}
 use Rattle.kakinoki.specs.declared.Fault.the-variants.{NoFault}
 use Rattle.filling.specs.Filling.{atFront}
 use Rattle.parser.specs.Parse.{parse, recordOf, neededBy, needed}
-use Rattle.parser.specs.Read.{filledWith, readStored, startedOf, readOf}
+use Rattle.parser.specs.Read.{filledWith, readStored, earlyOf, faultless, fillOf}
 use Rattle.converter.specs.Show.{recordText, handsObstacle}
 use Rattle.converter.specs.declared.Obstacle.the-variants.{Clear}
 use Rattle.edit.specs.Edit.{playsIn}
@@ -155,8 +155,8 @@ module _ (r : Record) (f : RecordFits r) (one : r .version ≡ 1) (a : Attached 
     unfolding readStored
     stored-back = rw (needed-back (length (wholeText r)), le-ltb 65535 (neededBy (r .headers) (r .lines)) fits, le-ltb (length o) (neededBy (r .headers) (r .lines)) room) filled-back
 
-    pub whole-read : readOf (wholeText r) o ≡ answered
-    unfolding readOf startedOf
+    pub whole-read : fillOf (wholeText r) o ≡ answered
+    unfolding fillOf earlyOf faultless
     whole-read =
         let (p, q) = parse-back r f in
         let w : wellFormedBytes (wholeText r) ≡ length (wholeText r) = chars-well (text-chars r hs ls) in
@@ -197,7 +197,7 @@ module _ (r : Record) (g : Formed r) (s : Sayable r) (c : ColorsFollow r) (h : h
 
   -- the whole text                                                                                       (02, xi)
   pub whole-back : All (λ l. 0 < l .start) (drop 1 (r .lines)) → length (wholeText r) ≤ 65535 → (o : List ℕ) → length (encode r) ≤ length o
-      → readOf (wholeText r) o ≡ record { answer = Done (length (wholeText r)) (length (encode r)); buffer = encode r ++ drop (length (encode r)) o }
+      → fillOf (wholeText r) o ≡ record { answer = Done (length (wholeText r)) (length (encode r)); buffer = encode r ++ drop (length (encode r)) o }
   whole-back z short o room =
       let w = formed-fits r g in
       let n : length (encode r) ≡ neededBy (r .headers) (r .lines) = block-length r (w .whole) in
@@ -206,7 +206,7 @@ module _ (r : Record) (g : Formed r) (s : Sayable r) (c : ColorsFollow r) (h : h
 
   -- the plain text                                                                                       (01, Writing, and what is lost)
   pub plain-back : length (recordText r) ≤ 65535 → (o : List ℕ) → length (encode (left r)) ≤ length o
-      → readOf (recordText r) o ≡ record { answer = Done (length (recordText r)) (length (encode (left r))); buffer = encode (left r) ++ drop (length (encode (left r))) o }
+      → fillOf (recordText r) o ≡ record { answer = Done (length (recordText r)) (length (encode (left r))); buffer = encode (left r) ++ drop (length (encode (left r))) o }
   unfolding left
   plain-back short o room =
       let w = formed-fits r g in

@@ -21,7 +21,7 @@ use Rattle.kakinoki.specs.Boards.{whiteAt, cellAt, cellsFrom, rowEndAt, rowAt, 
 use Rattle.kakinoki.specs.Starts.{addHands, merged, positionOf, headersSaid, headerPlaces, startRead}
 use Rattle.plays.specs.Plays.{commentItem, commentsAt, entryItem, entriesAt, numberItem, numbersAt, inSequence, plyAt, skippedAt, skipsAt, playItem, variationItem, variationsAt, mainAt, playsAt}
 use Rattle.parser.specs.Parse.{headersOf, parse, needed}
-use Rattle.parser.specs.Read.{filledWith, readStored, startedOf, readOf}
+use Rattle.parser.specs.Read.{filledWith, readStored, earlyOf, faultless, fillOf}
 use Rattle.edit.specs.Edit.{fresh, isVariation, isPlyOf, carries, above, insertAt, insertOn, insert, notBelow, remove}
 use Rattle.edit.specs.Outcomes.{editStored, editedOf, putInOf, cutOf}
 use Rattle.shown.specs.Listing.{readText, refusalText, rowText, rowOf, rowsText, listingText}
@@ -63,7 +63,7 @@ unfolding hashLineAt hashLinesAt paddedEndAt presetLineAt turnLineAt pieceAt pie
 starts = tt
 
 unfoldable pub readings : Unit {0}
-unfolding commentItem commentsAt entryItem entriesAt numberItem numbersAt inSequence plyAt skippedAt skipsAt playItem variationItem variationsAt mainAt playsAt headersOf parse needed filledWith readStored startedOf readOf
+unfolding commentItem commentsAt entryItem entriesAt numberItem numbersAt inSequence plyAt skippedAt skipsAt playItem variationItem variationsAt mainAt playsAt headersOf parse needed filledWith readStored earlyOf faultless fillOf
 readings = tt
 
 unfoldable pub edits : Unit {0}

@@ -17,11 +17,10 @@ use Rattle.jkf.specs.Model.{Record}
 use Rattle.block.specs.Encode.{encode}
 use Rattle.block.specs.Decode.{decode}
 use Rattle.block.specs.Sound.{soundb}
-use Rattle.kakinoki.specs.Starts.{startRead}
-use Rattle.kakinoki.specs.declared.Fault.{Fault}
-use Rattle.kakinoki.specs.declared.Fault.the-variants.{NoFault, At}
 use Rattle.parser.specs.Parse.{Parsed, parse, needed}
-use Rattle.parser.specs.Read.{onFault, filledWith, readStored, startedOf, readOf}
+use Rattle.parser.specs.Read.{onEarly, filledWith, readStored, earlyOf, fillOf}
+use Rattle.parser.specs.declared.Early.{Early}
+use Rattle.parser.specs.declared.Early.the-variants.{Refused, Passed}
 use Rattle.edit.specs.Edit.{Edited, edited, refused, insert, remove}
 use Rattle.edit.specs.Outcomes.{editStored, editedOf, putInOf, cutOf}
 use Rattle.laws.specs.CaseTexts.{moveLine, textOf}
@@ -35,9 +34,7 @@ no e = let z : _≡_ {A = ℕ} 0 1 = cc in absurd (omega arith)
 
 -- The text is not refused before its lines hang, and its block is of 600 bytes at most.
 abbrev pub isRead : List ℕ → Bool
-isRead s =
-    let r = onFault (startRead s .fault) (λ at. false) (leb (needed (parse s)) 600) in
-    pick (ltb 65535 (length s)) false (pick (ltb (wellFormedBytes s) (length s)) false r)
+isRead s = let r = leb (needed (parse s)) 600 in onEarly (earlyOf s) (λ a. false) r
 
 stored-is : (p : Parsed) (o : List ℕ) → leb (needed p) 600 ≡ true → 600 ≤ length o → readStored p o ≡ filledWith p o
 unfolding readStored
@@ -45,18 +42,13 @@ stored-is p o t h =
     let k = leb-true (needed p) 600 t in
     rw (le-ltb 65535 (needed p) (omega arith), le-ltb (length o) (needed p) (omega arith)) refl
 
-read-is : (s o : List ℕ) → 600 ≤ length o → isRead s ≡ true → readOf s o ≡ filledWith (parse s) o
-unfolding readOf startedOf
-read-is s o h t = go (ltb 65535 (length s)) (ltb (wellFormedBytes s) (length s)) (startRead s .fault) t
+read-is : (s o : List ℕ) → 600 ≤ length o → isRead s ≡ true → fillOf s o ≡ filledWith (parse s) o
+unfolding fillOf
+read-is s o h t = go (earlyOf s) t
   where
-    go : (long ill : Bool) (f : Fault) → pick long false (pick ill false (onFault f (λ at. false) (leb (needed (parse s)) 600))) ≡ true
-        → pick long (refuse (TextTooLong (length s)) o)
-        (pick ill (refuse (NotUtf8 (wellFormedBytes s)) o) (onFault f (λ at. refuse (HandLine at) o) (readStored (parse s) o)))
-        ≡ filledWith (parse s) o
-    go true ill f t = no t
-    go false true f t = no t
-    go false false (At at) t = no t
-    go false false NoFault t = stored-is (parse s) o t h
+    go : (e : Early) → onEarly e (λ a. false) (leb (needed (parse s)) 600) ≡ true → onEarly e (λ a. refuse a o) (readStored (parse s) o) ≡ filledWith (parse s) o
+    go (Refused a) t = no t
+    go Passed t = stored-is (parse s) o t h
 
 -- ---- edits
 
@@ -91,7 +83,7 @@ abbrev pub Edits : (Record → Edited) → List ℕ → List ℕ → Result → 
 Edits f b o given = (pick (soundb b) (isSmall (f (decode b))) false ≡ true) × Gives o given (madeOf (f (decode b)) o)
 
 edit-gives : (f : Record → Edited) (s o : List ℕ) (given : Result) → 600 ≤ length o → isRead s ≡ true → Edits f (stored s o) o given
-    → Gives o given (editOf f (blockOf (readOf s o)) o)
+    → Gives o given (editOf f (blockOf (fillOf s o)) o)
 edit-gives f s o given h i p =
     subst (λ (r : Outcome). Gives o given r)
     (sym (ap (λ (r : Outcome). editOf f (blockOf r) o) (read-is s o h i) ∙ edited-is (soundb (stored s o)) (f (decode (stored s o))) o h (p .0)))

@@ -3,7 +3,7 @@
 use Prim.Native.Nat.{ℕ, _≤_}
 use mathlib.Core.Path.{_≡_}
 use mathlib.Core.List.{List}
-use lib.ListN.{length, replicate}
+use lib.ListN.{length, take, replicate}
 use Rattle.jkf.specs.Attaching.{attach}
 use Rattle.jkf.specs.declared.Position.{Position}
 use Rattle.filling.specs.inner.Parts.{sizesOf, Opens}
@@ -11,7 +11,8 @@ use Rattle.filling.specs.declared.Sizes.{Sizes}
 use Rattle.filling.specs.declared.Walk.{Walk}
 use Rattle.sorted.specs.Sorted.{kept}
 use Rattle.kakinoki.specs.Starts.{startRead, headerPlaces}
-use Rattle.parser.specs.Parse.{Parsed}
+use Rattle.parser.specs.Parse.{Parsed, parse}
+use Rattle.parser.specs.declared.Survey.{Survey}
 
 -- Room for the places of as many header lines as 65,535 bytes can hold.
 abbrev pub noPlaces : List ℕ
@@ -27,6 +28,18 @@ pub record Prepared (s : List ℕ) (p : Position) (at : ℕ) (hs : List ℕ) : T
 -- The sizes of the block of what a text says.
 abbrev pub parsedSizes : Parsed → Sizes
 parsedSizes p = sizesOf (p .headers) (attach (p .plays))
+
+-- A text was looked through and is not refused: what was found of it, and the places of its header lines by key.
+pub record Surveyed (s : List ℕ) (v : Survey) (hs : List ℕ) : Type 0 where
+  pub ready : Prepared s (v .position) (v .moves .at) hs
+  pub count : v .sizes .headers ≡ length hs
+  pub sizes : v .sizes ≡ parsedSizes (parse s)
+  pub taken : v .taken ≡ parse s .taken
+
+-- The places stand at the front of a buffer, and are as many as there are header entries.
+pub record Sorted (s : List ℕ) (v : Survey) (o : List ℕ) : Type 0 where
+  pub room : v .sizes .headers ≤ length o
+  pub found : Surveyed s v (take (v .sizes .headers) o)
 
 -- The block of what a text says is begun, whatever was in the buffer before.
 abbrev pub Opened : Parsed → Walk → ℕ → List ℕ → Type 0

@@ -6,10 +6,10 @@ use Rattle.replay.proofs.print_tally.Statement.{statement}
 use Rattle.replay.proofs.print_tally.Tie as tie
 
 abbrev Inv-loop : tie.InvT-loop
-Inv-loop tally i₀ i = i ≤ 19
+Inv-loop tally i₀ i = i ≤ 20
 
 abbrev μ-loop : tie.MeasureT-loop
-μ-loop tally i₀ i = 19 - i
+μ-loop tally i₀ i = 20 - i
 
 loop-holds : tie.Need-loop-holds Inv-loop μ-loop
 loop-holds c = search needs

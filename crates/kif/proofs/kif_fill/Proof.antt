@@ -1,14 +1,14 @@
--- The answer of `read`, and its figures.
+-- The answer of `fill`, and its figures.
 -- Assumes nothing.
 use mathlib.Core.Path.{ap, _∙_}
 use borrow.Author.Needs.{needs}
 use Rattle.jkf.specs.Answers.{figures}
 use Rattle.kif.proofs.Telling.{told}
-use Rattle.kif.proofs.kif_read.Statement.{statement}
-use Rattle.kif.proofs.kif_read.Tie as tie
+use Rattle.kif.proofs.kif_fill.Statement.{statement}
+use Rattle.kif.proofs.kif_fill.Tie as tie
 
-read-requires : tie.Need-read-requires
-read-requires c κs = search needs
+fill-requires : tie.Need-fill-requires
+fill-requires c κs = search needs
 
 figures-of-requires : tie.Need-figures-of-requires
 figures-of-requires c κs = search needs
@@ -18,8 +18,8 @@ same-length c = search needs
 
 returns : tie.Need-returns
 returns c =
-    let made = c .before .before .before .read .ensures in
+    let made = c .before .before .before .fill .ensures in
     (told (c .figures-of .ensures ∙ ap figures (made .0)), made .1)
 
-pub kif-read-spec : {M : Type 1} → statement M
-kif-read-spec = tie.close (tie.spec read-requires figures-of-requires same-length returns)
+pub kif-fill-spec : {M : Type 1} → statement M
+kif-fill-spec = tie.close (tie.spec fill-requires figures-of-requires same-length returns)

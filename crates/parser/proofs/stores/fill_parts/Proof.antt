@@ -7,8 +7,8 @@ use Rattle.parser.specs.inner.Headers.{HeaderLines}
 use Rattle.parser.proofs.Storing.{header-lines}
 use Rattle.parser.proofs.Completing.{lines-there, all-stored, none-stored}
 use borrow.Author.Needs.{needs}
-use Rattle.parser.proofs.stores.fill.Statement.{statement}
-use Rattle.parser.proofs.stores.fill.Tie as tie
+use Rattle.parser.proofs.stores.fill_parts.Statement.{statement}
+use Rattle.parser.proofs.stores.fill_parts.Tie as tie
 
 fill-headers-requires : tie.Need-fill-headers-requires
 fill-headers-requires c κs = let a = c .before .before .before .before in subst (HeaderLines (a .args .s .now)) (sym (a .pre .0 .headers)) (header-lines (a .args .s .now) (a .pre .0 .short))
@@ -38,8 +38,8 @@ returns-2 : tie.Need-returns-2
 returns-2 c = let a = c .before .before .before .before .before .before .before .before .before .before .before .before .before .before .before .before .before .before in let h = c .before .before .before .before .before .before .before .before .before .before .before .before .before .fill-headers in let l = c .before .before .before .before .before .before .before .before .before .fill-lines in let v = c .before .before .before .before .before .variation .given in let e : length (l .last .1 .1 .1 .0) ≡ length (a .args .out .now) = search needs in
     none-stored (a .args .s .now) (a .args .c) (a .args .headers .now) (a .pre .0) (a .args .w) (a .args .total) (a .args .out .now) (a .pre .1) (h .result) _ (h .ensures .0) (h .ensures .1) (l .result) (v .0 .0) (v .0 .1 .0) (l .ensures .0) (v .1) (c .before .before .clear .ensures ∙ ap (λ (k : ℕ). replicate k 0) e)
 
-pub fill-spec : {M : Type 1} → statement M
-fill-spec =
+pub fill-parts-spec : {M : Type 1} → statement M
+fill-parts-spec =
     tie.close
     (tie.spec
     fill-headers-requires
