@@ -1,7 +1,6 @@
 -- A text's part of a block, cut where the block ends.
 --     part-past, part-cut, part-whole   by where it lies
 --     part-as                           its place and length under other names
---     rest-none                         nothing stands past the end
 --     text-in, key-in, value-in         a text by its place among the texts
 -- Assumes nothing.
 use Prim.Native.Nat.{ℕ, _+_, _-_, _≤_}
@@ -30,11 +29,6 @@ module _ (b : List ℕ) (at n : ℕ) where
 -- its place and its length under other names
 pub part-as : (t : List ℕ) {o p n m : ℕ} → o ≡ p → n ≡ m → take n (drop o t) ≡ take m (drop p t)
 part-as t {o} {p} {n} {m} e f = ap (λ (k : ℕ). take k (drop o t)) f ∙ ap (λ (k : ℕ). take m (drop k t)) e
-
--- nothing stands past the end
-pub rest-none : (b : List ℕ) (at : ℕ) → length b ≤ at → take (length b - length b) (drop (length b) b) ≡ drop at b
-rest-none b at h =
-    ap (take (length b - length b)) (drop-of-length-le b {i = length b} (omega arith)) ∙ take-nil (length b - length b) ∙ sym (drop-of-length-le b h)
 
 module _ (b t : List ℕ) (e : t ≡ drop (textPlace b) b) where
   -- a text by its place among the texts

@@ -23,10 +23,6 @@ le16-drop b o i =
     let e : o + (i + 1) ≡ o + i + 1 = omega arith in
     omega (arith, getD-drop o b i 0, getD-drop o b (i + 1) 0, ap (λ (n : ℕ). getD b n 0) e)
 
--- and in the front of n bytes
-pub le16-take : (b : List ℕ) (n i : ℕ) → i + 1 < n → le16 (take n b) i ≡ le16 b i
-le16-take b n i h = ap₂ (λ (x y : ℕ). x + 256 * y) (getD-take n b i 0 (omega arith)) (getD-take n b (i + 1) 0 h)
-
 module _ (b : List ℕ) where
   in-table : (i at : ℕ) → linePlace b 0 + i ≡ at → le16 (drop (linePlace b 0) b) i ≡ le16 b at
   in-table i at e = le16-drop b (linePlace b 0) i ∙ ap (le16 b) e

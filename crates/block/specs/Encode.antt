@@ -82,10 +82,17 @@ headBytes version total h l m c =
 abbrev pub blockLength : ℕ → ℕ → ℕ → ℕ → ℕ → ℕ
 blockLength h l m c text = 128 + 8 * h + 8 * l + 20 * m + 4 * c + text
 
+-- Of header entries, lines, entries and comments that are given flat; and of a record.
+abbrev pub flatLength : List Header → List Line → List Noted → List (List ℕ) → ℕ
+flatLength hs ls es cs = blockLength (length hs) (length ls) (length es) (length cs) (length (headerText hs) + length (commentText cs))
+
+abbrev pub formulaLength : Record → ℕ
+formulaLength r = flatLength (r .headers) (r .lines) (entriesOf (r .lines)) (commentsOf (entriesOf (r .lines)))
+
 -- A block of header entries, lines, entries and comments that are given flat.
 abbrev pub encodeFlat : ℕ → List ℕ → List Header → List Line → List Noted → List (List ℕ) → List ℕ
 encodeFlat version position hs ls es cs =
-    headBytes version (blockLength (length hs) (length ls) (length es) (length cs) (length (headerText hs) + length (commentText cs))) (length hs) (length ls) (length es) (length cs)
+    headBytes version (flatLength hs ls es cs) (length hs) (length ls) (length es) (length cs)
     ++ position
     ++ table headerRow headerStep 0 hs
     ++ table lineRow lineStep 0 ls

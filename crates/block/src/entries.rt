@@ -1,7 +1,6 @@
 // The tests of a sound block's entries: each byte of the 20 is looked at where it stands.
 use crate::fields;
 use crate::places;
-use crate::texts;
 ghost use mathlib.Core.Path.{_≡_};
 ghost use mathlib.Core.Bool.{true};
 ghost use Prim.Native.Nat.{_≤_, _<_};
@@ -157,7 +156,7 @@ fn entry_sound(b: &[u8], k: usize, next: usize) -> bool
     requires { ⌜ (k < 65536) × (next ≡ commentsBefore (now b) k) ⌝ }
     ensures { λ r. ⌜ r ≡ flag (entryTest (now (b .entry)) k) ⌝ }
 {
-    let row = texts::rest(b, fields::move_place(b, k));
+    let row = lent::rest(b, fields::move_place(b, k));
     if row.len() < 20 {
         return false;
     }

@@ -36,11 +36,11 @@ fn look<'a>(
 {
     if !sound(b) {
         tell(Answer::NotSound, number, first, second);
-        return texts::front(b, 0);
+        return lent::front(b, 0);
     }
     if n as u64 <= k {
         tell(Answer::NoSuchPart(k), number, first, second);
-        return texts::front(b, 0);
+        return lent::front(b, 0);
     }
     let row = place + w * (k as usize);
     let offset = lent::get16(b, row);

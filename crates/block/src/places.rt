@@ -1,7 +1,6 @@
 // The tests of a sound block's position and lines.
 use crate::fields;
 use crate::position_bytes::position_in;
-use crate::texts;
 use jkf::Hang;
 use jkf::Position;
 ghost use mathlib.Core.Path.{_≡_};
@@ -97,7 +96,7 @@ pub(crate) fn position_sound(b: &[u8]) -> bool
     if lent::peek(b, 127) != 0 {
         return false;
     }
-    position_fits(position_in(texts::rest(b, 28)))
+    position_fits(position_in(lent::rest(b, 28)))
 }
 
 // Line 0 starts at 0 and has no parent; any other hangs where the attaching rule says. The parents of the lines before are known right.
@@ -111,7 +110,7 @@ fn hangs_right(b: &[u8], k: usize) -> bool
         }
         return fields::parent_of(b, 0) == 0;
     }
-    let table = texts::rest(b, fields::line_place(b, 0));
+    let table = lent::rest(b, fields::line_place(b, 0));
     let Hang::On(p, _) = jkf::hang_of(table, k, fields::start_of(b, k) as u64) else {
         return false;
     };

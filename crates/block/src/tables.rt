@@ -182,7 +182,7 @@ pub(crate) fn texts_sound(b: &[u8], headers: usize) -> bool
     ensures { λ r. ⌜ r ≡ flag (each (headersIn (now (b .entry))) (headerTest (now (b .entry))) and each (commentsIn (now (b .entry))) (commentTest (now (b .entry)))) ⌝ }
 {
     let t = fields::text_place(b);
-    if !texts::is_valid(texts::rest(b, t)) {
+    if !texts::is_valid(lent::rest(b, t)) {
         return false;
     }
     if !headers_stand(b, t) {

@@ -70,7 +70,7 @@ pub(crate) fn comment_of(b: &[u8], k: usize) -> &[u8]
     ensures { λ r. ⌜ now r ≡ commentOf (now (b .entry)) k ⌝ }
 {
     let rows = fields::comment_place(b, 0);
-    let texts = rest(b, rows + 4 * fields::comments(b));
+    let texts = lent::rest(b, rows + 4 * fields::comments(b));
     text_in(b, texts, rows + 4 * k)
 }
 
@@ -149,24 +149,4 @@ pub fn is_same(a: &[u8], b: &[u8]) -> bool
         i += 1;
     }
     true
-}
-
-// What stands from a place on.
-pub(crate) fn rest(b: &[u8], at: usize) -> &[u8]
-    ensures { λ r. ⌜ now r ≡ drop at (now (b .entry)) ⌝ }
-{
-    if b.len() <= at {
-        return &b[b.len()..];
-    }
-    &b[at..]
-}
-
-// The first n bytes, or all where there are fewer.
-pub(crate) fn front(s: &[u8], n: usize) -> &[u8]
-    ensures { λ r. ⌜ now r ≡ take n (now (s .entry)) ⌝ }
-{
-    if s.len() <= n {
-        return s;
-    }
-    &s[..n]
 }

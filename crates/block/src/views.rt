@@ -73,7 +73,7 @@ pub fn parent_of(b: &[u8], k: u16) -> usize
 pub fn row_of(b: &[u8], k: u16) -> &[u8]
     ensures { λ r. ⌜ now r ≡ drop (movePlace (now (b .entry)) k) (now (b .entry)) ⌝ }
 {
-    texts::rest(b, fields::move_place(b, k as usize))
+    lent::rest(b, fields::move_place(b, k as usize))
 }
 
 // What entry k is.
@@ -115,7 +115,7 @@ pub fn value_of(b: &[u8], k: u16) -> &[u8]
 pub fn texts_of(b: &[u8]) -> &[u8]
     ensures { λ r. ⌜ now r ≡ drop (textPlace (now (b .entry))) (now (b .entry)) ⌝ }
 {
-    texts::rest(b, fields::text_place(b))
+    lent::rest(b, fields::text_place(b))
 }
 
 // The key of header entry k, of which the texts are given.
@@ -143,5 +143,5 @@ pub fn comment_of(b: &[u8], k: u16) -> &[u8]
 pub fn position_of(b: &[u8]) -> Position
     ensures { λ r. ⌜ r ≡ positionIn (drop 28 (now (b .entry))) ⌝ }
 {
-    position_in(texts::rest(b, 28))
+    position_in(lent::rest(b, 28))
 }

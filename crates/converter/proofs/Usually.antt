@@ -27,7 +27,7 @@ use Rattle.jkf.specs.declared.Origin.the-variants.{Unknown, From}
 use Rattle.jkf.specs.declared.Entry.{Entry}
 use Rattle.jkf.specs.declared.Entry.the-variants.{Moved}
 use Rattle.spell.specs.Words.{sameWord, promotes}
-use Rattle.converter.specs.Entries.{targetText, promoteText, originText, moveText, moveWidth, nowText, totalText, timeText, playText, widthOf, entryLine, timePadding, within, targetFits, timeFits, canWrite}
+use Rattle.converter.specs.Entries.{targetText, promoteText, originText, moveText, moveWidth, nowText, totalText, timeText, playText, widthOf, entryLine, timePadding, within, targetOnBoard, timeHasRoom, canWrite}
 use Rattle.converter.specs.inner.Usuals.{UsualRow, isLong, spaced, startText, nameText, clocksText}
 use Rattle.lent.proofs.Room.{room-front, room-as}
 use Rattle.converter.proofs.Lengthy.{padded-wide, figure-two, place-three, kind-plain, kind-long, same-length, square-length, promote-three, promote-none, from-length, move-length, now-parts, total-parts, timed-length, entry-parts}
@@ -218,15 +218,15 @@ module _ (row : List ℕ) (u : UsualRow row) where
   -- ---- it can be written
 
   -- its target is 同 or a square of the board
-  target-fits : targetFits (targetIn row) ≡ true
+  target-fits : targetOnBoard (targetIn row) ≡ true
   target-fits = go (ℕ-discrete (getD row 8 0) 23)
     where
-      go : Dec (getD row 8 0 ≡ 23) → targetFits (targetIn row) ≡ true
+      go : Dec (getD row 8 0 ≡ 23) → targetOnBoard (targetIn row) ≡ true
       go (yes e) = rw (same-is e)
       go (no n) = let s = u .target n in rw (square-is n, within-is (getD row 4 0) (s .file), within-is (getD row 5 0) (s .rank))
 
   -- its time has room
-  time-fits : timeFits (moveWidth (moveIn row)) (timeIn row) ≡ true
+  time-fits : timeHasRoom (moveWidth (moveIn row)) (timeIn row) ≡ true
   time-fits = rw time-is (le-leb (moveWidth (moveIn row)) 13 width-most)
 
   -- so it can be written

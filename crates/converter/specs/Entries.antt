@@ -147,16 +147,16 @@ abbrev pub within : ℕ → Bool
 within x = pick (leb 1 x) (leb x 9) false
 
 -- A file and a rank of 1 to 9, or 同.
-abbrev pub targetFits : Target → Bool
-targetFits Same = true
-targetFits (Square x y) = pick (within x) (within y) false
+abbrev pub targetOnBoard : Target → Bool
+targetOnBoard Same = true
+targetOnBoard (Square x y) = pick (within x) (within y) false
 
 -- There is room for the timePadding.
-abbrev pub timeFits : ℕ → Time → Bool
-timeFits width Untimed = true
-timeFits width (Timed now total) = leb width 13
+abbrev pub timeHasRoom : ℕ → Time → Bool
+timeHasRoom width Untimed = true
+timeHasRoom width (Timed now total) = leb width 13
 
 unfoldable pub canWrite : Entry → Bool
 canWrite Slot = true
-canWrite (Moved m) = pick (targetFits (m .to)) (timeFits (moveWidth m) (m .time)) false
+canWrite (Moved m) = pick (targetOnBoard (m .to)) (timeHasRoom (moveWidth m) (m .time)) false
 canWrite (End s t) = true

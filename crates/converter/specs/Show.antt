@@ -99,14 +99,14 @@ linesObstacle (l ∷ ls) = lineObstacle 0 (l ∷ shown ls)
 -- ---- the whole
 
 -- A text and how many lines it leaves out, or a refusal.
-pub data Shown : Type 0 where
-  text : List ℕ → ℕ → Shown
-  refused : Answer → Shown
+pub data Showing : Type 0 where
+  text : List ℕ → ℕ → Showing
+  refused : Answer → Showing
 
 -- Where no entry stands in the way, the whole text.                                                     (01, Numbers of refusal: 9)
-unfoldable pub showLines : Record → Shown
+unfoldable pub showLines : Record → Showing
 showLines r = onObstacle (linesObstacle (r .lines)) (λ line entry. refused (CannotWrite line entry)) (text (recordText r) (leftOut (r .lines)))
 
 -- The hands are looked at before the entries.                                                          (01, Numbers of refusal: order)
-unfoldable pub show : Record → Shown
+unfoldable pub show : Record → Showing
 show r = let s = showLines r in onObstacle (handsObstacle (r .position)) (λ side kind. refused (HandCount side kind)) s

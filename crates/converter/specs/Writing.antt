@@ -9,7 +9,7 @@ use Rattle.jkf.specs.Answers.{Outcome, refuse}
 use Rattle.jkf.specs.declared.Answer.the-variants.{Done, BufferShort, NotSound}
 use Rattle.block.specs.Decode.{decode}
 use Rattle.block.specs.Sound.{soundb}
-use Rattle.converter.specs.Show.{Shown, text, refused, show}
+use Rattle.converter.specs.Show.{Showing, text, refused, show}
 
 -- A text that fits stands at the front of the buffer, and nothing past it changes.
 unfoldable pub textStored : List ℕ → ℕ → List ℕ → Outcome
@@ -18,7 +18,7 @@ textStored t left o =
     (refuse (BufferShort (length t)) o)
     (record { answer = Done (length t) left; buffer = t ++ drop (length t) o })
 
-unfoldable pub shownOf : Shown → List ℕ → Outcome
+unfoldable pub shownOf : Showing → List ℕ → Outcome
 shownOf (text t left) o = textStored t left o
 shownOf (refused a) o = refuse a o
 

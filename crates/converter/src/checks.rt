@@ -12,7 +12,7 @@ ghost use Prim.Native.Nat.{_+_, _<_};
 ghost use Rattle.block.specs.EntryBytes.{entryIn};
 ghost use Rattle.block.specs.Decode.{run, notedIn, decode};
 ghost use Rattle.block.specs.inner.Sounds.{Sound};
-ghost use Rattle.converter.specs.Entries.{within, targetFits, timeFits, canWrite};
+ghost use Rattle.converter.specs.Entries.{within, targetOnBoard, timeHasRoom, canWrite};
 ghost use Rattle.converter.specs.Show.{handObstacle, handsObstacle, entryObstacle, linesObstacle};
 ghost use Rattle.converter.specs.inner.Lines.{ShownLines};
 
@@ -51,7 +51,7 @@ pub(crate) fn within(x: u8) -> bool
 }
 
 fn target_fits(to: Target) -> bool
-    ensures { λ r. ⌜ r ≡ targetFits to ⌝ }
+    ensures { λ r. ⌜ r ≡ targetOnBoard to ⌝ }
 {
     match to {
         Target::Same => true,
@@ -65,7 +65,7 @@ fn target_fits(to: Target) -> bool
 }
 
 fn time_fits(width: usize, time: Time) -> bool
-    ensures { λ r. ⌜ r ≡ timeFits width time ⌝ }
+    ensures { λ r. ⌜ r ≡ timeHasRoom width time ⌝ }
 {
     match time {
         Time::Untimed => true,

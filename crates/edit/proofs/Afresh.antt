@@ -9,7 +9,7 @@ use lib.Seq.{length-take-le}
 use Rattle.jkf.specs.Attaching.{Play}
 use Rattle.block.specs.Decode.{linesIn, decode}
 use Rattle.block.specs.inner.Sounds.{Sound}
-use Rattle.edit.specs.Edit.{playsIn, placeOf, putIn, removedFrom}
+use Rattle.edit.specs.Edit.{playsIn, placeOf, withPlay, removedFrom}
 use Rattle.edit.specs.inner.Splicing.{relined, without, spliced, linesAfter, recordAfter, Lines}
 use Rattle.edit.proofs.Placing.{PutsIn}
 use Rattle.edit.proofs.Keeping.{still-lines}
@@ -31,9 +31,9 @@ after-length b p q vs h l =
     )
 
 -- at its place it hangs, and all others do
-pub put-still : (ps : List Play) (k : ℕ) (v : Play) {j n : ℕ} → j ≡ v .start → n ≡ placeOf ps k j → PutsIn ps k j → Lines (putIn n v ps)
+pub put-still : (ps : List Play) (k : ℕ) (v : Play) {j n : ℕ} → j ≡ v .start → n ≡ placeOf ps k j → PutsIn ps k j → Lines (withPlay n v ps)
 put-still ps k v {j} {n} e d ok =
-    subst (λ (i : ℕ). Lines (putIn i v ps)) (sym (d ∙ ap (placeOf ps k) e)) (still-lines ps k v (subst (PutsIn ps k) e ok))
+    subst (λ (i : ℕ). Lines (withPlay i v ps)) (sym (d ∙ ap (placeOf ps k) e)) (still-lines ps k v (subst (PutsIn ps k) e ok))
 
 -- ---- with a run cut out
 

@@ -14,7 +14,7 @@ use lib.Seq.{length-take-le, getD-drop}
 use Rattle.jkf.specs.Attaching.{near, all, Play, play, starts, counts, parentIn, allHung}
 use Rattle.jkf.proofs.Nears.{near-before, near-last, Hangs}
 use Rattle.block.proofs.Attached.{parent-first, parent-later}
-use Rattle.edit.specs.Edit.{notBelow, removedFrom, lowered, Kept}
+use Rattle.edit.specs.Edit.{notBelow, removedFrom, lowered, IsKept}
 use Rattle.edit.specs.inner.Splicing.{without, Lines}
 use Rattle.edit.proofs.Leading.{Runs, notBelow-leads, behind}
 use Rattle.edit.proofs.Nearing.{Cut, cut-part, lowered-low, lowered-high, cut-kept, cut-before, cut-apart, cut-after, hang-moved, hung-all}
@@ -76,24 +76,24 @@ module _ (ps : List Play) (k : ℕ) where
     cut-starts : Cut (starts ps) (starts ps″) k m
     cut-starts = cut-part (λ (p : Play). p .start) (cut-list ps k m run-within (play 0 []))
 
-    start-kept : (i : ℕ) → Kept k m i → starts ps″ (lowered k m i) ≡ starts ps i
+    start-kept : (i : ℕ) → IsKept k m i → starts ps″ (lowered k m i) ≡ starts ps i
     start-kept = cut-kept cut-starts
 
-    count-kept : (i : ℕ) → Kept k m i → counts ps″ (lowered k m i) ≡ counts ps i
+    count-kept : (i : ℕ) → IsKept k m i → counts ps″ (lowered k m i) ≡ counts ps i
     count-kept = cut-kept (cut-part (λ (p : Play). length (p .entries)) (cut-list ps k m run-within (play 0 [])))
 
     -- ---- each line that stays
 
-    near-kept : (i : ℕ) → 0 < i → i < length ps → Kept k m i → Kept k m (near (starts ps) (starts ps i) i)
+    near-kept : (i : ℕ) → 0 < i → i < length ps → IsKept k m i → IsKept k m (near (starts ps) (starts ps i) i)
     near-kept i z l g = go (decLt i k)
       where
-        go : Dec (i < k) → Kept k m (near (starts ps) (starts ps i) i)
+        go : Dec (i < k) → IsKept k m (near (starts ps) (starts ps i) i)
         go (yes h) = λ a. absurd (omega (arith, near-before (starts ps) (starts ps i) i z))
         go (no h) =
             let b : k + m ≤ i = g (omega arith) in
             cut-apart cut-starts (ok .lines .origin) run-high i z b (past-run (omega arith))
 
-    near-lowered : (i : ℕ) → 0 < i → i < length ps → Kept k m i
+    near-lowered : (i : ℕ) → 0 < i → i < length ps → IsKept k m i
         → near (starts ps″) (starts ps i) (lowered k m i) ≡ lowered k m (near (starts ps) (starts ps i) i)
     near-lowered i z l g = go (decLt i k)
       where
@@ -107,7 +107,7 @@ module _ (ps : List Play) (k : ℕ) where
             ap (near (starts ps″) (starts ps i)) (lowered-high k m i (omega arith))
             ∙ cut-after cut-starts (ok .lines .origin) run-high i z b (past-run (omega arith))
 
-    kept-hangs : (i : ℕ) → 0 < i → i < length ps → Kept k m i → Hangs (starts ps″) (counts ps″) (lowered k m i)
+    kept-hangs : (i : ℕ) → 0 < i → i < length ps → IsKept k m i → Hangs (starts ps″) (counts ps″) (lowered k m i)
     kept-hangs i z l g =
         let p = near (starts ps) (starts ps i) i in
         let w = near-kept i z l g in
@@ -136,16 +136,16 @@ module _ (ps : List Play) (k : ℕ) where
 
     -- ---- parents
 
-    parent-kept : (i : ℕ) → i < length ps → Kept k m i → Kept k m (parentIn ps i)
+    parent-kept : (i : ℕ) → i < length ps → IsKept k m i → IsKept k m (parentIn ps i)
     parent-kept i l g = go (decLt 0 i)
       where
-        go : Dec (0 < i) → Kept k m (parentIn ps i)
-        go (yes z) = subst (Kept k m) (sym (parent-near ps (ok .lines) i z l)) (near-kept i z l g)
+        go : Dec (0 < i) → IsKept k m (parentIn ps i)
+        go (yes z) = subst (IsKept k m) (sym (parent-near ps (ok .lines) i z l)) (near-kept i z l g)
         go (no z) =
             let e : 0 ≡ i = omega arith in
             λ a. absurd (omega (arith, ap (parentIn ps) e, parent-first ps, ok .later))
 
-    parent-lowered : (i : ℕ) → i < length ps → Kept k m i → parentIn ps″ (lowered k m i) ≡ lowered k m (parentIn ps i)
+    parent-lowered : (i : ℕ) → i < length ps → IsKept k m i → parentIn ps″ (lowered k m i) ≡ lowered k m (parentIn ps i)
     parent-lowered i l g = go (decLt 0 i)
       where
         go : Dec (0 < i) → parentIn ps″ (lowered k m i) ≡ lowered k m (parentIn ps i)
@@ -160,8 +160,8 @@ module _ (ps : List Play) (k : ℕ) where
             subst (λ (q : ℕ). parentIn ps″ (lowered k m q) ≡ lowered k m (parentIn ps q)) e
             (ap (parentIn ps″) y ∙ parent-first ps″ ∙ sym (ap (lowered k m) (parent-first ps) ∙ y))
 
-    pub kept-after-cut : (i : ℕ) (d : Play) → i < length ps → Kept k m i
-        → (getD ps″ (lowered k m i) d ≡ getD ps i d) × (Kept k m (parentIn ps i)) × (parentIn ps″ (lowered k m i) ≡ lowered k m (parentIn ps i))
+    pub kept-after-cut : (i : ℕ) (d : Play) → i < length ps → IsKept k m i
+        → (getD ps″ (lowered k m i) d ≡ getD ps i d) × (IsKept k m (parentIn ps i)) × (parentIn ps″ (lowered k m i) ≡ lowered k m (parentIn ps i))
     kept-after-cut i d l g = (cut-kept (cut-list ps k m run-within d) i g, parent-kept i l g, parent-lowered i l g)
 
 -- ---- the run

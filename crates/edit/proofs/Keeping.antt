@@ -13,7 +13,7 @@ use lib.ListN.{length, getD}
 use Rattle.jkf.specs.Attaching.{near, all, Play, starts, counts, parentIn, allHung}
 use Rattle.jkf.proofs.Nears.{near-before, Hangs}
 use Rattle.block.proofs.Attached.{parent-first, parent-later}
-use Rattle.edit.specs.Edit.{placeOf, putIn, renumbered}
+use Rattle.edit.specs.Edit.{placeOf, withPlay, renumbered}
 use Rattle.edit.specs.inner.Splicing.{Lines}
 use Rattle.edit.proofs.Nearing.{put-kept, renumbered-low, renumbered-high, hangs-there, hang-moved, hung-all}
 use Rattle.edit.proofs.Placing.{each-hangs, parent-near, PutsIn, put-length, put-list, ply-low, ply-within, place-past, place-within, put-starts, put-counts, new-hangs, before-same, after-same}
@@ -23,7 +23,7 @@ module _ (ps : List Play) (k : ℕ) (v : Play) where
   n = placeOf ps k (v .start)
 
   abbrev ps′ : List Play
-  ps′ = putIn (placeOf ps k (v .start)) v ps
+  ps′ = withPlay (placeOf ps k (v .start)) v ps
 
   module _ (ok : PutsIn ps k (v .start)) where
     past : k < n

@@ -17,7 +17,7 @@ use Rattle.lists.proofs.Laws.{by-pick}
 use Rattle.jkf.specs.Attaching.{near, onHang, all, first, hungFrom}
 use Rattle.jkf.specs.declared.Hang.{Hang}
 use Rattle.jkf.proofs.Nears.{near-before, near-low, near-last, near-same, Hangs, hangs-on}
-use Rattle.edit.specs.Edit.{renumbered, lowered, Kept}
+use Rattle.edit.specs.Edit.{renumbered, lowered, IsKept}
 
 pub near-is : (st : ℕ → ℕ) (s k p : ℕ) → p < k → st p ≤ s → ((j : ℕ) → p < j → j < k → s < st j) → near st s k ≡ p
 unfolding near
@@ -124,7 +124,7 @@ pub cut-part : {A B : Type 0} (g : A → B) {f f′ : ℕ → A} {k m : ℕ} →
 cut-part g r = record { before = λ i h. ap g (r .before i h); after = λ i h. ap g (r .after i h) }
 
 -- a line that stays has it at its new number
-pub cut-kept : {A : Type 0} {f f′ : ℕ → A} {k m : ℕ} → Cut f f′ k m → (i : ℕ) → Kept k m i → f′ (lowered k m i) ≡ f i
+pub cut-kept : {A : Type 0} {f f′ : ℕ → A} {k m : ℕ} → Cut f f′ k m → (i : ℕ) → IsKept k m i → f′ (lowered k m i) ≡ f i
 cut-kept {f = f} {f′ = f′} {k = k} {m = m} r i g =
     by-pick (λ (q : ℕ). f′ q ≡ f i) (leb k i) (i - m) i (λ e. high (g (leb-true _ _ e))) (λ e. r .before i (leb-false _ _ e))
   where
@@ -138,7 +138,7 @@ module _ {f f′ : ℕ → ℕ} {k m : ℕ} (cut : Cut f f′ k m) where
 
   module _ (origin : f 0 ≡ 0) (run : (i : ℕ) → k ≤ i → i < k + m → f k ≤ f i) (i : ℕ) (later : 0 < i) (high : k + m ≤ i) (next : f (k + m) < f k) where
     -- the line found is none of the run: the line after the run would have been found
-    pub cut-apart : Kept k m (near f (f i) i)
+    pub cut-apart : IsKept k m (near f (f i) i)
     cut-apart a = go (decLt p (k + m)) (decLt (k + m) i)
       where
         p : ℕ

@@ -15,7 +15,7 @@ use Rattle.block.specs.Decode.{linesIn, lineIn, decode}
 use Rattle.block.specs.Sound.{soundb}
 use Rattle.block.proofs.Tabling.{length-run}
 use Rattle.edit.proofs.Parents.{cut-fresh, put-fresh}
-use Rattle.edit.specs.Edit.{playsIn, isVariation, variationOf, isPlyOf, carries, placeOf, putIn, insertAt, insertOn, insert, removedFrom, remove}
+use Rattle.edit.specs.Edit.{playsIn, isVariation, variationOf, isPlyOf, carries, placeOf, withPlay, insertAt, insertOn, insert, removedFrom, remove}
 use Rattle.edit.specs.inner.Splicing.{relined, without}
 use Rattle.edit.specs.Outcomes.{editStored, editedOf, putInOf, cutOf}
 
@@ -48,7 +48,7 @@ module _ (r : Record) (o : List ℕ) where
     at-place h d z = rw (← s, h, d, ← z)
 
     pub in-place : here ≡ true → taken ≡ false → {n : ℕ} → n ≡ placeOf (playsIn (r .lines)) k j
-        → editedOf (insertOn r k v) o ≡ editStored (encode (relined r (putIn n v (playsIn (r .lines))))) n o
+        → editedOf (insertOn r k v) o ≡ editStored (encode (relined r (withPlay n v (playsIn (r .lines))))) n o
     unfolding editedOf insertAt
     in-place h d {n} z = at-place h d z ∙ ap (λ (x : Record). editStored (encode x) n o) (put-fresh r n k v)
 

@@ -7,7 +7,7 @@ use mathlib.Core.List.{List, [], _∷_, _++_, map}
 use lib.ListN.{take, drop}
 use Rattle.jkf.specs.Model.{Line, Record}
 use Rattle.jkf.specs.Attaching.{Play, play}
-use Rattle.edit.specs.Edit.{playsIn, fresh, reparented, putIn, renumbered, lowered, putLine, lineOn, withoutLines}
+use Rattle.edit.specs.Edit.{playsIn, fresh, reparented, withPlay, renumbered, lowered, linesWith, lineOn, withoutLines}
 use Rattle.edit.specs.inner.Splicing.{relined, without}
 
 plays-append : (ls ms : List Line) → playsIn (ls ++ ms) ≡ playsIn ls ++ playsIn ms
@@ -29,7 +29,7 @@ plays-reparented : (f : ℕ → ℕ) (ls : List Line) → playsIn (map (reparent
 plays-reparented f [] = refl
 plays-reparented f (l ∷ ls) = ap (λ (ps : List Play). play (l .start) (l .entries) ∷ ps) (plays-reparented f ls)
 
-plays-put : (n k : ℕ) (v : Play) (ls : List Line) → playsIn (putLine n (lineOn k v) ls) ≡ putIn n v (playsIn ls)
+plays-put : (n k : ℕ) (v : Play) (ls : List Line) → playsIn (linesWith n (lineOn k v) ls) ≡ withPlay n v (playsIn ls)
 plays-put n k v ls =
     let qs = map (reparented (renumbered n)) ls in
     plays-append (take n qs) (lineOn k v ∷ drop n qs)
@@ -44,8 +44,8 @@ module _ (r : Record) where
   unfolding fresh relined
   fresh-is ls = refl
 
-  pub put-fresh : (n k : ℕ) (v : Play) → fresh r (putLine n (lineOn k v) (r .lines)) ≡ relined r (putIn n v (playsIn (r .lines)))
-  put-fresh n k v = fresh-is (putLine n (lineOn k v) (r .lines)) ∙ ap (relined r) (plays-put n k v (r .lines))
+  pub put-fresh : (n k : ℕ) (v : Play) → fresh r (linesWith n (lineOn k v) (r .lines)) ≡ relined r (withPlay n v (playsIn (r .lines)))
+  put-fresh n k v = fresh-is (linesWith n (lineOn k v) (r .lines)) ∙ ap (relined r) (plays-put n k v (r .lines))
 
   pub cut-fresh : (k m : ℕ) → fresh r (withoutLines k m (r .lines)) ≡ relined r (without k m (playsIn (r .lines)))
   cut-fresh k m = fresh-is (withoutLines k m (r .lines)) ∙ ap (relined r) (plays-cut k m (r .lines))

@@ -24,7 +24,7 @@ use Rattle.jkf.proofs.Nears.{hangs-made, Hangs}
 use Rattle.jkf.specs.Model.{Line}
 use Rattle.block.specs.Formed.{lineOf}
 use Rattle.block.proofs.Attached.{all-hang, attach-length, attach-line, parent-later}
-use Rattle.edit.specs.Edit.{isPlyOf, carries, above, placeOf, putIn, renumbered}
+use Rattle.edit.specs.Edit.{isPlyOf, carries, above, placeOf, withPlay, renumbered}
 use Rattle.edit.specs.inner.Splicing.{Lines}
 use Rattle.edit.proofs.Leading.{Runs, above-leads, behind}
 use Rattle.edit.proofs.Nearing.{near-is, Put, put-part, put-before, put-new, put-after}
@@ -51,18 +51,18 @@ module _ (ps qs : List Play) (n : ℕ) (fits : n ≤ length ps) where
 -- ---- a list with one more element
 
 module _ (ps : List Play) (n : ℕ) (v : Play) (fits : n ≤ length ps) where
-  pub put-length : length (putIn n v ps) ≡ length ps + 1
+  pub put-length : length (withPlay n v ps) ≡ length ps + 1
   put-length = omega (arith, length-append (take n ps) (v ∷ drop n ps), length-take-le n ps fits, length-drop n ps)
 
-  pub put-list : (d : Play) → Put (λ i. getD ps i d) (λ i. getD (putIn n v ps) i d) n v
+  pub put-list : (d : Play) → Put (λ i. getD ps i d) (λ i. getD (withPlay n v ps) i d) n v
   put-list d =
       record { before = λ i h. in-front ps (v ∷ drop n ps) n fits i d h; new = getD-at (take n ps) v (drop n ps) d n (length-take-le n ps fits); after = after }
     where
-      after : (i : ℕ) → n ≤ i → getD (putIn n v ps) (i + 1) d ≡ getD ps i d
+      after : (i : ℕ) → n ≤ i → getD (withPlay n v ps) (i + 1) d ≡ getD ps i d
       after i h =
           let e : i + 1 ≡ n + suc (i - n) = omega arith in
           let z : n + (i - n) ≡ i = omega arith in
-          ap (λ (q : ℕ). getD (putIn n v ps) q d) e
+          ap (λ (q : ℕ). getD (withPlay n v ps) q d) e
           ∙ past-front ps (v ∷ drop n ps) n fits (suc (i - n)) d
           ∙ getD-drop n ps (i - n) d
           ∙ ap (λ (q : ℕ). getD ps q d) z
@@ -146,7 +146,7 @@ module _ (ps : List Play) (k : ℕ) (v : Play) where
   n = placeOf ps k (v .start)
 
   abbrev ps′ : List Play
-  ps′ = putIn (placeOf ps k (v .start)) v ps
+  ps′ = withPlay (placeOf ps k (v .start)) v ps
 
   module _ (ok : PutsIn ps k (v .start)) where
     pub put-starts : Put (starts ps) (starts ps′) n (v .start)

@@ -57,9 +57,6 @@ module _ (b : List ℕ) (s : Sound b) where
   before-rises : (p q : ℕ) → p ≤ q → entriesBefore b p ≤ entriesBefore b q
   before-rises p q h = sum-rises (λ k. entryCount b k) p q h
 
-  pub entries-within : (k : ℕ) → k < linesIn b → firstEntry b k + entryCount b k ≤ movesIn b
-  entries-within k h = omega (arith, first-is k h, sum-within (λ k. entryCount b k) k (linesIn b) h, before-all)
-
   -- ---- all entries
 
   -- those of n lines from line k on

@@ -8,27 +8,27 @@ use mathlib.Core.List.{List, _∷_, _++_}
 use lib.ListN.{length, take, drop, take-append-drop}
 use lib.Seq.{length-take-le, take-at, drop-at, drop-drop}
 use Rattle.jkf.specs.Attaching.{Play}
-use Rattle.edit.specs.Edit.{placeOf, putIn, notBelow, removedFrom}
+use Rattle.edit.specs.Edit.{placeOf, withPlay, notBelow, removedFrom}
 use Rattle.edit.specs.inner.Splicing.{without}
 use Rattle.edit.proofs.Leading.{Runs, notBelow-leads, behind}
 use Rattle.edit.proofs.Placing.{PutsIn, place-within, place-next, put-starts}
 
 module _ (ps : List Play) (n : ℕ) (v : Play) (fits : n ≤ length ps) where
-  put-front : take n (putIn n v ps) ≡ take n ps
+  put-front : take n (withPlay n v ps) ≡ take n ps
   put-front = take-at (take n ps) (v ∷ drop n ps) n (length-take-le n ps fits)
 
-  put-rest : drop (n + 1) (putIn n v ps) ≡ drop n ps
-  put-rest = sym (drop-drop 1 n (putIn n v ps)) ∙ ap (drop 1) (drop-at (take n ps) (v ∷ drop n ps) n (length-take-le n ps fits))
+  put-rest : drop (n + 1) (withPlay n v ps) ≡ drop n ps
+  put-rest = sym (drop-drop 1 n (withPlay n v ps)) ∙ ap (drop 1) (drop-at (take n ps) (v ∷ drop n ps) n (length-take-le n ps fits))
 
-  put-without : without n 1 (putIn n v ps) ≡ ps
-  put-without = ap (λ (l : List Play). l ++ drop (n + 1) (putIn n v ps)) put-front ∙ ap (λ (l : List Play). take n ps ++ l) put-rest ∙ take-append-drop n ps
+  put-without : without n 1 (withPlay n v ps) ≡ ps
+  put-without = ap (λ (l : List Play). l ++ drop (n + 1) (withPlay n v ps)) put-front ∙ ap (λ (l : List Play). take n ps ++ l) put-rest ∙ take-append-drop n ps
 
 module _ (ps : List Play) (k : ℕ) (v : Play) where
   abbrev n : ℕ
   n = placeOf ps k (v .start)
 
   abbrev ps′ : List Play
-  ps′ = putIn (placeOf ps k (v .start)) v ps
+  ps′ = withPlay (placeOf ps k (v .start)) v ps
 
   module _ (ok : PutsIn ps k (v .start)) where
     fits : n ≤ length ps

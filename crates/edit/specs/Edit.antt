@@ -20,13 +20,13 @@ abbrev pub playsIn : List Line → List Play
 playsIn = map (λ l. play (l .start) (l .entries))
 
 -- Lines hung afresh: in version 1 each where the attaching rule finds it.
-abbrev pub hung : ℕ → List Line → List Line
-hung version ls = attach (playsIn ls)
+abbrev pub hungAfresh : ℕ → List Line → List Line
+hungAfresh version ls = attach (playsIn ls)
 
 -- A record with other lines, hung afresh: the one step in which both edits end. In a block of version 1 each is hung by the attaching rule,
--- whatever parent it is given here (`hung`).
+-- whatever parent it is given here (`hungAfresh`).
 unfoldable pub fresh : Record → List Line → Record
-fresh r ls = record { version = r .version; headers = r .headers; position = r .position; lines = hung (r .version) ls }
+fresh r ls = record { version = r .version; headers = r .headers; position = r .position; lines = hungAfresh (r .version) ls }
 
 -- A line on another parent, told by the old one.
 abbrev pub reparented : (ℕ → ℕ) → Line → Line
@@ -78,8 +78,8 @@ abbrev pub placeOf : List Play → ℕ → ℕ → ℕ
 placeOf ps k j = k + 1 + above j (drop (k + 1) ps)
 
 -- A line of play more, as number n.
-abbrev pub putIn : ℕ → Play → List Play → List Play
-putIn n p ps = take n ps ++ (p ∷ drop n ps)
+abbrev pub withPlay : ℕ → Play → List Play → List Play
+withPlay n p ps = take n ps ++ (p ∷ drop n ps)
 
 -- ---- put-in: the other lines
 
@@ -88,8 +88,8 @@ abbrev pub renumbered : ℕ → ℕ → ℕ
 renumbered n k = pick (leb n k) (k + 1) k
 
 -- The lines with a new line n, each of the others on its old parent, renumbered.
-abbrev pub putLine : ℕ → Line → List Line → List Line
-putLine n l ls = let qs = map (reparented (renumbered n)) ls in take n qs ++ (l ∷ drop n qs)
+abbrev pub linesWith : ℕ → Line → List Line → List Line
+linesWith n l ls = let qs = map (reparented (renumbered n)) ls in take n qs ++ (l ∷ drop n qs)
 
 -- A line of play on line k.
 abbrev pub lineOn : ℕ → Play → Line
@@ -99,7 +99,7 @@ lineOn k v = record { start = v .start; parent = k; entries = v .entries }
 
 -- The variation v on line k, as line n.
 unfoldable pub insertAt : Record → ℕ → ℕ → Play → Edited
-insertAt r n k v = edited (fresh r (putLine n (lineOn k v) (r .lines))) n
+insertAt r n k v = edited (fresh r (linesWith n (lineOn k v) (r .lines))) n
 
 -- On line k, where its ply is.
 unfoldable pub insertOn : Record → ℕ → Play → Edited
@@ -132,8 +132,8 @@ abbrev pub lowered : ℕ → ℕ → ℕ → ℕ
 lowered k m i = pick (leb k i) (i - m) i
 
 -- Line i is none of m lines from line k on.
-abbrev pub Kept : ℕ → ℕ → ℕ → Type 0
-Kept k m i = k ≤ i → k + m ≤ i
+abbrev pub IsKept : ℕ → ℕ → ℕ → Type 0
+IsKept k m i = k ≤ i → k + m ≤ i
 
 -- The lines without m of them from line k on, each on its old parent, renumbered.
 abbrev pub withoutLines : ℕ → ℕ → List Line → List Line

@@ -19,7 +19,7 @@ use Rattle.block.specs.EntryBytes.{entryBytes}
 use Rattle.block.specs.Encode.{table, concat, headerRow, headerText, lineBytes, lineRow, entryRow, commentRow, entriesOf, commentsOf, commentText}
 use Rattle.block.proofs.RowPlaces.{entry-wide}
 use Rattle.filling.specs.declared.Walk.{Walk}
-use Rattle.filling.specs.Filling.{Grown, grown, hasHeader, putHeader, putLineRow, hasComment, putComment, putEntry, putAll, putComments, putNoted, putEntries}
+use Rattle.filling.specs.Filling.{Grown, grown, hasHeader, putHeader, putLine, hasComment, putComment, putEntry, putAll, putComments, putNoted, putEntries}
 use Rattle.filling.specs.inner.Parts.{putHeaders}
 use Rattle.filling.specs.inner.Parts.{headerTexts, commentTexts, entryTexts, lineTexts, headerEnds, commentEnds, entryEnds, lineEnds, HeadersFit, CommentsFit, EntriesFit, LineFits, Headed, Commented, Entered, Lined}
 use Rattle.filling.proofs.Texts.{headers-append, comments-append, entries-append, keyed, one-header, texted, one-comment, commented, written}
@@ -56,46 +56,11 @@ noted-size e w o =
     let g = putComments (e .comments) w o in
     entry-size (e .what) (w .noted) (g .walk .noted - w .noted) (g .walk) (g .buffer) ∙ all-size putComment comment-size (e .comments) w o
 
-pub line-size : (start first count parent : ℕ) (w : Walk) (o : List ℕ) → length (putLineRow start first count parent w o .buffer) ≡ length o
-unfolding putLineRow
+pub line-size : (start first count parent : ℕ) (w : Walk) (o : List ℕ) → length (putLine start first count parent w o .buffer) ≡ length o
+unfolding putLine
 line-size start first count parent w o =
     by-pick (λ (g : Grown). length (g .buffer) ≡ length o) (leb (w .lines + 8) (length o)) _ (grown w o)
     (λ _. length-put o (w .lines) (lineBytes start first count parent)) (λ _. refl)
-
--- ---- entries leave the line rows where they end, and are not fewer
-
-abbrev pub Stays : Walk → Grown → Type 0
-Stays w g = (g .walk .lines ≡ w .lines) × (w .entries ≤ g .walk .entries)
-
-all-stay : {X : Type 0} (one : X → Walk → List ℕ → Grown) → ((x : X) (w : Walk) (o : List ℕ) → Stays w (one x w o))
-    → (xs : List X) (w : Walk) (o : List ℕ) → Stays w (putAll one xs w o)
-unfolding putAll
-all-stay one k [] w o = (refl, omega arith)
-all-stay one k (x ∷ xs) w o =
-    let a = k x w o in
-    let b = all-stay one k xs (one x w o .walk) (one x w o .buffer) in
-    (b .0 ∙ a .0, omega (arith, a .1, b .1))
-
-comment-stays : (c : List ℕ) (w : Walk) (o : List ℕ) → Stays w (putComment c w o)
-unfolding putComment
-comment-stays c w o = by-pick (Stays w) (hasComment (length c) w (length o)) _ (grown w o) (λ _. (refl, omega arith)) (λ _. (refl, omega arith))
-
-noted-stays : (e : Noted) (w : Walk) (o : List ℕ) → Stays w (putNoted e w o)
-unfolding putNoted putEntry
-noted-stays e w o =
-    let g = putComments (e .comments) w o in
-    let a = all-stay putComment comment-stays (e .comments) w o in
-    by-pick (Stays w) (pick (leb (g .walk .moves + 20) (length (g .buffer))) (leb (g .walk .entries + 1) 18446744073709551615) false) _ (grown (g .walk) (g .buffer))
-    (λ _. (a .0, omega (arith, a .1))) (λ _. a)
-
-pub entries-stay : (es : List Noted) (w : Walk) (o : List ℕ) → Stays w (putEntries es w o)
-entries-stay = all-stay putNoted noted-stays
-
--- and a row does not take them back
-pub row-stays : (start first count parent : ℕ) (w : Walk) (o : List ℕ) → w .lines ≤ putLineRow start first count parent w o .walk .lines
-unfolding putLineRow
-row-stays start first count parent w o =
-    by-pick (λ (g : Grown). w .lines ≤ g .walk .lines) (leb (w .lines + 8) (length o)) _ (grown w o) (λ _. omega arith) (λ _. omega arith)
 
 -- some, and then the others
 pub all-then : {X : Type 0} (one : X → Walk → List ℕ → Grown) (xs ys : List X) (w : Walk) (o : List ℕ)
@@ -450,8 +415,8 @@ module _ (start parent : ℕ) (es : List Noted) where
     line-fit = record { entries = f .entries; noted = f .noted; bytes = f .bytes; room = line-room .1 }
 
     pub line-put : {v : Walk} {o₁ : List ℕ} {count : ℕ} → Entered es w v o o₁ → count ≡ v .entries - w .entries
-        → Lined (line start parent es ∷ []) w (putLineRow start (w .entries) count parent v o₁ .walk) o (putLineRow start (w .entries) count parent v o₁ .buffer)
-    unfolding putLineRow
+        → Lined (line start parent es ∷ []) w (putLine start (w .entries) count parent v o₁ .walk) o (putLine start (w .entries) count parent v o₁ .buffer)
+    unfolding putLine
     line-put {v} {o₁} {count} d q =
         let n : count ≡ length es = omega (arith, q, d .entries) in
         let row = lineRow (w .entries) (line start parent es) in

@@ -4,14 +4,14 @@ use Prim.Native.Nat.{ℕ, _-_, _/_}
 use mathlib.Core.Path.{_≡_, refl, ap, _∙_}
 use mathlib.Core.List.{List}
 use native.Mathlib.Omega.{arith}
-use lib.ListN.{length}
+use lib.ListN.{length, drop}
 use borrow.Author.Tests.{eq-eqb, ne-eqb}
 use Rattle.jkf.specs.Attaching.{onHang}
 use Rattle.jkf.specs.Following.{hangsBy}
 use Rattle.jkf.specs.declared.Hang.{Hang}
 use Rattle.jkf.specs.declared.Hang.the-variants.{On, Nowhere}
 use Rattle.filling.specs.inner.Parts.{onHooked}
-use Rattle.filling.specs.Filling.{putLineRow, tableFrom, hangingOf, hookedOf, hookedIn}
+use Rattle.filling.specs.Filling.{putLine, hangingOf, hookedOf, hookedIn}
 use Rattle.filling.specs.declared.Walk.{Walk}
 use Rattle.filling.specs.declared.Hooked.{Hooked}
 use Rattle.filling.specs.declared.Hooked.the-variants.{Put, Loose}
@@ -24,19 +24,19 @@ module _ (rows start : ℕ) (v : Walk) (o : List ℕ) {k : ℕ} (e : k ≡ (v .l
   first-hangs z = rw (← e, eq-eqb k 0 z)
 
   -- any other as it is found
-  pub later-hangs : (k ≡ 0 → ⊥) → hangsBy (tableFrom o rows) start k ≡ hangingOf rows start v o
+  pub later-hangs : (k ≡ 0 → ⊥) → hangsBy (drop rows o) start k ≡ hangingOf rows start v o
   unfolding hangingOf
   later-hangs z = rw (← e, ne-eqb k 0 z)
 
 module _ (rows start : ℕ) (w v : Walk) (o : List ℕ) where
   pub row-put : {p e count : ℕ} {r : Walk} {o₁ : List ℕ} → On p e ≡ hangingOf rows start v o → count ≡ v .entries - w .entries
-      → r ≡ putLineRow start (w .entries) count p v o .walk → o₁ ≡ putLineRow start (w .entries) count p v o .buffer
+      → r ≡ putLine start (w .entries) count p v o .walk → o₁ ≡ putLine start (w .entries) count p v o .buffer
       → (Put r ≡ hookedOf rows start w v o) × (o₁ ≡ hookedIn rows start w v o)
   unfolding hookedOf hookedIn
   row-put {p} {e} {count} h n f g =
       rw (← h) (
-        ap Put (f ∙ ap (λ (m : ℕ). putLineRow start (w .entries) m p v o .walk) n),
-        g ∙ ap (λ (m : ℕ). putLineRow start (w .entries) m p v o .buffer) n,
+        ap Put (f ∙ ap (λ (m : ℕ). putLine start (w .entries) m p v o .walk) n),
+        g ∙ ap (λ (m : ℕ). putLine start (w .entries) m p v o .buffer) n,
       )
 
   pub none-put : Nowhere ≡ hangingOf rows start v o → (Loose ≡ hookedOf rows start w v o) × (o ≡ hookedIn rows start w v o)
@@ -48,7 +48,7 @@ module _ (rows start : ℕ) (w v : Walk) (o : List ℕ) where
   unfolding hookedIn
   hooked-size = go (hangingOf rows start v o)
     where
-      go : (h : Hang) → length (onHang h (λ p e. putLineRow start (w .entries) (v .entries - w .entries) p v o .buffer) o) ≡ length o
+      go : (h : Hang) → length (onHang h (λ p e. putLine start (w .entries) (v .entries - w .entries) p v o .buffer) o) ≡ length o
       go (On p e) = line-size start (w .entries) (v .entries - w .entries) p v o
       go Nowhere = refl
 
@@ -58,21 +58,21 @@ module _ (rows start : ℕ) (w v : Walk) (o : List ℕ) where
     pub parent : ℕ
     pub entry : ℕ
     pub hangs : hangingOf rows start v o ≡ On parent entry
-    pub walk : u ≡ putLineRow start (w .entries) (v .entries - w .entries) parent v o .walk
-    pub buffer : hookedIn rows start w v o ≡ putLineRow start (w .entries) (v .entries - w .entries) parent v o .buffer
+    pub walk : u ≡ putLine start (w .entries) (v .entries - w .entries) parent v o .walk
+    pub buffer : hookedIn rows start w v o ≡ putLine start (w .entries) (v .entries - w .entries) parent v o .buffer
 
   pub row-told : {u : Walk} → Put u ≡ hookedOf rows start w v o → Row u
   unfolding hookedOf hookedIn
   row-told {u} q = go (hangingOf rows start v o) refl q
     where
-      go : (h : Hang) → hangingOf rows start v o ≡ h → Put u ≡ onHang h (λ p e. Put (putLineRow start (w .entries) (v .entries - w .entries) p v o .walk)) Loose → Row u
+      go : (h : Hang) → hangingOf rows start v o ≡ h → Put u ≡ onHang h (λ p e. Put (putLine start (w .entries) (v .entries - w .entries) p v o .walk)) Loose → Row u
       go (On p e) k x =
           record {
             parent = p;
             entry = e;
             hangs = k;
             walk = ap (λ (h : Hooked). onHooked h (λ r. r) u) x;
-            buffer = ap (λ (h : Hang). onHang h (λ p e. putLineRow start (w .entries) (v .entries - w .entries) p v o .buffer) o) k;
+            buffer = ap (λ (h : Hang). onHang h (λ p e. putLine start (w .entries) (v .entries - w .entries) p v o .buffer) o) k;
           }
       go Nowhere k x = let z : _≡_ {A = ℕ} 1 0 = ap (λ (h : Hooked). onHooked h (λ r. 1) 0) x in absurd (omega arith)
 
@@ -80,6 +80,6 @@ module _ (rows start : ℕ) (w v : Walk) (o : List ℕ) where
   unfolding hookedOf
   none-told q = go (hangingOf rows start v o) refl q
     where
-      go : (h : Hang) → hangingOf rows start v o ≡ h → Loose ≡ onHang h (λ p e. Put (putLineRow start (w .entries) (v .entries - w .entries) p v o .walk)) Loose → hangingOf rows start v o ≡ Nowhere
+      go : (h : Hang) → hangingOf rows start v o ≡ h → Loose ≡ onHang h (λ p e. Put (putLine start (w .entries) (v .entries - w .entries) p v o .walk)) Loose → hangingOf rows start v o ≡ Nowhere
       go (On p e) k x = let z : _≡_ {A = ℕ} 0 1 = ap (λ (h : Hooked). onHooked h (λ r. 1) 0) x in absurd (omega arith)
       go Nowhere k x = k

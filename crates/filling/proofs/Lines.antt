@@ -23,7 +23,7 @@ use Rattle.block.proofs.Tabling.{table-length, concat-append}
 use Rattle.block.proofs.RowPlaces.{line-wide}
 use Rattle.block.proofs.LineTables.{start-back, count-back, parent-back}
 use Rattle.block.proofs.Attached.{all-hang, start-bound, attach-length, attach-entries, attach-line, parent-first, parent-later}
-use Rattle.filling.specs.Filling.{Grown, putLineRow, tableFrom, hangingOf}
+use Rattle.filling.specs.Filling.{Grown, putLine, hangingOf}
 use Rattle.filling.specs.inner.Parts.{entryTexts, lineTexts, entryEnds, lineEnds, EntriesFit, Entered, LinesFit, LineFits, Lined}
 use Rattle.filling.specs.declared.Walk.{Walk}
 use Rattle.filling.proofs.Texts.{lines-append, entries-both, comments-both, bytes-both}
@@ -207,7 +207,7 @@ module _ (ps : List Play) (w : Walk) (o₀ : List ℕ) (f : LinesFit (attach ps)
 
       module _ (es : List Noted) {x : Walk} {o₁ : List ℕ} (d : Entered es v x o o₁) (g : EntriesFit es v o) where
         abbrev seen : List ℕ
-        seen = tableFrom o₁ (w .lines)
+        seen = drop (w .lines) o₁
 
         byte-back : (n : ℕ) → n < 8 * k → getD seen n 0 ≡ getD rows n 0
         byte-back n h =
@@ -216,8 +216,7 @@ module _ (ps : List Play) (w : Walk) (o₀ : List ℕ) (f : LinesFit (attach ps)
             let m = filled-length (d .filled) ∙ filled-length (done .filled) in
             let u = then-room [] (subst (Room (length o₀) (lineEnds w)) (sym (join-nil (textsOf (take k ls)))) r) (done .filled) in
             let e = done .filled .ends .0 in
-            getD-take (length o₁ - w .lines) (drop (w .lines) o₁) n 0 (omega (arith, b, rows-long, m))
-            ∙ getD-drop (w .lines) o₁ n 0 ∙ ap (λ (l : List ℕ). getD l (w .lines + n) 0) (d .filled .bytes)
+            getD-drop (w .lines) o₁ n 0 ∙ ap (λ (l : List ℕ). getD l (w .lines + n) 0) (d .filled .bytes)
             ∙ puts-low o (entryEnds v) (entryTexts (v .noted) (v .bytes) es) (w .lines + n) (g .room) (omega (arith, u .0, e, rows-long))
             ∙ filled-at 0 n r (done .filled) (omega arith) (omega (arith, rows-long))
 
@@ -242,13 +241,17 @@ module _ (ps : List Play) (w : Walk) (o₀ : List ℕ) (f : LinesFit (attach ps)
                 ∙ e ∙ ap (λ (n : ℕ). near (starts ps) n j) (sym (start-read j h)) ∙ sym (near-same (startAt seen) (starts ps) (startAt seen j) j (λ m l. start-read m (omega arith)))
 
         -- a line with this start hangs as it does in the list
-        pub hang-read : (start : ℕ) → 0 < k → hangsBy (tableFrom o₁ (w .lines)) start k ≡ hangs (starts ps) (counts ps) start k
+        hang-read : (start : ℕ) → 0 < k → hangsBy (drop (w .lines) o₁) start k ≡ hangs (starts ps) (counts ps) start k
         hang-read start some =
             hangs-followed linked start ∙ hangs-before (startAt seen) (starts ps) (countAt seen) (counts ps) start start k refl some start-read count-read
 
         -- as many rows stand before line k
-        pub row-number : k ≡ (x .lines - w .lines) / 8
+        row-number : k ≡ (x .lines - w .lines) / 8
         row-number = omega (arith, d .lines, lined-end)
+
+        -- so the next line hangs as it does in the list
+        pub next-hangs : (start : ℕ) → 0 < k → hangingOf (w .lines) start x o₁ ≡ hangs (starts ps) (counts ps) start k
+        next-hangs start some = sym (later-hangs (w .lines) start x o₁ row-number (λ q. omega arith)) ∙ hang-read start some
 
         -- and so line k is hooked on its parent, if it hangs; line 0 has none
         pub hooks : (0 < k → Hangs (starts ps) (counts ps) k) → (e : ℕ) × (hangingOf (w .lines) (starts ps k) x o₁ ≡ On (parentIn ps k) e)
@@ -259,7 +262,7 @@ module _ (ps : List Play) (w : Walk) (o₀ : List ℕ) (f : LinesFit (attach ps)
                 let p = near (starts ps) (starts ps k) k in
                 let e = starts ps k - starts ps p in (
                   e,
-                  sym (later-hangs (w .lines) (starts ps k) x o₁ row-number (λ q. omega arith)) ∙ hang-read (starts ps k) z ∙ hangs-on (starts ps) (counts ps) k (h z)
+                  next-hangs (starts ps k) z ∙ hangs-on (starts ps) (counts ps) k (h z)
                       ∙ ap (λ (q : ℕ). On q e) (sym (parent-later ps k (h z))),
                 )
             go (no z) =
@@ -270,10 +273,10 @@ module _ (ps : List Play) (w : Walk) (o₀ : List ℕ) (f : LinesFit (attach ps)
 
     module _ (more : k < length ps) {x : Walk} {o₁ : List ℕ} (d : Entered (playOf ps k .entries) v x o o₁) where
       pub row-lined : {start parent : ℕ} {u : Walk} {o₂ : List ℕ} → start ≡ starts ps k → parent ≡ parentIn ps k
-          → u ≡ putLineRow start (v .entries) (x .entries - v .entries) parent x o₁ .walk → o₂ ≡ putLineRow start (v .entries) (x .entries - v .entries) parent x o₁ .buffer
+          → u ≡ putLine start (v .entries) (x .entries - v .entries) parent x o₁ .walk → o₂ ≡ putLine start (v .entries) (x .entries - v .entries) parent x o₁ .buffer
           → Lined (take (k + 1) (attach ps)) w u o₀ o₂
       row-lined {start} {parent} {u} {o₂} a b r s =
-          let row : ℕ → ℕ → Grown = λ m n. putLineRow m (v .entries) (x .entries - v .entries) n x o₁ in
+          let row : ℕ → ℕ → Grown = λ m n. putLine m (v .entries) (x .entries - v .entries) n x o₁ in
           let own : Lined (lineAt ps k ∷ []) v (row (starts ps k) (parentIn ps k) .walk) o (row (starts ps k) (parentIn ps k) .buffer) =
           line-put (starts ps k) (parentIn ps k) (playOf ps k .entries) (room-for k more done) d refl in
           let own₁ : Lined (lineAt ps k ∷ []) v u o o₂ =

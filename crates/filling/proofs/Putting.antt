@@ -30,7 +30,7 @@ use Rattle.filling.specs.declared.Sizes.{Sizes}
 use Rattle.filling.specs.declared.Walk.{Walk}
 use Rattle.filling.specs.declared.Opening.{Opening}
 use Rattle.filling.specs.declared.Opening.the-variants.{Begun, Refused}
-use Rattle.filling.specs.Filling.{unlessRefused, areSmall, lengthOf, begun, opening, headFor, frontPut, opened, header, hasHeader, putHeader, putLineRow, hasComment, putComment, putEntry}
+use Rattle.filling.specs.Filling.{unlessRefused, areSmall, lengthOf, begun, opening, headFor, frontPut, opened, header, hasHeader, putHeader, putLine, hasComment, putComment, putEntry}
 use Rattle.filling.specs.inner.Parts.{onOpening, Opens}
 
 -- ---- whether something has room
@@ -273,8 +273,8 @@ module _ (e : Entry) (first count : ℕ) (w : Walk) (o : List ℕ) where
 
 module _ (start first count parent : ℕ) (w : Walk) (o : List ℕ) where
   pub line-none : leb (w .lines + 8) (length o) ≡ false
-      → (w ≡ putLineRow start first count parent w o .walk) × (o ≡ putLineRow start first count parent w o .buffer)
-  unfolding putLineRow
+      → (w ≡ putLine start first count parent w o .walk) × (o ≡ putLine start first count parent w o .buffer)
+  unfolding putLine
   line-none n = rw n (refl, refl)
 
   pub line-done : {o₁ : List ℕ} {p : ℕ} → leb (w .lines + 8) (length o) ≡ true
@@ -290,8 +290,8 @@ module _ (start first count parent : ℕ) (w : Walk) (o : List ℕ) where
         noted = w .noted;
         bytes = w .bytes;
       })
-      (putLineRow start first count parent w o .walk)) × (o₁ ≡ putLineRow start first count parent w o .buffer)
-  unfolding putLineRow
+      (putLine start first count parent w o .walk)) × (o₁ ≡ putLine start first count parent w o .buffer)
+  unfolding putLine
   line-done {o₁} {p} a x =
       let x₁ = stored-all {t = lineBytes start first count parent} (leb-true (w .lines + 8) (length o) a) x in
       rw (a, x₁ .end) (refl, x₁ .bytes)

@@ -136,12 +136,9 @@ module _ (version : ℕ) (p : Position) (hs : List Header) (ls : List Line) wher
           head-filled : Filled headTexts o o₁ places afterHead
           head-filled = record { bytes = first ∙ front-is; ends = (omega (arith, head-long), (refl, (refl, (refl, (refl, (refl, tt)))))) }
 
-          same-size : length o₁ ≡ length o
-          same-size = filled-length head-filled
-
           -- past the front nothing changed
           pub front-size : length o₁ ≡ length o
-          front-size = same-size
+          front-size = filled-length head-filled
 
           pub front-rest : drop n o₁ ≡ drop n o
           front-rest =
@@ -156,7 +153,7 @@ module _ (version : ℕ) (p : Position) (hs : List Header) (ls : List Line) wher
           headers-fit =
               record {
                 bytes = omega (arith, size, short);
-                room = (omega (arith, table-length headerRow headerStep 8 header-wide 0 hs), (omega (arith, size, fits, same-size), tt));
+                room = (omega (arith, table-length headerRow headerStep 8 header-wide 0 hs), (omega (arith, size, fits, front-size), tt));
               }
 
           module _ (r : Walk) (o₂ : List ℕ) (second : Headed hs (begun z) r o₁ o₂) where

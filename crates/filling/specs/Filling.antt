@@ -136,8 +136,8 @@ putHeader h w o =
     (grown w o)
 
 -- A line's row at the end of the line rows.                                                         (01, The block: line)
-unfoldable pub putLineRow : ℕ → ℕ → ℕ → ℕ → Walk → List ℕ → Grown
-putLineRow start first count parent w o =
+unfoldable pub putLine : ℕ → ℕ → ℕ → ℕ → Walk → List ℕ → Grown
+putLine start first count parent w o =
     pick (leb (w .lines + 8) (length o))
     (grown
     (record {
@@ -198,23 +198,19 @@ putEntry e first count w o =
 
 -- ---- a line, hung on those before it                                                              (01, Attaching rule)
 
--- The rows of the lines, from the place where they begin.
-abbrev pub tableFrom : List ℕ → ℕ → List ℕ
-tableFrom o rows = take (length o - rows) (drop rows o)
-
 -- Where the next line hangs: the first on none, told as entry 0 of line 0; any other on a line before it.
 unfoldable pub hangingOf : ℕ → ℕ → Walk → List ℕ → Hang
 hangingOf rows start v o =
-    let k = (v .lines - rows) / 8 in let h = hangsBy (tableFrom o rows) start k in pick (eqb k 0) (On 0 0) h
+    let k = (v .lines - rows) / 8 in let h = hangsBy (drop rows o) start k in pick (eqb k 0) (On 0 0) h
 
 -- Its row behind them, with the parent that was found; or that it hangs on none.
 unfoldable pub hookedOf : ℕ → ℕ → Walk → Walk → List ℕ → Hooked
 hookedOf rows start w v o =
-    onHang (hangingOf rows start v o) (λ p e. Put (putLineRow start (w .entries) (v .entries - w .entries) p v o .walk)) Loose
+    onHang (hangingOf rows start v o) (λ p e. Put (putLine start (w .entries) (v .entries - w .entries) p v o .walk)) Loose
 
 unfoldable pub hookedIn : ℕ → ℕ → Walk → Walk → List ℕ → List ℕ
 hookedIn rows start w v o =
-    onHang (hangingOf rows start v o) (λ p e. putLineRow start (w .entries) (v .entries - w .entries) p v o .buffer) o
+    onHang (hangingOf rows start v o) (λ p e. putLine start (w .entries) (v .entries - w .entries) p v o .buffer) o
 
 -- ---- several parts, one after another
 

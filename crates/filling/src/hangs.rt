@@ -5,7 +5,7 @@ use crate::puts::put_line;
 use jkf::Hang;
 ghost use mathlib.Core.Path.{_≡_};
 ghost use Prim.Native.Nat.{_-_};
-ghost use Rattle.filling.specs.Filling.{tableFrom, hangingOf, hookedOf, hookedIn};
+ghost use Rattle.filling.specs.Filling.{hangingOf, hookedOf, hookedIn};
 
 // How many more one is than the other; 0 where it is less.
 fn less(a: usize, b: usize) -> usize
@@ -17,16 +17,6 @@ fn less(a: usize, b: usize) -> usize
     a - b
 }
 
-// What stands from a place on; nothing past the end.
-fn rest(out: &[u8], at: usize) -> &[u8]
-    ensures { λ r. ⌜ now r ≡ tableFrom (now (out .entry)) at ⌝ }
-{
-    if out.len() < at {
-        return &out[..0];
-    }
-    &out[at..]
-}
-
 // Where the next line hangs that starts at a ply, of a block whose line rows begin at a place: the first on none, and its parent is 0.
 fn hanging(out: &[u8], rows: usize, start: u64, v: Walk) -> Hang
     ensures { λ r. ⌜ r ≡ hangingOf rows start v (now (out .entry)) ⌝ }
@@ -35,7 +25,7 @@ fn hanging(out: &[u8], rows: usize, start: u64, v: Walk) -> Hang
     if k == 0 {
         return Hang::On(0, 0);
     }
-    jkf::hang_of(rest(out, rows), k, start)
+    jkf::hang_of(lent::rest(out, rows), k, start)
 }
 
 // The row of a line whose entries were put between w and v, which starts at a ply; nothing is put where it hangs on no entry.

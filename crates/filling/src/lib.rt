@@ -11,7 +11,6 @@ pub use opens::open;
 pub use puts::put_comment;
 pub use puts::put_entry;
 pub use puts::put_header;
-pub use puts::put_line;
 
 // How many header entries, lines, entries and comments a block has, and how many bytes of text.
 pub struct Sizes {

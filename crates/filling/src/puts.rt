@@ -5,7 +5,7 @@ ghost use mathlib.Core.Path.{_≡_};
 ghost use Prim.Native.Nat.{_+_};
 ghost use lib.Dec.{eqb, leb};
 ghost use Rattle.lists.specs.Pick.{pick};
-ghost use Rattle.filling.specs.Filling.{header, hasHeader, hasComment, putHeader, putLineRow, putComment, putEntry};
+ghost use Rattle.filling.specs.Filling.{header, hasHeader, hasComment, putHeader, putLine, putComment, putEntry};
 
 // Whether n more from a place on come to an end or less.
 fn has_room(at: usize, n: usize, end: usize) -> bool
@@ -61,7 +61,7 @@ pub fn put_header(out: &mut [u8], w: Walk, key: &[u8], value: &[u8]) -> Walk
 }
 
 // The row of a line where the line rows end.
-pub fn put_line(
+pub(crate) fn put_line(
     out: &mut [u8],
     w: Walk,
     start: u64,
@@ -69,8 +69,8 @@ pub fn put_line(
     count: usize,
     parent: u64,
 ) -> Walk
-    ensures { λ r. ⌜ r ≡ putLineRow start first count parent w (now (out .entry)) .walk ⌝ }
-    ensures { λ r. ⌜ now (out .exit) ≡ putLineRow start first count parent w (now (out .entry)) .buffer ⌝ }
+    ensures { λ r. ⌜ r ≡ putLine start first count parent w (now (out .entry)) .walk ⌝ }
+    ensures { λ r. ⌜ now (out .exit) ≡ putLine start first count parent w (now (out .entry)) .buffer ⌝ }
 {
     if !has_room(w.lines, 8, out.len()) {
         return w;

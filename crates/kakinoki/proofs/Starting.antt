@@ -11,7 +11,7 @@ use Rattle.jkf.specs.declared.Position.{Position}
 use Rattle.kakinoki.specs.Informations.{headerPlacesAt, low16}
 use Rattle.kakinoki.specs.inner.Blocks.{blockAt}
 use Rattle.kakinoki.specs.Boards.{boardAt}
-use Rattle.kakinoki.specs.Starts.{merged, positionOf, secondPlace, headerPlaces, startRead}
+use Rattle.kakinoki.specs.Starts.{merged, positionSaid, secondPlace, headerPlaces, startRead}
 use Rattle.kakinoki.specs.declared.Told.{Told}
 use Rattle.kakinoki.specs.declared.Fault.{Fault}
 use Rattle.kakinoki.specs.declared.InformationBlock.{InformationBlock}
@@ -38,7 +38,7 @@ module _ (s : List ℕ) (first : InformationBlock) (b : Board) (at : ℕ) (p : f
   unfolding blockAt
   second-place = rw (r, q, p)
 
-  pub start-all : (second : InformationBlock) (t : Told) (w : Position) → second ≡ blockAt s at → t ≡ merged (first .told) (second .told) → w ≡ positionOf b t
+  pub start-all : (second : InformationBlock) (t : Told) (w : Position) → second ≡ blockAt s at → t ≡ merged (first .told) (second .told) → w ≡ positionSaid b t
       → starting (second .fault) w (first .headers + second .headers) (second .next) ≡ startRead s
   unfolding startRead headerPlaces blockAt
   start-all second t w u f g =

@@ -42,8 +42,8 @@ merged a b = told (either (a .preset) (b .preset)) (either (a .turn) (b .turn)) 
 
 -- With a board その他 is the preset, and Black is to move if nothing says who is; without one there are no hands and no turn, and the preset is 平手
 -- if none stands.
-unfoldable pub positionOf : Board → Told → Position
-positionOf b t =
+unfoldable pub positionSaid : Board → Told → Position
+positionSaid b t =
     pick (b .there)
     (record { preset = 16; board = 1; turn = named (t .turn) 0; cells = b .cells; hands = t .black ++ t .white })
     (record { preset = named (t .preset) 0; board = 0; turn = 0; cells = noCells; hands = replicate 14 0 })
@@ -77,7 +77,7 @@ unfoldable pub startRead : List ℕ → Start
 startRead s =
     record {
       fault = faultAt s (secondBlock s .at);
-      position = positionOf (diagram s) (merged (tellAll untold (firstBlock s .state)) (tellAll untold (secondBlock s .state)));
+      position = positionSaid (diagram s) (merged (tellAll untold (firstBlock s .state)) (tellAll untold (secondBlock s .state)));
       headers = length (headerPlaces s);
       next = cursor (secondBlock s .at);
     }

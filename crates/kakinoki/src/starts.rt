@@ -13,7 +13,7 @@ ghost use mathlib.Core.List.{_++_};
 ghost use Rattle.lent.specs.Stored.{put};
 ghost use Rattle.lists.specs.Pick.{pick};
 ghost use Rattle.kakinoki.specs.Informations.{low16};
-ghost use Rattle.kakinoki.specs.Starts.{named, either, addCounts, addHands, merged, positionOf, headerPlaces, startRead};
+ghost use Rattle.kakinoki.specs.Starts.{named, either, addCounts, addHands, merged, positionSaid, headerPlaces, startRead};
 
 // What is named, or else a number.
 fn or_else(a: Named, d: u8) -> u8
@@ -104,7 +104,7 @@ fn both_hands(a: [u8; 7], b: [u8; 7]) -> [u8; 14]
 
 // The position: a diagram with hands and turn, or a preset alone.
 fn position(board: Board, told: Told) -> Position
-    ensures { λ r. ⌜ r ≡ positionOf board told ⌝ }
+    ensures { λ r. ⌜ r ≡ positionSaid board told ⌝ }
 {
     let preset = told.preset;
     let turn = told.turn;

@@ -93,7 +93,7 @@ fn put_file(
     let files::Got::Bytes(n) = files::fill(variation, room) else {
         return Edited::Refused;
     };
-    put_text(name, b, line, variation, shown::front(&room[0..], n), out)
+    put_text(name, b, line, variation, lent::front(&room[0..], n), out)
 }
 
 // With that of the file that the fourth word names.

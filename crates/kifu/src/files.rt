@@ -20,7 +20,7 @@ fn put_refused(out: &mut [u8], name: &[u8]) -> usize
 fn fail(name: &[u8]) {
     let mut what = [0u8; 4352];
     let n = put_refused(&mut what, name);
-    os::fail(shown::front(&what, n));
+    os::fail(lent::front(&what, n));
 }
 
 // Whether a file can still be read: at its end a read answers 0, and -1 only where it fails, as of a folder.

@@ -32,7 +32,7 @@ fn print_text(name: &[u8], b: &[u8], out: &mut [u8]) -> bool {
         refusals::tell(name, f);
         return false;
     }
-    if !told(io::write_all(STDOUT_FILENO, shown::front(&out[0..], f.first as usize))) {
+    if !told(io::write_all(STDOUT_FILENO, lent::front(&out[0..], f.first as usize))) {
         return false;
     }
     losses::tell(name, b, f.second);
@@ -63,13 +63,13 @@ fn print_check(taken: u64, left: u64, b: &[u8]) -> bool {
 fn print_read(taken: u64, len: u64) -> bool {
     let mut out = [0u8; 128];
     let n = shown::put_read(&mut out, taken, len);
-    io::write_all(STDOUT_FILENO, shown::front(&out, n))
+    io::write_all(STDOUT_FILENO, lent::front(&out, n))
 }
 
 // Prints the listing of a block.
 fn print_listing(taken: u64, b: &[u8], out: &mut [u8]) -> bool {
     let n = shown::put_listing(out, taken, b);
-    io::write_all(STDOUT_FILENO, shown::front(&out[0..], n))
+    io::write_all(STDOUT_FILENO, lent::front(&out[0..], n))
 }
 
 // Writes a block into the new file that the third word names, and prints how long it is.
@@ -107,7 +107,7 @@ fn print_edited(word: Word, line: u64, name: &[u8], b: &[u8], out: &mut [u8]) ->
     let edits::Edited::Block(n) = edit(word, line, name, b, out, &mut edited) else {
         return false;
     };
-    print_text(name, shown::front(&edited, n), out)
+    print_text(name, lent::front(&edited, n), out)
 }
 
 // What is asked of a text that was read into a block; and whether it was done.
@@ -147,7 +147,7 @@ fn read(word: Word, line: u64, name: &[u8], text: &[u8], out: &mut [u8]) {
         return;
     }
     let left = left(text.len() as u64, f.first);
-    let b = shown::front(&block, f.second as usize);
+    let b = lent::front(&block, f.second as usize);
     if answer(word, line, name, left, f.first, b, out) {
         tell_left(word, name, left);
     }
@@ -160,7 +160,7 @@ fn obey(word: Word, line: u64, name: &[u8]) {
     let files::Got::Bytes(n) = files::fill(name, &mut input) else {
         return;
     };
-    let bytes = shown::front(&input, n);
+    let bytes = lent::front(&input, n);
     let mut out = [0u8; 220000];
     if let Word::Text = word {
         print_text(name, bytes, &mut out);

@@ -8,7 +8,7 @@ fn say_kind(kind: u64) -> bool {
     let at = if kind < 6 { 8 * (kind as usize) } else { 48 };
     io::write_all(
         STDERR_FILENO,
-        shown::text_at(
+        shown::table_text(
             b"\x05pawns  \
               \x06lances \
               \x07knights\
@@ -51,7 +51,7 @@ fn say_end(t: &[u8], y: u64) -> bool {
     if t.len() <= at {
         return io::write_all(STDERR_FILENO, t);
     }
-    notes::say(STDERR_FILENO, shown::front(t, at), y, &t[at + 1..])
+    notes::say(STDERR_FILENO, lent::front(t, at), y, &t[at + 1..])
 }
 
 // A sentence, with its figures in the places of its marks: two, one or none.
@@ -60,7 +60,7 @@ fn say(t: &[u8], x: u64, y: u64) -> bool {
     if t.len() <= at {
         return io::write_all(STDERR_FILENO, t);
     }
-    io::write_all(STDERR_FILENO, shown::front(t, at));
+    io::write_all(STDERR_FILENO, lent::front(t, at));
     io::print_decimal(STDERR_FILENO, x);
     say_end(&t[at + 1..], y)
 }
@@ -76,7 +76,7 @@ fn say_refusal(number: u64, x: u64, y: u64) -> bool {
         1274
     };
     say(
-        shown::text_at(
+        shown::table_text(
             b"\x00                                                                                                 \
               \x2fthe text has # bytes or more; 65535 is the most                                                  \
               \x2dthe text is not UTF-8 after its first # bytes                                                    \

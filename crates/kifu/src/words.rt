@@ -116,7 +116,7 @@ fn use_of(word: Word) -> usize {
 fn print_usage(fd: i32, word: Word) -> bool {
     io::write_all(
         fd,
-        shown::text_at(
+        shown::table_text(
             b"\x5ekifu list FILE                the lines of play of a KIF file: number, start, entries, parent\n       \
               \x51kifu tidy FILE                the file read and written anew, to standard output\n                    \
               \x46kifu block FILE OUT           the file's block, into the new file OUT\n                               \

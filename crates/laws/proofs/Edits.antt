@@ -34,7 +34,7 @@ use Rattle.block.specs.Formed.{lineOf, Formed}
 use Rattle.block.proofs.Deciding.{sound-says, sound-answers}
 use Rattle.plays.specs.Plays.{entriesAt, plyAt}
 use Rattle.block.proofs.Attached.{attach-length, attach-line}
-use Rattle.edit.specs.Edit.{Edited, edited, playsIn, reparented, variationOf, renumbered, removedFrom, lowered, Kept, remove}
+use Rattle.edit.specs.Edit.{Edited, edited, playsIn, reparented, variationOf, renumbered, removedFrom, lowered, IsKept, remove}
 use Rattle.edit.specs.inner.Splicing.{relined, without}
 use Rattle.edit.specs.Outcomes.{editStored, editedOf, putInOf, cutOf}
 use Rattle.edit.proofs.Played.{starts-is, counts-is, ply-is, plays-long}
@@ -264,12 +264,12 @@ module _ (b o : List ℕ) (bs : Bytes b) (k n m : ℕ) (done : cutOf b k o .answ
       let (h, p) = relined-rest b (cutLines b k) c (cuts .formed) (cuts .front) in
       (omega (arith, relined-many b (cutLines b k) c (cuts .formed) (cuts .front), cut-long, cut-within, cuts .many, plays-long b), h, p)
 
-  pub cut-keeps : (l : ℕ) → l < linesIn b → Kept k m l
+  pub cut-keeps : (l : ℕ) → l < linesIn b → IsKept k m l
       → (lineOf (decode (cutBlock b o k n) .lines) (lowered k m l)
       ≡ reparented (lowered k m) (lineOf (decode b .lines) l))
-      × Kept k m (lineOf (decode b .lines) l .parent)
+      × IsKept k m (lineOf (decode b .lines) l .parent)
   cut-keeps l h =
-      subst (λ (x : ℕ). Kept k x l → (lineOf (decode c .lines) (lowered k x l) ≡ reparented (lowered k x) (lineOf (decode b .lines) l)) × Kept k x (lineOf (decode b .lines) l .parent))
+      subst (λ (x : ℕ). IsKept k x l → (lineOf (decode c .lines) (lowered k x l) ≡ reparented (lowered k x) (lineOf (decode b .lines) l)) × IsKept k x (lineOf (decode b .lines) l .parent))
       (sym (cuts .many)) keeps
     where
       c : List ℕ
@@ -278,21 +278,21 @@ module _ (b o : List ℕ) (bs : Bytes b) (k n m : ℕ) (done : cutOf b k o .answ
       a : l < length (playsOf b)
       a = omega (arith, plays-long b)
 
-      low : Kept k (cutMany b k) l → lowered k (cutMany b k) l < length (cutLines b k)
+      low : IsKept k (cutMany b k) l → lowered k (cutMany b k) l < length (cutLines b k)
       low g =
           by-pick (λ (q : ℕ). q < length (cutLines b k)) (leb k l) (l - cutMany b k) l
           (λ e. let x = g (leb-true k l e) in omega (arith, cut-long, a))
           (λ e. omega (arith, cut-long, cut-within, leb-false k l e))
 
-      keeps : Kept k (cutMany b k) l
+      keeps : IsKept k (cutMany b k) l
           → (lineOf (decode c .lines) (lowered k (cutMany b k) l) ≡ reparented (lowered k (cutMany b k)) (lineOf (decode b .lines) l))
-          × Kept k (cutMany b k) (lineOf (decode b .lines) l .parent)
+          × IsKept k (cutMany b k) (lineOf (decode b .lines) l .parent)
       keeps g =
           let (e, stays, p) = kept-after-cut (playsOf b) k (cuts .cut) l (play 0 []) a g in (
             ap (λ (ls : List Line). lineOf ls (lowered k (cutMany b k) l)) (relined-lines b (cutLines b k) c (cuts .formed) (cuts .front))
                 ∙ line-moved (playsOf b) (cutLines b k) (lowered k (cutMany b k)) l (lowered k (cutMany b k) l) a (low g) e p
                 ∙ sym (ap (λ (ls : List Line). reparented (lowered k (cutMany b k)) (lineOf ls l)) (lines-afresh b (cuts .sound))),
-            subst (Kept k (cutMany b k)) (sym (ap (λ (x : Line). x .parent) (line-is l h))) stays,
+            subst (IsKept k (cutMany b k)) (sym (ap (λ (x : Line). x .parent) (line-is l h))) stays,
           )
 
   -- ---- what is cut

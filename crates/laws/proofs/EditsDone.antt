@@ -26,7 +26,7 @@ use Rattle.block.specs.Sound.{soundb}
 use Rattle.block.specs.Formed.{Formed}
 use Rattle.block.proofs.Deciding.{sound-says}
 use Rattle.plays.specs.Plays.{plyAt}
-use Rattle.edit.specs.Edit.{fresh, withoutLines, Edited, edited, refused, playsIn, isVariation, variationOf, isPlyOf, carries, placeOf, putIn, insertAt, insertOn, insert, removedFrom, remove}
+use Rattle.edit.specs.Edit.{fresh, withoutLines, Edited, edited, refused, playsIn, isVariation, variationOf, isPlyOf, carries, placeOf, withPlay, insertAt, insertOn, insert, removedFrom, remove}
 use Rattle.edit.specs.inner.Splicing.{relined, without}
 use Rattle.edit.specs.Outcomes.{editStored, editedOf, putInOf, cutOf}
 use Rattle.edit.proofs.Placing.{PutsIn, place-past}
@@ -83,7 +83,7 @@ module _ (b : List ℕ) (k : ℕ) (t : List ℕ) where
   putPlace = placeOf (playsIn (decode b .lines)) k (plyAt t 0)
 
   abbrev pub putLines : List Play
-  putLines = putIn (placeOf (playsIn (decode b .lines)) k (plyAt t 0)) (variationOf t) (playsIn (decode b .lines))
+  putLines = withPlay (placeOf (playsIn (decode b .lines)) k (plyAt t 0)) (variationOf t) (playsIn (decode b .lines))
 
   abbrev Asked : Type 0
   Asked = PutsIn (playsIn (decode b .lines)) k (plyAt t 0) × (isVariation t ≡ true)

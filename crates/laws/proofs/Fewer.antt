@@ -18,7 +18,7 @@ use Rattle.block.proofs.Tabling.{concat-append}
 use Rattle.block.proofs.Lengths.{block-length}
 use Rattle.plays.specs.inner.Entries.{playEntries}
 use Rattle.block.proofs.Attached.{attach-length, attach-entries}
-use Rattle.edit.specs.Edit.{playsIn, putIn}
+use Rattle.edit.specs.Edit.{playsIn, withPlay}
 use Rattle.edit.specs.inner.Splicing.{relined, without}
 use Rattle.edit.proofs.Sounds.{lines-afresh}
 use Rattle.edit.proofs.Assembled.{position-long}
@@ -68,7 +68,7 @@ fewer-cut k m ps =
           ∙ ap (λ (l : List Play). take k ps ++ l) (sym (take-append-drop m (drop k ps)) ∙ ap (λ (l : List Play). take m (drop k ps) ++ l) (drop-drop m k ps));
     }
 
-fewer-put : (n : ℕ) (v : Play) (ps : List Play) → Fewer ps (v ∷ []) (putIn n v ps)
+fewer-put : (n : ℕ) (v : Play) (ps : List Play) → Fewer ps (v ∷ []) (withPlay n v ps)
 fewer-put n v ps = record { front = take n ps; back = drop n ps; left = sym (take-append-drop n ps); whole = refl }
 
 -- ---- a block with other lines
@@ -110,7 +110,7 @@ module _ (b : List ℕ) where
       omega (arith, long few, long all, fewer-length lines, fewer-length entries, fewer-length comments, fewer-length texts)
 
   pub put-adds : (n : ℕ) (v : Play) (ps : List Play)
-      → length (encode (relined (decode b) ps)) + takes (v ∷ []) ≡ length (encode (relined (decode b) (putIn n v ps)))
+      → length (encode (relined (decode b) ps)) + takes (v ∷ []) ≡ length (encode (relined (decode b) (withPlay n v ps)))
   put-adds n v ps = fewer-long (fewer-put n v ps)
 
   pub cut-short : Sound b → Bytes b → (k m : ℕ) → length (encode (relined (decode b) (without k m (playsIn (decode b .lines))))) ≤ 65535

@@ -1,6 +1,6 @@
 -- The theorems of the block: a record has one block, a block one record, and what is read is sound.   (01, The block)
 -- Assumes nothing: these are definitions.
-use Prim.Native.Nat.{ℕ, _+_, _≤_, _<_}
+use Prim.Native.Nat.{ℕ, _≤_, _<_}
 use mathlib.Core.Path.{_≡_}
 use mathlib.Core.Bool.{true}
 use mathlib.Core.List.{List}
@@ -10,7 +10,7 @@ use Rattle.jkf.specs.Answers.{Outcome}
 use Rattle.jkf.specs.Model.{Record}
 use Rattle.text.specs.Utf8.{wellFormedBytes}
 use Rattle.jkf.specs.Attaching.{all, allHung}
-use Rattle.block.specs.Encode.{blockLength, entriesOf, commentsOf, headerText, commentText, encode}
+use Rattle.block.specs.Encode.{formulaLength, encode}
 use Rattle.block.specs.Decode.{decode}
 use Rattle.block.specs.Sound.{soundb}
 use Rattle.block.specs.Formed.{Formed}
@@ -26,12 +26,6 @@ Bytes b = (k : ℕ) → getD b k 0 < 256
 -- The first n bytes of the lent buffer after a call.
 abbrev pub frontOf : ℕ → Outcome → List ℕ
 frontOf n x = take n (x .buffer)
-
--- 01's formula for the length of a block, of what a record has.
-abbrev pub formulaLength : Record → ℕ
-formulaLength r =
-    blockLength (length (r .headers)) (length (r .lines)) (length (entriesOf (r .lines))) (length (commentsOf (entriesOf (r .lines))))
-    (length (headerText (r .headers)) + length (commentText (commentsOf (entriesOf (r .lines)))))
 
 -- ---- the theorems
 

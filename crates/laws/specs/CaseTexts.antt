@@ -12,12 +12,12 @@ abbrev pub pawn : List ℕ
 pawn = 230 ∷ 173 ∷ 169 ∷ []
 
 -- A move line: n 同歩打.
-unfoldable pub moveLine : ℕ → List ℕ
-moveLine n = decimal n ++ (32 ∷ []) ++ sameWord ++ pawn ++ drops ++ (10 ∷ [])
+unfoldable pub shortMove : ℕ → List ℕ
+shortMove n = decimal n ++ (32 ∷ []) ++ sameWord ++ pawn ++ drops ++ (10 ∷ [])
 
 -- So many move lines, the first of them with number n.
 unfoldable pub moveLines : ℕ → ℕ → List ℕ
-moveLines n moves = concat moveLine (run (λ k. k) n moves)
+moveLines n moves = concat shortMove (run (λ k. k) n moves)
 
 -- A move line with an origin: 1 同歩(n).
 unfoldable pub originLine : ℕ → List ℕ

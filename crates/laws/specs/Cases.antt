@@ -23,7 +23,7 @@ use Rattle.parser.specs.Read.{fillOf}
 use Rattle.edit.specs.Outcomes.{putInOf, cutOf}
 use Rattle.shown.specs.Listing.{listingText, refusalText}
 use Rattle.laws.specs.Blocks.{frontOf}
-use Rattle.laws.specs.CaseTexts.{moveLine, originLine, Variation, from, textOf, ninetyNine, workedText, workedListing}
+use Rattle.laws.specs.CaseTexts.{shortMove, originLine, Variation, from, textOf, ninetyNine, workedText, workedListing}
 
 -- ---- the calls, with a lent buffer o
 
@@ -37,7 +37,7 @@ blockOf r = frontOf (figures (r .answer) .second) r
 
 -- Putting a variation of one move in on a line, with this ply printed.
 abbrev pub putting : List ℕ → List Variation → ℕ → ℕ → Outcome
-putting o vs line ply = putInOf (blockOf (reading o vs)) line (moveLine ply) o
+putting o vs line ply = putInOf (blockOf (reading o vs)) line (shortMove ply) o
 
 -- Cutting a line out.
 abbrev pub cutting : List ℕ → List Variation → ℕ → Outcome

@@ -13,7 +13,7 @@ use Rattle.block.specs.Decode.{decode, linesIn, startOf, entryCount, parentOf}
 use Rattle.block.specs.Sound.{soundb}
 use Rattle.block.specs.Formed.{lineOf}
 use Rattle.plays.specs.Plays.{entriesAt, plyAt}
-use Rattle.edit.specs.Edit.{playsIn, variationOf, isPlyOf, carries, placeOf, putIn, reparented, renumbered, lowered, Kept}
+use Rattle.edit.specs.Edit.{playsIn, variationOf, isPlyOf, carries, placeOf, withPlay, reparented, renumbered, lowered, IsKept}
 use Rattle.edit.specs.Outcomes.{editStored, putInOf, cutOf}
 use Rattle.laws.specs.Blocks.{Bytes, frontOf}
 
@@ -63,7 +63,7 @@ abbrev pub ParentsStay : Type 0
 ParentsStay =
     (b t : List ℕ) (k : ℕ) → soundb b ≡ true → k < linesIn b → isPlyOf (startOf b k) (entryCount b k) (plyAt t 0) ≡ true
     → carries k (plyAt t 0) (drop 1 (decode b .lines)) ≡ false → (l : ℕ) → l < linesIn b
-    → parentIn (putIn (newNumber b t k) (variationOf t) (playsIn (decode b .lines))) (renumbered (newNumber b t k) l)
+    → parentIn (withPlay (newNumber b t k) (variationOf t) (playsIn (decode b .lines))) (renumbered (newNumber b t k) l)
     ≡ renumbered (newNumber b t k) (parentOf b l)
 
 -- ---- cut
@@ -76,10 +76,10 @@ pub record CutTheorems (b o : List ℕ) (k n m : ℕ) : Type 0 where
       × (decode (cutBlock b o k n) .headers ≡ decode b .headers)
       × (decode (cutBlock b o k n) .position ≡ decode b .position)
   -- Each line that is kept is there with its start and its entries, on its parent, which is kept too, by their new numbers.
-  pub cut-keeps : (l : ℕ) → l < linesIn b → Kept k m l
+  pub cut-keeps : (l : ℕ) → l < linesIn b → IsKept k m l
       → (lineOf (decode (cutBlock b o k n) .lines) (lowered k m l)
       ≡ reparented (lowered k m) (lineOf (decode b .lines) l))
-      × Kept k m (lineOf (decode b .lines) l .parent)
+      × IsKept k m (lineOf (decode b .lines) l .parent)
   -- The m lines from line k on are line k and all that hangs from it, and nothing else.
   pub cut-takes : (l : ℕ) → (HangsFrom b k l → (k ≤ l) × (l < k + m)) × ((k ≤ l) × (l < k + m) → HangsFrom b k l)
 

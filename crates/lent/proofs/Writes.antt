@@ -10,7 +10,7 @@ use native.Mathlib.Omega.{arith}
 use mathlib.Core.Path.{_≡_, refl, sym, ap, _∙_}
 use mathlib.Core.List.{List, [], _∷_, _++_, append-assoc, append-nil}
 use lib.ListN.{length, getD, take, drop, set, replicate, length-append, length-drop, drop-of-length-le, replicate-append-replicate}
-use lib.Seq.{take-all, take-length, take-at, drop-at, drop-drop, set-at}
+use lib.Seq.{take-all, take-nil, take-length, take-at, drop-at, drop-drop, set-at}
 use mir.Syntax.{w8, w64}
 use mir.Val.{Fits}
 use borrow.Rule.Slice.PartMut.{midOf, putMid}
@@ -90,6 +90,11 @@ wrote-whole {t} {o} {o′} {n} w e = w .bytes ∙ ap (λ (l : List ℕ). t ++ l)
 -- a part that begins at n and runs to the end, and the whole when it is back
 pub rest : (o : List ℕ) (n : ℕ) → midOf n (length o - n) o ≡ drop n o
 rest o n = take-all (length o - n) (drop n o) (simp length-drop (omega arith))
+
+-- past the end there is none
+pub rest-none : (b : List ℕ) (at : ℕ) → length b ≤ at → take (length b - length b) (drop (length b) b) ≡ drop at b
+rest-none b at h =
+    ap (take (length b - length b)) (drop-of-length-le b {i = length b} (omega arith)) ∙ take-nil (length b - length b) ∙ sym (drop-of-length-le b h)
 
 pub rest-length : (o : List ℕ) (n : ℕ) → length (midOf n (length o - n) o) ≡ length o - n
 rest-length o n = rw (rest o n) (length-drop n o)

@@ -2,7 +2,7 @@
 // A leaf answers how many bytes it filled. Where its text does not fit it fills none, answers 0 and changes nothing.
 ghost use mathlib.Core.Path.{_≡_};
 ghost use Prim.Native.Nat.{_+_, _≤_, _<_};
-ghost use lib.ListN.{length, drop, getD, replicate};
+ghost use lib.ListN.{length, take, drop, getD, replicate};
 ghost use Rattle.lent.specs.Bytes.{le16, bytes16, Wrote, fitting};
 ghost use Rattle.lent.specs.Numbers.{decimal, padded};
 ghost use Rattle.lent.specs.Stored.{Stored};
@@ -29,6 +29,26 @@ pub fn get16(s: &[u8], at: usize) -> usize
         return 0;
     }
     wide(s[at]) + 256 * wide(peek(s, at + 1))
+}
+
+// The first n bytes of a slice, or all where there are fewer.
+pub fn front(s: &[u8], n: usize) -> &[u8]
+    ensures { λ r. ⌜ now r ≡ take n (now (s .entry)) ⌝ }
+{
+    if s.len() <= n {
+        return s;
+    }
+    &s[..n]
+}
+
+// What stands from a place on; nothing past the end.
+pub fn rest(s: &[u8], at: usize) -> &[u8]
+    ensures { λ r. ⌜ now r ≡ drop at (now (s .entry)) ⌝ }
+{
+    if s.len() <= at {
+        return &s[s.len()..];
+    }
+    &s[at..]
 }
 
 // A text: a constant, a record's bytes, a part of another slice.   (the Rust's write_str)

@@ -6,14 +6,14 @@ use libc::STDOUT_FILENO;
 fn print_refusal(number: u64, first: u64, second: u64) {
     let mut out = [0u8; 128];
     let n = shown::put_refusal(&mut out, number, first, second);
-    io::write_all(STDOUT_FILENO, shown::front(&out, n));
+    io::write_all(STDOUT_FILENO, lent::front(&out, n));
 }
 
 // Prints the listing of a block. There is room for as many lines as a block can have, 2,335.
 fn print_listing(taken: u64, b: &[u8]) {
     let mut out = [0u8; 112133];
     let n = shown::put_listing(&mut out, taken, b);
-    io::write_all(STDOUT_FILENO, shown::front(&out, n));
+    io::write_all(STDOUT_FILENO, lent::front(&out, n));
 }
 
 // Reads a text into a block as long as a block can be, so that no buffer is short.
@@ -24,7 +24,7 @@ fn list(text: &[u8]) {
         print_refusal(f.number, f.first, f.second);
         return;
     }
-    print_listing(f.first, shown::front(&block, f.second as usize));
+    print_listing(f.first, lent::front(&block, f.second as usize));
 }
 
 // One byte more than a text may have, so that a longer input is refused and not cut.

@@ -17,7 +17,7 @@ use Rattle.lists.proofs.Laws.{drop-step, pick-both}
 use Rattle.text.specs.Text.{cursor, onPlace, onNumber, prefixFrom, standsAt, tagAt, same, blanksAt, lineEndAt, digitsAt}
 use Rattle.text.specs.declared.Place.the-variants.{Past}
 use Rattle.text.proofs.Laws.{digit-bounds}
-use Rattle.spell.specs.Spell.{firstOf, numberOf}
+use Rattle.spell.specs.Spell.{firstOf, numberSpelled}
 use Rattle.spell.specs.inner.Codes.{threeAt}
 use Rattle.spell.specs.Tables.{kinds, numerals}
 use Rattle.spell.specs.declared.Spelled.the-variants.{As}
@@ -78,8 +78,8 @@ module _ (s : List ℕ) where
   -- ---- the kind, the mark and the origin
 
   -- what is a kind is not 成
-  alone : (at : ℕ) → at + 3 ≤ length s → (numberOf kinds (threeAt s at) ≡ 0 → ⊥) → standsAt promotes s at ≡ false
-  unfolding numberOf same
+  alone : (at : ℕ) → at + 3 ≤ length s → (numberSpelled kinds (threeAt s at) ≡ 0 → ⊥) → standsAt promotes s at ≡ false
+  unfolding numberSpelled same
   alone at h n = go (standsAt promotes s at) refl
     where
       go : (u : Bool) → standsAt promotes s at ≡ u → u ≡ false
@@ -109,7 +109,7 @@ module _ (s : List ℕ) where
 -- n is what the code makes of three bytes, and not 0
 module _ (s : List ℕ) (bytes : (i : ℕ) → getD s i 0 < 256) (at n : ℕ) (z : n ≡ 0 → ⊥) where
   pub square-aimed : at + 6 ≤ length s → getD s at 0 ≡ 239 → getD s (at + 1) 0 ≡ 188 → 145 ≤ getD s (at + 2) 0 → getD s (at + 2) 0 ≤ 153
-      → n ≡ numberOf numerals (threeAt s (at + 3)) → UsualTarget s at
+      → n ≡ numberSpelled numerals (threeAt s (at + 3)) → UsualTarget s at
   unfolding moveToAt squareAt aimOf
   square-aimed h a b l u e =
       let m : getD s at 0 ≡ 229 → ⊥ = λ k. omega arith in
@@ -120,10 +120,10 @@ module _ (s : List ℕ) (bytes : (i : ℕ) → getD s i 0 < 256) (at n : ℕ) (z
       }
 
   -- a kind of one character
-  kind-three : n ≡ numberOf kinds (threeAt s (at + 6)) → firstOf kinds s (at + 6) ≡ As (numberOf kinds (threeAt s (at + 6))) (cursor (at + 9))
+  kind-three : n ≡ numberSpelled kinds (threeAt s (at + 6)) → firstOf kinds s (at + 6) ≡ As (numberSpelled kinds (threeAt s (at + 6))) (cursor (at + 9))
   kind-three e = let p : at + 6 + 3 ≡ at + 9 = omega arith in rw p at (kind-known s (at + 6) bytes (λ k. z (e ∙ k)))
 
-  pub short-named : at + 13 ≤ length s → Bracketed s (at + 9) → n ≡ numberOf kinds (threeAt s (at + 6)) → UsualKind s at 13
+  pub short-named : at + 13 ≤ length s → Bracketed s (at + 9) → n ≡ numberSpelled kinds (threeAt s (at + 6)) → UsualKind s at 13
   unfolding kindOf markOf
   short-named h b e =
       record {
@@ -135,7 +135,7 @@ module _ (s : List ℕ) (bytes : (i : ℕ) → getD s i 0 < 256) (at n : ℕ) (z
 
   -- with 成 after it
   pub marked-named : at + 16 ≤ length s → Bracketed s (at + 12) → standsAt promotes s (at + 6) ≡ false → standsAt promotes s (at + 9) ≡ true
-      → n ≡ numberOf kinds (threeAt s (at + 6)) → UsualKind s at 16
+      → n ≡ numberSpelled kinds (threeAt s (at + 6)) → UsualKind s at 16
   unfolding kindOf markOf promoteAt tagAt
   marked-named h b p q e =
       let r : at + 9 + 3 ≡ at + 12 = omega arith in
@@ -147,7 +147,7 @@ module _ (s : List ℕ) (bytes : (i : ℕ) → getD s i 0 < 256) (at n : ℕ) (z
       }
 
   -- with 成 before it
-  pub long-named : at + 16 ≤ length s → Bracketed s (at + 12) → standsAt promotes s (at + 6) ≡ true → n ≡ numberOf kinds (promotes ++ threeAt s (at + 9)) → UsualKind s at 16
+  pub long-named : at + 16 ≤ length s → Bracketed s (at + 12) → standsAt promotes s (at + 6) ≡ true → n ≡ numberSpelled kinds (promotes ++ threeAt s (at + 9)) → UsualKind s at 16
   unfolding kindOf markOf
   long-named h b p e =
       let (x, y, w) = stands-back s 230 136 144 (at + 6) (omega arith) p in

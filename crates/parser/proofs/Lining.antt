@@ -9,7 +9,7 @@ use lib.ListN.{length, take, drop, getD, length-drop}
 use lib.Seq.{getD-drop, drop-drop, take-all}
 use Rattle.lists.specs.Repeat.{Ended}
 use Rattle.lent.specs.inner.Regions.{first as next, puts, Filled}
-use Rattle.lent.proofs.Regions.{filled-length, put-none, room-at}
+use Rattle.lent.proofs.Regions.{filled-length, put-none}
 use Rattle.text.specs.declared.Cursor.{Cursor}
 use Rattle.jkf.specs.Attaching.{hangs, onHang, all, first, hungFrom, Play, play, playOf, starts, counts, parentIn, attach, allHung}
 use Rattle.jkf.specs.declared.Hang.{Hang}
@@ -18,12 +18,11 @@ use Rattle.jkf.proofs.Hangings.{hung-more, hung-lost}
 use Rattle.jkf.specs.Model.{Noted, Line}
 use Rattle.block.specs.Encode.{table, concat}
 use Rattle.block.proofs.Attached.{attach-length, parent-first}
-use Rattle.filling.specs.Filling.{putEntries, putLineRow, hangingOf}
+use Rattle.filling.specs.Filling.{putEntries, putLine, hangingOf}
 use Rattle.filling.specs.inner.Parts.{entryTexts, lineTexts, entryEnds, lineEnds, EntriesFit, Entered, LinesFit, LineFits, Lined}
 use Rattle.filling.specs.declared.Walk.{Walk}
 use Rattle.filling.proofs.Growing.{line}
-use Rattle.filling.proofs.Hooking.{later-hangs}
-use Rattle.filling.proofs.Lines.{lineAt, take-more, lined-none, room-upto, room-for, room-for-none, entries-fit, hang-read, row-number, row-lined, all-lined}
+use Rattle.filling.proofs.Lines.{lineAt, take-more, lined-none, room-for, room-for-none, entries-fit, next-hangs, row-lined, all-lined}
 use Rattle.plays.specs.Plays.{noted, entriesAt, plyAt, skippedAt, skipsAt, variationsAt, slotAt, pastMain, mainAt, playsAt}
 use Rattle.plays.specs.declared.Reached.{Reached}
 use Rattle.parser.specs.inner.Lines.{mainLine}
@@ -175,9 +174,6 @@ module _ (s : List ℕ) (at : ℕ) (w : Walk) (o₀ : List ℕ) (f : LinesFit (a
       past : x .next .at ≡ entriesAt s place .at
       past = q ∙ ap (λ (n : ℕ). entriesAt s n .at) p
 
-      pub next-grows : v .entries ≤ x .walk .entries
-      next-grows = omega (arith, entered .entries)
-
       pub next-long : length o₁ ≡ length o₀
       next-long = filled-length (entered .filled) ∙ filled-length (i .done .filled)
 
@@ -195,8 +191,7 @@ module _ (s : List ℕ) (at : ℕ) (w : Walk) (o₀ : List ℕ) (f : LinesFit (a
         hang-is h start e y =
             let z : start ≡ plyAt s place = e ∙ ap (plyAt s) p in
             ap (λ (n : ℕ). hangs (starts ps) (counts ps) n k) (start-here some-here ∙ sym z)
-            ∙ sym (hang-read ps w o₀ f k (i .few) (i .done) origin (i .hung) es entered entries-room start (i .some))
-            ∙ later-hangs (w .lines) start (x .walk) o₁ (row-number ps w o₀ f k (i .few) (i .done) origin (i .hung) es entered entries-room) (λ q. omega (arith, i .some))
+            ∙ sym (next-hangs ps w o₀ f k (i .few) (i .done) origin (i .hung) es entered entries-room start (i .some))
             ∙ y
 
         -- the walk goes on
@@ -206,11 +201,9 @@ module _ (s : List ℕ) (at : ℕ) (w : Walk) (o₀ : List ℕ) (f : LinesFit (a
             let e : q₂ .at ≡ skippedAt s (entriesAt s place .at) = n ∙ ap (skippedAt s) past in
             (omega (arith, b .0, e), omega (arith, b .1, e))
 
-        -- the table begins in the buffer, and there are more lines
-        pub next-row : (w .lines ≤ length o₁) × (k < length ps)
-        next-row =
-            let r = room-at (length o₀) (lineEnds w) (textsOf (take k ls)) 0 (room-upto ps w o₀ f k) (omega arith) in
-            (omega (arith, r, next-long), more-left some-here)
+        -- there are more lines
+        pub next-row : k < length ps
+        next-row = more-left some-here
 
         module _ (h : Hang) (start : ℕ) (z : start ≡ plyAt s (c .at)) (y : hangingOf (w .lines) start (x .walk) o₁ ≡ h) where
           start-is : starts ps k ≡ start
@@ -227,8 +220,8 @@ module _ (s : List ℕ) (at : ℕ) (w : Walk) (o₀ : List ℕ) (f : LinesFit (a
               ∙ ap (λ (j : ℕ). first j (starts ps j)) b ∙ ap (first k) start-is
 
           -- it hangs, and its row is filled in
-          module _ (parent e : ℕ) (on : h ≡ On parent e) {u : Walk} {o₂ : List ℕ} (row : u ≡ putLineRow start (v .entries) (x .walk .entries - v .entries) parent (x .walk) o₁ .walk)
-              (rest-of : o₂ ≡ putLineRow start (v .entries) (x .walk .entries - v .entries) parent (x .walk) o₁ .buffer) where
+          module _ (parent e : ℕ) (on : h ≡ On parent e) {u : Walk} {o₂ : List ℕ} (row : u ≡ putLine start (v .entries) (x .walk .entries - v .entries) parent (x .walk) o₁ .walk)
+              (rest-of : o₂ ≡ putLine start (v .entries) (x .walk .entries - v .entries) parent (x .walk) o₁ .buffer) where
             hang : hangs (starts ps) (counts ps) (starts ps k) k ≡ On parent e
             hang = hang-is h start z y ∙ on
 

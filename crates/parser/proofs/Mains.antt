@@ -4,21 +4,22 @@ use Prim.Native.Nat.{ℕ, _+_, _-_, _≤_}
 use native.Mathlib.Omega.{arith}
 use mathlib.Core.Path.{_≡_, refl, sym, ap, _∙_, subst}
 use mathlib.Core.List.{List, [], _∷_, _++_}
-use mathlib.Core.Bool.{Bool, true, false}
 use lib.Dec.{eqb}
-use borrow.Author.Tests.{eqb-true, eqb-false}
 use Rattle.lists.specs.Pick.{pick}
 use Rattle.text.specs.declared.Cursor.{Cursor}
 use Rattle.jkf.specs.declared.Entry.the-variants.{Slot}
 use Rattle.jkf.specs.Model.{Noted}
-use Rattle.filling.specs.Filling.{putNoted, putEntries, putLineRow}
-use Rattle.filling.specs.inner.Parts.{EntriesFit, Entered, LineFits, Lined}
+use Rattle.filling.specs.Filling.{Grown, putNoted, putEntries, putLine, hookedOf, hookedIn}
+use Rattle.filling.specs.inner.Parts.{EntriesFit, Entered, LineFits, Lined, onHooked}
 use Rattle.filling.specs.declared.Walk.{Walk}
+use Rattle.filling.specs.declared.Hooked.{Hooked}
+use Rattle.filling.specs.declared.Hooked.the-variants.{Put, Loose}
+use Rattle.filling.proofs.Hooking.{first-hangs, row-put}
 use Rattle.filling.proofs.Growing.{noted-put, entries-front, entries-rest, entries-then, entries-put, line-fit, line-put}
 use Rattle.plays.specs.Plays.{noted, commentsAt, entriesAt, skippedAt, slotAt, pastMain, mainAt}
 use Rattle.plays.specs.declared.Reached.{Reached}
 use Rattle.parser.specs.inner.Lines.{mainLine}
-use Rattle.parser.proofs.Variations.{main-is, main-none}
+use Rattle.parser.proofs.Variations.{main-past}
 
 -- entries that are put, told by an equal walk and an equal buffer
 pub entered-by : {es : List Noted} {w v : Walk} {o o₁ : List ℕ} → EntriesFit es w o → v ≡ putEntries es w o .walk → o₁ ≡ putEntries es w o .buffer → Entered es w v o o₁
@@ -62,20 +63,28 @@ module _ (s : List ℕ) (at : ℕ) (w : Walk) (o : List ℕ) (f : LineFits (main
       pub main-grows : w .entries ≤ x .walk .entries
       main-grows = omega (arith, both .entries)
 
-      pub main-past : (d : Cursor) → d .at ≡ pick (eqb (x .walk .entries) (u .walk .entries)) (u .next .at) (skippedAt s (x .next .at)) → d .at ≡ pastMain s place
-      main-past d q = q ∙ go (eqb (x .walk .entries) (u .walk .entries)) refl
-        where
-          go : (t : Bool) → eqb (x .walk .entries) (u .walk .entries) ≡ t → pick t (u .next .at) (skippedAt s (x .next .at)) ≡ pastMain s place
-          go true z = past-slot ∙ sym (main-none s place (omega (arith, entered .entries, eqb-true (x .walk .entries) (u .walk .entries) z)))
-          go false z =
-              let no = eqb-false (x .walk .entries) (u .walk .entries) z in
-              ap (skippedAt s) (i ∙ ap (λ (k : ℕ). entriesAt s k .at) past-slot) ∙ sym (main-is s place (λ q. no (omega (arith, entered .entries, q))))
+      pub slot-grows : u .walk .entries ≤ x .walk .entries
+      slot-grows = omega (arith, entered .entries)
 
-      pub main-lined : {r : Walk} {o₃ : List ℕ} → r ≡ putLineRow 0 (w .entries) (x .walk .entries - w .entries) 0 (x .walk) o₂ .walk
-          → o₃ ≡ putLineRow 0 (w .entries) (x .walk .entries - w .entries) 0 (x .walk) o₂ .buffer → Lined (mainLine s at ∷ []) w r o o₃
+      pub past-main : (d : Cursor) → d .at ≡ pick (eqb (x .walk .entries - u .walk .entries) 0) (u .next .at) (skippedAt s (x .next .at)) → d .at ≡ pastMain s place
+      past-main d q =
+          q ∙ ap (λ (k : ℕ). pick (eqb (x .walk .entries - u .walk .entries) 0) k (skippedAt s (x .next .at))) past-slot
+          ∙ main-past s place {n = x .walk .entries - u .walk .entries} (omega (arith, entered .entries)) (i ∙ ap (λ (k : ℕ). entriesAt s k .at) past-slot)
+
+      -- the row hangs on nothing
+      abbrev row : Grown
+      row = putLine 0 (w .entries) (x .walk .entries - w .entries) 0 (x .walk) o₂
+
+      hooked : (Put (row .walk) ≡ hookedOf (w .lines) 0 w (x .walk) o₂) × (row .buffer ≡ hookedIn (w .lines) 0 w (x .walk) o₂)
+      hooked = row-put (w .lines) 0 w (x .walk) o₂ (first-hangs (w .lines) 0 (x .walk) o₂ (omega (arith, both .lines)) refl) refl refl refl
+
+      pub main-lined : {r : Walk} {o₃ : List ℕ} → Put r ≡ hookedOf (w .lines) 0 w (x .walk) o₂ → o₃ ≡ hookedIn (w .lines) 0 w (x .walk) o₂
+          → Lined (mainLine s at ∷ []) w r o o₃
       unfolding mainAt
       main-lined {r} {o₃} y z =
-          let count = x .walk .entries - w .entries in
-          subst (λ (v : Walk). Lined (mainLine s at ∷ []) w v o o₃) (sym y)
-          (subst (λ (l : List ℕ). Lined (mainLine s at ∷ []) w (putLineRow 0 (w .entries) count 0 (x .walk) o₂ .walk) o l) (sym z)
-          (line-put 0 0 (mainAt s at .entries) f both refl))
+          let e : r ≡ row .walk = ap (λ (h : Hooked). onHooked h (λ v. v) r) (y ∙ sym (hooked .0)) in
+          subst (λ (v : Walk). Lined (mainLine s at ∷ []) w v o o₃) (sym e)
+          (subst (λ (l : List ℕ). Lined (mainLine s at ∷ []) w (row .walk) o l) (hooked .1 ∙ sym z) (line-put 0 0 (mainAt s at .entries) f both refl))
+
+      pub main-hangs : {A : Type 0} → Loose ≡ hookedOf (w .lines) 0 w (x .walk) o₂ → A
+      main-hangs y = let n : _≡_ {A = ℕ} 0 1 = ap (λ (h : Hooked). onHooked h (λ v. 1) 0) (y ∙ sym (hooked .0)) in absurd (omega arith)

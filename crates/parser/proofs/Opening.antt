@@ -28,7 +28,7 @@ use Rattle.moves.proofs.Smalls.{Bytes, each as also, bytes-from, bytes-join, by
 use Rattle.kakinoki.specs.Informations.{onHeld, onKeyValue, paddedEndAt, endsLine, presetLineAt, turnLineAt, emptyHand, handAt, heldAt, handLineAt, keyValueAt, headerAt, Said, ofPreset, ofTurn, ofHands, ofPair, information, keyedAt, handsOrKeyedAt, informationAt, isLine, saidOf, hashLinesAt, informationItem, informationsAt, untold, tell, tellAll}
 use Rattle.spell.specs.Words.{presetTag, turnTag, handsTag}
 use Rattle.kakinoki.specs.Boards.{noCells}
-use Rattle.kakinoki.specs.Starts.{named, either, addHands, merged, positionOf, firstBlock, diagram, secondBlock, secondPlace, startRead}
+use Rattle.kakinoki.specs.Starts.{named, either, addHands, merged, positionSaid, firstBlock, diagram, secondBlock, secondPlace, startRead}
 use Rattle.kakinoki.specs.declared.HandSaid.{HandSaid}
 use Rattle.kakinoki.specs.declared.Held.{Held}
 use Rattle.kakinoki.specs.declared.Held.the-variants.{By, Unreadable, NoHand}
@@ -253,8 +253,8 @@ module _ (b : Board) (t : Told) (c : Filled Cell 81 (b .cells)) (f : Fine t) whe
         bytes = made-bytes _ (omega arith) (omega arith) (omega arith) (zeros 81) (zeros 14);
       }
 
-  position-opens : Opens (positionOf b t)
-  unfolding positionOf
+  position-opens : Opens (positionSaid b t)
+  unfolding positionSaid
   position-opens = by-pick Opens (b .there) _ _ (λ _. there-opens) (λ _. none-opens)
 
 module _ (s : List ℕ) where

@@ -4,6 +4,8 @@ use Prim.Native.Nat.{ℕ, _+_, _≤_, _<_}
 use native.Mathlib.Omega.{arith}
 use mathlib.Core.Path.{_≡_, refl, sym, ap, _∙_}
 use mathlib.Core.List.{List, [], _∷_, _++_, append-nil}
+use lib.Dec.{eqb}
+use Rattle.lists.specs.Pick.{pick}
 use lib.ListN.{length, length-append}
 use Rattle.lists.specs.Repeat.{Ended}
 use Rattle.text.specs.Text.{cursor}
@@ -22,7 +24,7 @@ use Rattle.plays.specs.declared.Extent.{Extent}
 use Rattle.parser.specs.declared.Extents.{Extents}
 use Rattle.plays.proofs.Items.{comments-within, skips-from, skips-within, skipped-from, skipped-within}
 use Rattle.plays.proofs.Weights.{comments-short}
-use Rattle.parser.proofs.Variations.{variations-more, variations-none, variations-short, variations-few, variations-within, main-short, line-there, line-within}
+use Rattle.parser.proofs.Variations.{variations-more, variations-none, variations-short, variations-few, variations-within, main-past, main-short, line-there, line-within}
 
 -- comments of entries, and their bytes, one run after another
 -- ---- the main line
@@ -76,6 +78,10 @@ module _ (s : List ℕ) (at : ℕ) where
       let d = ap (λ (r : Remarks). r .count) p in
       let f = ap (λ (r : Remarks). r .bytes) p in
       (omega (arith, a, t, i, n), omega (arith, b, d, t, i, n), omega (arith, c, f, t, i, n))
+
+  pub counted-past : (at : ℕ) (x : Extent) → x ≡ extentAt s at → pick (eqb (x .entries) 0) at (skippedAt s (x .next .at)) ≡ pastMain s at
+  unfolding extentOf
+  counted-past at x q = main-past s at (ap (λ (y : Extent). y .entries) q) (ap (λ (y : Extent). y .next .at) q)
 
   pub main-made : (x : Extent) (k : Remarks) (c : Cursor) → k ≡ remarksAt s (skippedAt s at) → x ≡ extentAt s (k .next .at) → c .at ≡ pastMain s (k .next .at)
       → record { lines = 1; entries = 1 + x .entries; comments = k .count + x .comments; bytes = k .bytes + x .bytes; next = c } ≡ mainExtents s at

@@ -8,6 +8,8 @@ use mathlib.Core.Bool.{Bool, true, false}
 use lib.ListN.{length, length-append}
 use lib.Dec.{eqb}
 use borrow.Author.Tests.{eqb-false, eqb-true, eq-eqb, ne-eqb}
+use Rattle.lists.specs.Pick.{pick}
+use Rattle.lists.proofs.Laws.{by-pick}
 use Rattle.lists.specs.Repeat.{Step, more, stop, ended, onStep, manyFrom}
 use Rattle.lists.proofs.Repeats.{ItemGoes, many-more, many-stop, many-within}
 use Rattle.jkf.specs.Model.{Noted}
@@ -153,6 +155,12 @@ module _ (s : List ℕ) where
 
   pub main-none : (at : ℕ) → length (entriesAt s at .state) ≡ 0 → pastMain s at ≡ at
   main-none at h = ap (λ (x : Step Play). onStep x (λ next p. next) at) (play-none at h)
+
+  -- past it, by how many entries it has and where these end
+  pub main-past : (at : ℕ) {n e : ℕ} → n ≡ length (entriesAt s at .state) → e ≡ entriesAt s at .at → pick (eqb n 0) at (skippedAt s e) ≡ pastMain s at
+  main-past at {n} {e} p q =
+      by-pick (λ (k : ℕ). k ≡ pastMain s at) (eqb n 0) at (skippedAt s e) (λ z. sym (main-none at (sym p ∙ eqb-true n 0 z)))
+      (λ z. ap (skippedAt s) q ∙ sym (main-is at (λ y. eqb-false n 0 z (p ∙ y))))
 
   pub main-short : (at : ℕ) → (at + tally (entriesAt s at .state) ≤ pastMain s at) × (at ≤ length s → pastMain s at ≤ length s)
   main-short at = go (eqb (length (entriesAt s at .state)) 0) refl

@@ -1,12 +1,11 @@
 -- What a text says: its header, its position, its lines of play, and how much of it is taken.         (01, Reading rules)
 -- Assumes nothing: these are definitions.
-use Prim.Native.Nat.{ℕ, _+_}
+use Prim.Native.Nat.{ℕ}
 use mathlib.Core.List.{List, []}
-use lib.ListN.{length}
 use Rattle.jkf.specs.declared.Position.{Position}
-use Rattle.jkf.specs.Model.{Header, Line, Record}
+use Rattle.jkf.specs.Model.{Header, Record}
 use Rattle.jkf.specs.Attaching.{Play, attach}
-use Rattle.block.specs.Encode.{headerText, entriesOf, commentsOf, commentText, blockLength}
+use Rattle.block.specs.Encode.{formulaLength}
 use Rattle.sorted.specs.Sorted.{byBytes, enterAll}
 use Rattle.sorted.specs.declared.Order.{Order}
 use Rattle.kakinoki.specs.Starts.{startRead, headersSaid}
@@ -39,9 +38,5 @@ abbrev pub recordOf : Parsed → Record
 recordOf p = record { version = 1; headers = p .headers; position = p .position; lines = attach (p .plays) }
 
 -- The length of its block, which is known before anything hangs.                                      (01, The block: length)
-abbrev pub neededBy : List Header → List Line → ℕ
-neededBy hs ls =
-    blockLength (length hs) (length ls) (length (entriesOf ls)) (length (commentsOf (entriesOf ls))) (length (headerText hs) + length (commentText (commentsOf (entriesOf ls))))
-
 unfoldable pub needed : Parsed → ℕ
-needed p = neededBy (p .headers) (attach (p .plays))
+needed p = formulaLength (recordOf p)

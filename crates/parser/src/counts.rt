@@ -1,23 +1,23 @@
 // All lines of play of a text, counted: the main line and the variations.
 use crate::Extents;
-use plays::Extent;
 use text::Cursor;
 ghost use mathlib.Core.Path.{_≡_};
 ghost use Prim.Native.Nat.{_≤_};
 ghost use lib.ListN.{length};
-ghost use Rattle.plays.specs.Plays.{pastMain};
-ghost use Rattle.plays.specs.Counted.{extentAt};
+ghost use lib.Dec.{eqb};
+ghost use Rattle.lists.specs.Pick.{pick};
+ghost use Rattle.plays.specs.Plays.{skippedAt};
 ghost use Rattle.parser.specs.inner.Lines.{mainExtents, extentsAt};
 
-// Past the skip line that may end a line of play; the same place where there is no such line.
-fn past_line(c: Cursor, line: Extent, s: &[u8]) -> Cursor
-    requires { ⌜ line ≡ extentAt (now s) (c .at) ⌝ }
-    ensures { λ r. ⌜ r .at ≡ pastMain (now (s .entry)) (c .at) ⌝ }
+// Past a line of play of so many entries, which ends at a place, and past the skip line that may stand behind it; the place before it where it
+// has no entry.
+pub(crate) fn past(before: Cursor, entries: usize, end: Cursor, s: &[u8]) -> Cursor
+    ensures { λ r. ⌜ r .at ≡ pick (eqb entries 0) (before .at) (skippedAt (now (s .entry)) (end .at)) ⌝ }
 {
-    if line.entries == 0 {
-        return c;
+    if entries == 0 {
+        return before;
     }
-    plays::skipped(line.next, s)
+    plays::skipped(end, s)
 }
 
 // The main line, counted with its slot.
@@ -32,7 +32,7 @@ fn count_main(c: Cursor, s: &[u8]) -> Extents
         entries: 1 + line.entries,
         comments: slot.count + line.comments,
         bytes: slot.bytes + line.bytes,
-        next: past_line(slot.next, line, s),
+        next: past(slot.next, line.entries, line.next, s),
     }
 }
 

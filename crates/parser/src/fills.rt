@@ -1,45 +1,33 @@
 // All lines of play of a text, filled in, each variation hung where the attaching rule says.   (the Rust's merge_forks)
 use crate::Hanging;
+use crate::counts::past;
 use filling::Hooked;
 use filling::Walk;
 use plays::Reached;
 use text::Cursor;
 ghost use mathlib.Core.Path.{_≡_};
 ghost use mathlib.Core.List.{[], _∷_};
-ghost use lib.Dec.{eqb};
-ghost use Rattle.lists.specs.Pick.{pick};
 ghost use Rattle.lent.specs.inner.Regions.{puts};
 ghost use Rattle.jkf.specs.Attaching.{all, attach, allHung};
 ghost use Rattle.filling.specs.inner.Parts.{lineTexts, lineEnds, LinesFit, LineFits, Lined};
-ghost use Rattle.plays.specs.Plays.{skippedAt, slotAt, pastMain, playsAt};
+ghost use Rattle.plays.specs.Plays.{slotAt, pastMain, playsAt};
 ghost use Rattle.parser.specs.inner.Lines.{mainLine, hanging};
 
-// Past the skip line that may end a line of play; the same place where no entry was filled in.
-fn past_entries(before: Reached, after: Reached, s: &[u8]) -> Cursor
-    ensures { λ r. ⌜ r .at ≡ pick (eqb (after .walk .entries) (before .walk .entries)) (before .next .at) (skippedAt (now (s .entry)) (after .next .at)) ⌝ }
-{
-    let w = before.walk;
-    let v = after.walk;
-    if v.entries == w.entries {
-        return before.next;
-    }
-    plays::skipped(after.next, s)
-}
-
-// The main line: the slot with its comments, the moves, and the row.   (the Rust's main_moves)
+// The main line: the slot with its comments, the moves, and the row, which hangs on nothing.   (the Rust's main_moves)
 fn fill_main(s: &[u8], c: Cursor, w: Walk, out: &mut [u8]) -> Reached
     requires { ⌜ LineFits (mainLine (now s) (c .at)) w (now out) ⌝ }
     ensures { λ r. ⌜ Lined (mainLine (now (s .entry)) (c .at) ∷ []) w (r .walk) (now (out .entry)) (now (out .exit)) ⌝ }
     ensures { λ r. ⌜ r .next .at ≡ pastMain (now (s .entry)) (slotAt (now (s .entry)) (c .at) .at) ⌝ }
 {
     let slot = plays::fill_slot(s, plays::skipped(c, s), w, out);
-    let line = plays::fill_moves(s, slot.next, slot.walk, out);
+    let u = slot.walk;
+    let line = plays::fill_moves(s, slot.next, u, out);
     let v = line.walk;
-    let walk = filling::put_line(out, v, 0, w.entries, v.entries - w.entries, 0);
-    Reached {
-        walk,
-        next: past_entries(slot, line, s),
-    }
+    let next = past(slot.next, v.entries - u.entries, line.next, s);
+    let Hooked::Put(walk) = filling::hang_line(out, w.lines, 0, w, v) else {
+        return Reached { walk: v, next };
+    };
+    Reached { walk, next }
 }
 
 // All lines; stops at the first variation that has no entry to hang on.

@@ -108,7 +108,7 @@ impl<'a> Reader<'a> {
 }
 
 // What a reader answers at a place, for callers that hold none: above this no proof is by hand.
-pub fn line_in(text: &[u8], at: usize) -> TextLine
+pub fn line_standing(text: &[u8], at: usize) -> TextLine
     ensures { λ r. ⌜ r ≡ textLineAt (now (text .entry)) at ⌝ }
 {
     Reader::over(text, at).next()
@@ -137,7 +137,7 @@ fn with_line(s: &[u8], p: PassedLines) -> Advance
     ensures { λ r. ⌜ r ≡ withLine (now (s .entry)) p ⌝ }
 {
     let first = p.first;
-    match line_in(s, p.end) {
+    match line_standing(s, p.end) {
         TextLine::Played(_, _, next) => {
             let moves = p.moves + 1;
             Advance::Further(PassedLines {

@@ -2,7 +2,6 @@
 use crate::request::number;
 use crate::request::put_number;
 use crate::request::put_three;
-use crate::request::rest;
 use jkf::Answer;
 ghost use Prim.Native.Nat.{_≤_};
 ghost use lib.ListN.{length};
@@ -20,7 +19,7 @@ pub(crate) fn look_up(request: &[u8], out: &mut [u8]) -> usize
 {
     let which = number(request, 0);
     let k = number(request, 8);
-    let b = rest(request, 16);
+    let b = lent::rest(request, 16);
     match which {
         3 => put_answer(out, block::lines(b)),
         4 => put_answer(out, block::line(b, k)),

@@ -1,7 +1,6 @@
 // What the edits answer to a request: the buffer's length, a line, the block's length, the block, and a text to put in.
 use crate::request::number;
 use crate::request::put_three;
-use crate::request::rest;
 ghost use Prim.Native.Nat.{_≤_};
 ghost use lib.ListN.{length};
 
@@ -17,11 +16,11 @@ pub(crate) fn put_in(request: &[u8], out: &mut [u8]) -> usize
         return 0;
     }
     let n = number(request, 16) as usize;
-    let given = rest(request, 24);
+    let given = lent::rest(request, 24);
     let f = jkf::figures_of(edit::put_in(
-        shown::front(given, n),
+        lent::front(given, n),
         number(request, 8),
-        rest(given, n),
+        lent::rest(given, n),
         &mut out[24..24 + room],
     ));
     put_three(out, f.number, f.first, f.second);
@@ -40,7 +39,7 @@ pub(crate) fn cut(request: &[u8], out: &mut [u8]) -> usize
         return 0;
     }
     let f = jkf::figures_of(edit::cut(
-        rest(request, 24),
+        lent::rest(request, 24),
         number(request, 8),
         &mut out[24..24 + room],
     ));

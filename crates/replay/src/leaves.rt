@@ -3,7 +3,6 @@ use crate::request::number;
 use crate::request::put_number;
 use crate::request::put_three;
 use crate::request::put_two;
-use crate::request::rest;
 use spell::Spelled;
 use text::Cursor;
 use text::Number;
@@ -27,7 +26,7 @@ pub(crate) fn answer(kind: u8, request: &[u8], out: &mut [u8]) -> usize
                 Cursor {
                     at: number(request, 0) as usize,
                 },
-                rest(request, 8),
+                lent::rest(request, 8),
             ),
         ),
         b'w' => spelling(request, out),
@@ -64,7 +63,7 @@ fn step(request: &[u8], out: &mut [u8]) -> usize
     let c = Cursor {
         at: number(request, 8) as usize,
     };
-    let s = rest(request, 16);
+    let s = lent::rest(request, 16);
     match which {
         0 => put_place(out, Place::Past(c.blanks(s))),
         1 => put_place(out, Place::Past(c.padding(s))),
@@ -79,7 +78,7 @@ fn digits(request: &[u8], out: &mut [u8]) -> usize
     let c = Cursor {
         at: number(request, 8) as usize,
     };
-    match c.digits(rest(request, 16), number(request, 0)) {
+    match c.digits(lent::rest(request, 16), number(request, 0)) {
         Number::Value(n, past) => put_three(out, 1, n, past.at as u64),
         Number::NoDigit => put_three(out, 0, 0, 0),
         Number::TooLarge => put_three(out, 2, 0, 0),
@@ -94,7 +93,7 @@ fn name(request: &[u8], out: &mut [u8]) -> usize
     let c = Cursor {
         at: number(request, 8) as usize,
     };
-    let s = rest(request, 16);
+    let s = lent::rest(request, 16);
     match table {
         0 => put_spelled(out, spell::kind(c, s)),
         1 => put_spelled(out, spell::special(c, s)),
@@ -109,7 +108,7 @@ fn numeral(request: &[u8], out: &mut [u8]) -> usize
     let c = Cursor {
         at: number(request, 8) as usize,
     };
-    let s = rest(request, 16);
+    let s = lent::rest(request, 16);
     if number(request, 0) == 0 {
         return put_spelled(out, spell::numeral(c, s));
     }

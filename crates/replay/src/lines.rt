@@ -3,7 +3,6 @@ use crate::leaves::put_place;
 use crate::request::number;
 use crate::request::put_four;
 use crate::request::put_three;
-use crate::request::rest;
 use jkf::Entry;
 use moves::MoveLine;
 use moves::Remark;
@@ -27,7 +26,7 @@ pub(crate) fn move_line(request: &[u8], out: &mut [u8]) -> usize
     let c = Cursor {
         at: number(request, 0) as usize,
     };
-    match moves::move_line(c, rest(request, 8)) {
+    match moves::move_line(c, lent::rest(request, 8)) {
         MoveLine::Numbered(ply, e, past) => put_line(out, ply, past.at as u64, e),
         MoveLine::NoLine => put_three(out, 0, 0, 0),
     }
@@ -40,7 +39,7 @@ pub(crate) fn comment_line(request: &[u8], out: &mut [u8]) -> usize
     let c = Cursor {
         at: number(request, 0) as usize,
     };
-    match moves::comment_line(c, rest(request, 8)) {
+    match moves::comment_line(c, lent::rest(request, 8)) {
         Remark::Stands(from, to, next) => put_four(
             out,
             1,
@@ -59,5 +58,5 @@ pub(crate) fn skip_line(request: &[u8], out: &mut [u8]) -> usize
     let c = Cursor {
         at: number(request, 0) as usize,
     };
-    put_place(out, moves::skip_line(c, rest(request, 8)))
+    put_place(out, moves::skip_line(c, lent::rest(request, 8)))
 }

@@ -68,7 +68,7 @@ fn print_name(place: usize) {
     let at = if place < 19 { 32 * place } else { 608 };
     io::write_all(
         STDOUT_FILENO,
-        shown::text_at(
+        shown::table_text(
             b"\x0cUTF-8 counts                   \
               \x1eblanks, padding, tails, breaks \
               \x0cnumbers read                   \

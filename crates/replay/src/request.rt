@@ -12,14 +12,6 @@ pub(crate) fn number(s: &[u8], at: usize) -> u64 {
     (low + 4294967296 * high) as u64
 }
 
-// What a request has from a place on.
-pub(crate) fn rest(s: &[u8], at: usize) -> &[u8] {
-    if at <= s.len() {
-        return &s[at..];
-    }
-    &s[s.len()..]
-}
-
 // A number as eight bytes.
 pub(crate) fn put_number(out: &mut [u8], v: u64) -> usize
     ensures { λ r. ⌜ r ≤ length (now (out .entry)) ⌝ }

@@ -15,7 +15,7 @@ use Rattle.lent.proofs.Writes.{as-text, nothing, written, wrote-all, then}
 use Rattle.block.specs.Encode.{concat}
 use Rattle.block.specs.Decode.{run, linesIn, startOf, entryCount, parentOf}
 use Rattle.block.proofs.Tabling.{run-snoc, concat-snoc}
-use Rattle.shown.specs.Listing.{field, fields, lastFields, readTag, blockTag, refusedTag, spaceTag, lineTag, startTag, movesTag, parentTag, readText, refusalText, rowText, rowOf, rowsText, listingText, listingRoom, listed}
+use Rattle.shown.specs.Listing.{field, fields, lastFields, readTag, blockTag, refusedTag, spaceTag, lineTag, startTag, movesTag, parentTag, readText, refusalText, rowText, listedRow, rowsText, listingText, listingRoom, listed}
 
 -- ---- how long the texts are
 
@@ -67,21 +67,21 @@ row-room k start moves parent n h a b c d =
 -- ---- the lines of a block
 
 -- a row is a line's, by what the block says
-pub line-is : (b : List ℕ) (k : ℕ) {s m p : ℕ} → s ≡ startOf b k → m ≡ entryCount b k → p ≡ parentOf b k → rowText k s m p ≡ rowOf b k
-unfolding rowOf
+pub line-is : (b : List ℕ) (k : ℕ) {s m p : ℕ} → s ≡ startOf b k → m ≡ entryCount b k → p ≡ parentOf b k → rowText k s m p ≡ listedRow b k
+unfolding listedRow
 line-is b k {s} {m} {p} e f g = ap (λ (x : ℕ). rowText k x m p) e ∙ ap (λ (x : ℕ). rowText k (startOf b k) x p) f ∙ ap (rowText k (startOf b k) (entryCount b k)) g
 
 -- line n stands behind the n lines before it
-pub lines-more : (b : List ℕ) (n : ℕ) → rowsText b n ++ rowOf b n ≡ rowsText b (suc n)
+pub lines-more : (b : List ℕ) (n : ℕ) → rowsText b n ++ listedRow b n ≡ rowsText b (suc n)
 unfolding rowsText
-lines-more b n = sym (ap (λ (ts : List (List ℕ)). concat (λ t. t) ts) (run-snoc (rowOf b) n) ∙ concat-snoc (λ (t : List ℕ). t) (run (rowOf b) 0 n) (rowOf b n))
+lines-more b n = sym (ap (λ (ts : List (List ℕ)). concat (λ t. t) ts) (run-snoc (listedRow b) n) ∙ concat-snoc (λ (t : List ℕ). t) (run (listedRow b) 0 n) (listedRow b n))
 
 pub lines-none : (b o : List ℕ) → Wrote (rowsText b 0) o o 0
 unfolding rowsText concat run
 lines-none b o = nothing o
 
 pub lines-step : (b : List ℕ) (k : ℕ) {o o₁ p : List ℕ} {n m : ℕ} → Wrote (rowsText b k) o o₁ n
-    → Wrote (rowOf b k) (midOf n (length o₁ - n) o₁) p m → Wrote (rowsText b (k + 1)) o (putMid n (length o₁ - n) o₁ p) (n + m)
+    → Wrote (listedRow b k) (midOf n (length o₁ - n) o₁) p m → Wrote (rowsText b (k + 1)) o (putMid n (length o₁ - n) o₁ p) (n + m)
 lines-step b k w v = as-text (lines-more b k ∙ ap (rowsText b) (sym (add-one k))) (then w v)
 
 -- ---- the listing

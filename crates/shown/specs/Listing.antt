@@ -70,12 +70,12 @@ unfoldable pub rowText : ℕ → ℕ → ℕ → ℕ → List ℕ
 rowText k start moves parent = fields lineTag k startTag start ++ lastFields movesTag moves parentTag parent
 
 -- Line k of a block.
-unfoldable pub rowOf : List ℕ → ℕ → List ℕ
-rowOf b k = rowText k (startOf b k) (entryCount b k) (parentOf b k)
+unfoldable pub listedRow : List ℕ → ℕ → List ℕ
+listedRow b k = rowText k (startOf b k) (entryCount b k) (parentOf b k)
 
 -- The lines of a block before line n, one after the other.
 unfoldable pub rowsText : List ℕ → ℕ → List ℕ
-rowsText b n = concat (λ t. t) (run (rowOf b) 0 n)
+rowsText b n = concat (λ t. t) (run (listedRow b) 0 n)
 
 -- ---- the whole
 

@@ -7,32 +7,22 @@ ghost use mathlib.Core.Path.{_≡_};
 ghost use Prim.Native.Nat.{_+_, _*_, _≤_, _<_};
 ghost use lib.ListN.{length, take, drop, getD};
 ghost use Rattle.lent.specs.Bytes.{Wrote};
-ghost use Rattle.shown.specs.Listing.{rowOf, rowsText, listed};
-
-// The first n bytes of a slice, or all where there are fewer.
-pub fn front(s: &[u8], n: usize) -> &[u8]
-    ensures { λ r. ⌜ now r ≡ take n (now (s .entry)) ⌝ }
-{
-    if s.len() <= n {
-        return s;
-    }
-    &s[..n]
-}
+ghost use Rattle.shown.specs.Listing.{listedRow, rowsText, listed};
 
 // The text that a table has at a place: how many bytes it has, and these. Nothing past the end.
-pub fn text_at(table: &[u8], at: usize) -> &[u8]
+pub fn table_text(table: &[u8], at: usize) -> &[u8]
     ensures { λ r. ⌜ now r ≡ take (getD (now (table .entry)) at 0) (drop (at + 1) (now (table .entry))) ⌝ }
 {
     if table.len() <= at {
         return &table[..0];
     }
-    front(&table[at + 1..], lent::wide(table[at]))
+    lent::front(&table[at + 1..], lent::wide(table[at]))
 }
 
 // Line k of a block, for which there is room: each of its numbers has at most 5 digits.
 fn put_line(out: &mut [u8], b: &[u8], k: u16) -> usize
     requires { ⌜ 48 ≤ length (now out) ⌝ }
-    ensures { λ r. ⌜ Wrote (rowOf (now (b .entry)) k) (now (out .entry)) (now (out .exit)) r × (r ≤ 48) ⌝ }
+    ensures { λ r. ⌜ Wrote (listedRow (now (b .entry)) k) (now (out .entry)) (now (out .exit)) r × (r ≤ 48) ⌝ }
 {
     let start = block::start_of(b, k) as u64;
     let moves = block::entry_count(b, k) as u64;

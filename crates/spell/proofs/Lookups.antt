@@ -14,7 +14,7 @@ use Rattle.text.specs.Text.{cursor, prefixFrom, standsAt, same}
 use Rattle.text.specs.declared.Cursor.{Cursor}
 use Rattle.text.proofs.Laws.{stands-fits, same-is, same-refl, lengths-differ}
 use Rattle.spell.specs.Tables.{Spelling, kinds, numerals, files}
-use Rattle.spell.specs.Spell.{firstOf, numberOf, code, codeOf}
+use Rattle.spell.specs.Spell.{firstOf, numberSpelled, code, codeOf}
 use Rattle.spell.specs.Words.{promotes}
 use Rattle.spell.specs.inner.Codes.{allBytes, bytesOf, codeAt, threeAt}
 use Rattle.spell.specs.inner.Slots.{look, numberIn, numeralSlots, kindSlots, promotedOf, promotedIn}
@@ -260,17 +260,17 @@ same-code t a b c h k p q r = go (same t (a ∷ b ∷ c ∷ [])) refl
     go false e = sym (ne-eqb (codeOf a b c) (code t) (λ z. false≢true (sym e ∙ ap (same t) (sym (bytes-key a b c p q r) ∙ ap bytesOf z ∙ key-bytes t h k) ∙ same-refl t)))
 
 -- so their number is that of their code
-by-code : (all es : List Spelling) → keyed all es ≡ true → (a b c : ℕ) → a < 256 → b < 256 → c < 256 → numberBy es (codeOf a b c) ≡ numberOf es (a ∷ b ∷ c ∷ [])
-unfolding numberOf
+by-code : (all es : List Spelling) → keyed all es ≡ true → (a b c : ℕ) → a < 256 → b < 256 → c < 256 → numberBy es (codeOf a b c) ≡ numberSpelled es (a ∷ b ∷ c ∷ [])
+unfolding numberSpelled
 by-code all [] h a b c p q r = refl
 by-code all (e ∷ es) h a b c p q r = go (eqb (length (e .bytes)) 3) refl h (λ k. by-code all es k a b c p q r)
   where
     go : (u : Bool) → eqb (length (e .bytes)) 3 ≡ u
         → pick u (pick (allBytes (e .bytes)) (pick (ltb 0 (e .number)) (keyed all es) false) false)
         (pick (leb 3 (length (e .bytes))) (pick (eqb (numberBy all (code (e .bytes))) 0) (keyed all es) false) false) ≡ true
-        → (keyed all es ≡ true → numberBy es (codeOf a b c) ≡ numberOf es (a ∷ b ∷ c ∷ []))
+        → (keyed all es ≡ true → numberBy es (codeOf a b c) ≡ numberSpelled es (a ∷ b ∷ c ∷ []))
         → pick u (pick (eqb (codeOf a b c) (code (e .bytes))) (e .number) (numberBy es (codeOf a b c))) (numberBy es (codeOf a b c))
-        ≡ pick (same (e .bytes) (a ∷ b ∷ c ∷ [])) (e .number) (numberOf es (a ∷ b ∷ c ∷ []))
+        ≡ pick (same (e .bytes) (a ∷ b ∷ c ∷ [])) (e .number) (numberSpelled es (a ∷ b ∷ c ∷ []))
     go true z h ih =
         let (w, h₁) = pick-both (allBytes (e .bytes)) _ h in
         let (_, k) = pick-both (ltb 0 (e .number)) (keyed all es) h₁ in
@@ -282,20 +282,20 @@ by-code all (e ∷ es) h a b c p q r = go (eqb (length (e .bytes)) 3) refl h (λ
 
 module _ (es : List Spelling) (l : List (ℕ × ℕ)) (m : ℕ) (k : keyed es es ≡ true) (t : sound es l ≡ true) (u : complete l m es ≡ true) where
   -- it is found by its slot
-  pub slot-number : (a b c : ℕ) → a < 256 → b < 256 → c < 256 → numberIn l m (codeOf a b c) ≡ numberOf es (a ∷ b ∷ c ∷ [])
+  pub slot-number : (a b c : ℕ) → a < 256 → b < 256 → c < 256 → numberIn l m (codeOf a b c) ≡ numberSpelled es (a ∷ b ∷ c ∷ [])
   unfolding numberIn
   slot-number a b c p q r = go (eqb (look l (x % m) / 16) x) refl
     where
       x : ℕ
       x = codeOf a b c
 
-      go : (v : Bool) → eqb (look l (x % m) / 16) x ≡ v → pick v (look l (x % m) % 16) 0 ≡ numberOf es (a ∷ b ∷ c ∷ [])
+      go : (v : Bool) → eqb (look l (x % m) / 16) x ≡ v → pick v (look l (x % m) % 16) 0 ≡ numberSpelled es (a ∷ b ∷ c ∷ [])
       go true w = sym (sound-look es l t (x % m) x (omega arith) (eqb-true _ _ w) .0) ∙ by-code es es k a b c p q r
       go false w = sym (complete-look l m es u x (eqb-false _ _ w)) ∙ by-code es es k a b c p q r
 
 -- n is the number of the three bytes at a place
 module _ (es : List Spelling) (l : List (ℕ × ℕ)) (m : ℕ) (k : keyed es es ≡ true) (t : sound es l ≡ true) (u : complete l m es ≡ true)
-    (s : List ℕ) (at : ℕ) (bytes : (i : ℕ) → getD s i 0 < 256) (n : ℕ) (is : n ≡ numberOf es (threeAt s at)) where
+    (s : List ℕ) (at : ℕ) (bytes : (i : ℕ) → getD s i 0 < 256) (n : ℕ) (is : n ≡ numberSpelled es (threeAt s at)) where
   near₁ : Near (drop at s)
   near₁ = near s at bytes
 
@@ -420,8 +420,8 @@ promoted-is x h q = go (eqb (row / 16) x) (ltb (row % 16) 2) (ltb 4 (row % 16)) 
     go true false false w i j q = rw (i, j) (joins-look kindSlots refl (x % 35) x h (eqb-true _ _ w) (ltb-false _ _ i) (ltb-false _ _ j))
 
 -- so that is its number
-promoted-code : (a b c : ℕ) → a < 256 → b < 256 → c < 256 → promotedIn (codeOf a b c) ≡ numberOf kinds (promotes ++ (a ∷ b ∷ c ∷ []))
-unfolding numberOf promotedIn numberIn same
+promoted-code : (a b c : ℕ) → a < 256 → b < 256 → c < 256 → promotedIn (codeOf a b c) ≡ numberSpelled kinds (promotes ++ (a ∷ b ∷ c ∷ []))
+unfolding numberSpelled promotedIn numberIn same
 promoted-code a b c p q r = go (eqb (promotedIn x) 0) refl
   where
     x : ℕ
@@ -437,13 +437,13 @@ promoted-code a b c p q r = go (eqb (promotedIn x) 0) refl
     none z false false true e f g = let y : promotedIn x ≡ 12 = joined 15305344 12 (233 ∷ 138 ∷ 128 ∷ []) refl refl (same-is _ _ g) in absurd (omega arith)
     none z false false false e f g = refl
 
-    go : (v : Bool) → eqb (promotedIn x) 0 ≡ v → promotedIn x ≡ numberOf kinds (promotes ++ (a ∷ b ∷ c ∷ []))
+    go : (v : Bool) → eqb (promotedIn x) 0 ≡ v → promotedIn x ≡ numberSpelled kinds (promotes ++ (a ∷ b ∷ c ∷ []))
     go true w = let z = eqb-true _ _ w in z ∙ sym (none z _ _ _ refl refl refl)
     go false w =
         sym (number-held kinds (promotedIn x) (promotes ++ (a ∷ b ∷ c ∷ [])) refl
         (ap (λ (t : List ℕ). holds kinds (promotedIn x) (promotes ++ t)) (sym (bytes-key a b c p q r)) ∙ promoted-is x (omega arith) (eqb-false _ _ w)))
 
-pub promoted-number : (a b c : ℕ) → a < 256 → b < 256 → c < 256 → promotedOf (numberOf kinds (a ∷ b ∷ c ∷ [])) ≡ numberOf kinds (promotes ++ (a ∷ b ∷ c ∷ []))
+pub promoted-number : (a b c : ℕ) → a < 256 → b < 256 → c < 256 → promotedOf (numberSpelled kinds (a ∷ b ∷ c ∷ [])) ≡ numberSpelled kinds (promotes ++ (a ∷ b ∷ c ∷ []))
 unfolding promotedIn
 promoted-number a b c p q r = ap promotedOf (sym (slot-number kinds kindSlots 35 refl refl refl a b c p q r)) ∙ promoted-code a b c p q r
 
@@ -460,10 +460,10 @@ promoted-some k h l = rw (le-ltb k 2 h, le-ltb 4 k l)
 -- ---- what is known of three bytes of a slice
 
 module _ (s : List ℕ) (at : ℕ) (bytes : (i : ℕ) → getD s i 0 < 256) where
-  pub numeral-known : (numberOf numerals (threeAt s at) ≡ 0 → ⊥) → firstOf numerals s at ≡ As (numberOf numerals (threeAt s at)) (cursor (at + 3))
+  pub numeral-known : (numberSpelled numerals (threeAt s at) ≡ 0 → ⊥) → firstOf numerals s at ≡ As (numberSpelled numerals (threeAt s at)) (cursor (at + 3))
   numeral-known q = slot-first numerals numeralSlots 17 refl refl refl s at bytes _ refl q
 
-  pub kind-known : (numberOf kinds (threeAt s at) ≡ 0 → ⊥) → firstOf kinds s at ≡ As (numberOf kinds (threeAt s at)) (cursor (at + 3))
+  pub kind-known : (numberSpelled kinds (threeAt s at) ≡ 0 → ⊥) → firstOf kinds s at ≡ As (numberSpelled kinds (threeAt s at)) (cursor (at + 3))
   kind-known q = slot-first kinds kindSlots 35 refl refl refl s at bytes _ refl q
 
   pub file-known : getD s at 0 ≡ 239 → getD s (at + 1) 0 ≡ 188 → 145 ≤ getD s (at + 2) 0 → getD s (at + 2) 0 ≤ 153
@@ -474,13 +474,13 @@ module _ (s : List ℕ) (at : ℕ) (bytes : (i : ℕ) → getD s i 0 < 256) wher
       file-first s at (near s at bytes) (codeAt s at) refl (omega arith) (omega arith) ∙ ap (λ (n : ℕ). As n (cursor (at + 3))) z
 
   -- 成 and three bytes more
-  pub promoted-known : getD s at 0 ≡ 230 → getD s (at + 1) 0 ≡ 136 → getD s (at + 2) 0 ≡ 144 → at + 6 ≤ length s → (numberOf kinds (promotes ++ threeAt s (at + 3)) ≡ 0 → ⊥)
-      → firstOf kinds s at ≡ As (numberOf kinds (promotes ++ threeAt s (at + 3))) (cursor (at + 6))
+  pub promoted-known : getD s at 0 ≡ 230 → getD s (at + 1) 0 ≡ 136 → getD s (at + 2) 0 ≡ 144 → at + 6 ≤ length s → (numberSpelled kinds (promotes ++ threeAt s (at + 3)) ≡ 0 → ⊥)
+      → firstOf kinds s at ≡ As (numberSpelled kinds (promotes ++ threeAt s (at + 3))) (cursor (at + 6))
   unfolding codeAt
   promoted-known a b c h q =
       let x : ℕ = codeAt s (at + 3) in
       let k : codeAt s at ≡ 15108240 = omega (arith, key-of s at (at + 1) (at + 2) refl refl) in
-      let y : promotedIn x ≡ numberOf kinds (promotes ++ threeAt s (at + 3)) = promoted-code _ _ _ (bytes (at + 3)) (bytes (at + 3 + 1)) (bytes (at + 3 + 2)) in
+      let y : promotedIn x ≡ numberSpelled kinds (promotes ++ threeAt s (at + 3)) = promoted-code _ _ _ (bytes (at + 3)) (bytes (at + 3 + 1)) (bytes (at + 3 + 2)) in
       let st : drop at s ≡ 230 ∷ 136 ∷ 144 ∷ bytesOf x ++ drop (at + 3 + 3) s =
       key-stands s at bytes (omega arith) ∙ ap (λ (y : ℕ). bytesOf y ++ drop (at + 3) s) k ∙ ap (λ (l : List ℕ). 230 ∷ 136 ∷ 144 ∷ l) (key-stands s (at + 3) bytes (omega arith)) in
       found kinds (promotedIn x) (230 ∷ 136 ∷ 144 ∷ bytesOf x) refl (promoted-is x (key-small s (at + 3) (near s (at + 3) bytes)) (λ z. q (sym y ∙ z))) (drop (at + 3 + 3) s) (record { rest = st; within = omega arith })

@@ -15,7 +15,7 @@ use Rattle.lists.proofs.Stand.{Stands, Reads, Any, stands-past}
 use Rattle.text.specs.Text.{cursor, prefixFrom, standsAt, same}
 use Rattle.text.proofs.Laws.{same-is}
 use Rattle.spell.specs.Tables.{Spelling, moveKinds, kinds, specials, presets, numerals, files}
-use Rattle.spell.specs.Spell.{firstOf, numberOf, spelled, hasNumber}
+use Rattle.spell.specs.Spell.{firstOf, numberSpelled, spelled, hasNumber}
 use Rattle.spell.specs.declared.Spelled.the-variants.{As, Not}
 
 -- ---- the tests
@@ -119,16 +119,16 @@ clash-self [] = refl
 clash-self (x ∷ t) = rw (eq-eqb x x refl) (clash-self t)
 
 -- and has its number
-pub number-held : (es : List Spelling) (n : ℕ) (b : List ℕ) → alone es ≡ true → holds es n b ≡ true → numberOf es b ≡ n
-unfolding numberOf
+pub number-held : (es : List Spelling) (n : ℕ) (b : List ℕ) → alone es ≡ true → holds es n b ≡ true → numberSpelled es b ≡ n
+unfolding numberSpelled
 number-held [] n b h k = absurd (false≢true k)
 number-held (e ∷ es) n b h k = go (eqb (e .number) n) (same (e .bytes) b) refl refl (number-held es n b (p .1)) k
   where
     p : (clear (e .bytes) es ≡ true) × (alone es ≡ true)
     p = pick-both (clear (e .bytes) es) (alone es) h
 
-    go : (u v : Bool) → eqb (e .number) n ≡ u → same (e .bytes) b ≡ v → (holds es n b ≡ true → numberOf es b ≡ n) → pick (pick u v false) true (holds es n b) ≡ true
-        → pick v (e .number) (numberOf es b) ≡ n
+    go : (u v : Bool) → eqb (e .number) n ≡ u → same (e .bytes) b ≡ v → (holds es n b ≡ true → numberSpelled es b ≡ n) → pick (pick u v false) true (holds es n b) ≡ true
+        → pick v (e .number) (numberSpelled es b) ≡ n
     go true true w s ih k = eqb-true (e .number) n w
     go false true w s ih k = absurd (true≢false (sym (clash-self b) ∙ ap (λ (t : List ℕ). clash t b) (sym (same-is (e .bytes) b s)) ∙ clear-held (e .bytes) es n b (p .0) k))
     go true false w s ih k = ih k

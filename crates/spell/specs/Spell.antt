@@ -24,9 +24,9 @@ firstOf (e ∷ es) s at =
     let r = firstOf es s at in pick (standsAt (e .bytes) s at) (As (e .number) (cursor (at + length (e .bytes)))) r
 
 -- The number of the spelling that some bytes are, no more and no fewer; 0 where they are none.         (01, Reading rules)
-unfoldable pub numberOf : List Spelling → List ℕ → ℕ
-numberOf [] t = 0
-numberOf (e ∷ es) t = let r = numberOf es t in pick (same (e .bytes) t) (e .number) r
+unfoldable pub numberSpelled : List Spelling → List ℕ → ℕ
+numberSpelled [] t = 0
+numberSpelled (e ∷ es) t = let r = numberSpelled es t in pick (same (e .bytes) t) (e .number) r
 
 -- A number is written by its first spelling in a table; one that is not in it is not written.        (01, Writing)
 unfoldable pub spelled : List Spelling → ℕ → List ℕ

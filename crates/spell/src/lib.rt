@@ -18,7 +18,7 @@ ghost use Rattle.spell.specs.Tables.{Spelling, moveKinds, kinds, special
 ghost use Rattle.spell.specs.Words.{promotes};
 ghost use Rattle.spell.specs.inner.Slots.{look, kindSlots};
 ghost use Rattle.spell.specs.inner.Kinds.{promotedKinds};
-ghost use Rattle.spell.specs.Spell.{firstOf, numberOf, spelled, code, codeOf};
+ghost use Rattle.spell.specs.Spell.{firstOf, numberSpelled, spelled, code, codeOf};
 ghost use Rattle.spell.specs.inner.Codes.{Rows, IsTable};
 
 // What a table has at a place: its number and the place past it.
@@ -148,7 +148,7 @@ fn kind_row(h: u32) -> u32
 
 // The kind that three bytes are, 1 to 14; 0 where they are none.
 pub fn kind_of(a: u8, b: u8, c: u8) -> u8
-    ensures { λ r. ⌜ r ≡ numberOf kinds (a ∷ b ∷ c ∷ []) ⌝ }
+    ensures { λ r. ⌜ r ≡ numberSpelled kinds (a ∷ b ∷ c ∷ []) ⌝ }
 {
     let x = digits::code(a, b, c);
     let row = kind_row(x % 35);
@@ -160,7 +160,7 @@ pub fn kind_of(a: u8, b: u8, c: u8) -> u8
 
 // The kind that 成 and three bytes make, 10 to 12; 0 where they make none.
 pub fn promoted_of(a: u8, b: u8, c: u8) -> u8
-    ensures { λ r. ⌜ r ≡ numberOf kinds (promotes ++ (a ∷ b ∷ c ∷ [])) ⌝ }
+    ensures { λ r. ⌜ r ≡ numberSpelled kinds (promotes ++ (a ∷ b ∷ c ∷ [])) ⌝ }
 {
     let k = kind_of(a, b, c);
     if k < 2 {

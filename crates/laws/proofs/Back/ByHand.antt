@@ -31,7 +31,7 @@ use Rattle.block.proofs.Deciding.{sound-says}
 use Rattle.block.specs.Sound.{kindTest}
 use Rattle.moves.proofs.Smalls.{Bytes as AllBytes, each, empty}
 use Rattle.moves.specs.Fits.{ClockFits, hmsFits, msFits, TimeFits, untimedFits, timedFits, TargetFits, sameFits, squareFits, EntryFits, playFits, endFits}
-use Rattle.converter.specs.Entries.{within, targetFits, canWrite}
+use Rattle.converter.specs.Entries.{within, targetOnBoard, canWrite}
 use Rattle.converter.specs.Show.{onObstacle, entryObstacle, lineObstacle, linesObstacle}
 use Rattle.converter.specs.declared.Obstacle.{Obstacle}
 use Rattle.converter.specs.declared.Obstacle.the-variants.{At, Clear}
@@ -96,7 +96,7 @@ row-time : (e : Entry) (f n : ℕ) → AllBytes (entryBytes e f n) → TimeFits 
 unfolding entryBytes
 row-time e f n h = time-fits (timeOf e) (behind (entryHead e) (timeBytes (timeOf e)) (front (entryHead e ++ timeBytes (timeOf e)) (0 ∷ []) (front _ (bytes16 f) (front _ (bytes16 n) h))))
 
-target-fits : (t : Target) → targetFits t ≡ true → TargetFits t
+target-fits : (t : Target) → targetOnBoard t ≡ true → TargetFits t
 target-fits Same h = sameFits
 target-fits (Square x y) h =
     let (a, b) = pick-both (within x) (within y) h in
@@ -108,7 +108,7 @@ entry-fits : (e : Entry) → claim (kindTest 1 e) → TimeFits (timeOf e) → En
 unfolding canWrite
 entry-fits Slot k t slot w = absurd (omega arith)
 entry-fits (Moved m) k t (move o) w =
-    playFits (record { side = k .1 .0; some = k .1 .1 .0; kind = k .1 .1 .1 .0; mark = k .1 .1 .1 .1; target = target-fits (m .to) (pick-both (targetFits (m .to)) _ w .0); origin = o; time = t })
+    playFits (record { side = k .1 .0; some = k .1 .1 .0; kind = k .1 .1 .1 .0; mark = k .1 .1 .1 .1; target = target-fits (m .to) (pick-both (targetOnBoard (m .to)) _ w .0); origin = o; time = t })
 entry-fits (End x u) k t (ending h) w = endFits h t
 
 noted-sayable : (e : Noted) → Later e → NotedByHand e → canWrite (e .what) ≡ true → NotedSayable e

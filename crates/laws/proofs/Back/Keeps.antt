@@ -8,7 +8,7 @@ use Rattle.lists.specs.All.{All, next}
 use Rattle.jkf.specs.Model.{Record}
 use Rattle.jkf.specs.Attaching.{Play}
 use Rattle.parser.specs.Parse.{parse, recordOf}
-use Rattle.edit.specs.Edit.{putIn}
+use Rattle.edit.specs.Edit.{withPlay}
 use Rattle.edit.specs.inner.Splicing.{relined, without}
 use Rattle.edit.proofs.Sounds.{plays-back}
 use Rattle.laws.proofs.Firsts.{led-take, led-drop, led-append}
@@ -28,7 +28,7 @@ pub fresh-sayable : (r : Record) (ps : List Play) → Sayable r → PlaysSayable
 unfolding relined
 fresh-sayable r ps s p = record { headers = s .headers; plays = subst PlaysSayable (sym (plays-back ps)) p }
 
-pub put-sayable : (n : ℕ) (v : Play) (ps : List Play) → 0 < n → All NotedSayable (v .entries) → PlaysSayable ps → PlaysSayable (putIn n v ps)
+pub put-sayable : (n : ℕ) (v : Play) (ps : List Play) → 0 < n → All NotedSayable (v .entries) → PlaysSayable ps → PlaysSayable (withPlay n v ps)
 put-sayable n v ps z h p = led-append (led-take n z p) (next h (led-drop n z p))
 
 pub without-sayable : (k m : ℕ) (ps : List Play) → 0 < k → PlaysSayable ps → PlaysSayable (without k m ps)

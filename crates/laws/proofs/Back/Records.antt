@@ -10,16 +10,16 @@ use Rattle.lists.specs.All.{All, none, next}
 use Rattle.text.specs.Utf8.{wellFormedBytes}
 use Rattle.jkf.specs.Answers.{Outcome}
 use Rattle.jkf.specs.declared.Answer.the-variants.{Done}
-use Rattle.jkf.specs.Model.{Noted, Line, Record}
+use Rattle.jkf.specs.Model.{Noted, Line, Record, Header}
 use Rattle.jkf.specs.Attaching.{attach}
-use Rattle.block.specs.Encode.{concat, encode, entriesOf, commentsOf, commentText}
+use Rattle.block.specs.Encode.{concat, encode, entriesOf, commentsOf, commentText, flatLength}
 use Rattle.block.specs.Formed.{Formed}
 use Rattle.block.proofs.Tabling.{concat-append}
 use Rattle.block.proofs.Lengths.{block-length}
 use Rattle.kakinoki.specs.Starts.{startRead}
 use Rattle.kakinoki.specs.declared.Fault.the-variants.{NoFault}
 use Rattle.filling.specs.Filling.{atFront}
-use Rattle.parser.specs.Parse.{parse, recordOf, neededBy, needed}
+use Rattle.parser.specs.Parse.{parse, recordOf, needed}
 use Rattle.parser.specs.Read.{filledWith, readStored, earlyOf, faultless, fillOf}
 use Rattle.converter.specs.Show.{recordText, handsObstacle}
 use Rattle.converter.specs.declared.Obstacle.the-variants.{Clear}
@@ -133,19 +133,23 @@ weight-less ls h =
 
 -- ---- a text that is whole is read
 
+-- how long a block of these header entries and lines is
+abbrev longBy : List Header → List Line → ℕ
+longBy hs ls = flatLength hs ls (entriesOf ls) (commentsOf (entriesOf ls))
+
 module _ (r : Record) (f : RecordFits r) (one : r .version ≡ 1) (a : Attached (r .lines)) (hs : All HeaderValid (r .headers)) (ls : LinesValid (r .lines)) where
   -- the record of what is said is the record
   record-back : (n : ℕ) → recordOf (parsedOf r n) ≡ r
   record-back n = ap₂ (λ (v : ℕ) (l : List Line). record { version = v; headers = r .headers; position = r .position; lines = l }) (sym one) (a .same)
 
-  needed-back : (n : ℕ) → needed (parsedOf r n) ≡ neededBy (r .headers) (r .lines)
+  needed-back : (n : ℕ) → needed (parsedOf r n) ≡ longBy (r .headers) (r .lines)
   unfolding needed
-  needed-back n = ap (neededBy (r .headers)) (a .same)
+  needed-back n = ap (longBy (r .headers)) (a .same)
 
-  module _ (short : length (wholeText r) ≤ 65535) (fits : neededBy (r .headers) (r .lines) ≤ 65535) (o : List ℕ) (room : neededBy (r .headers) (r .lines) ≤ length o) where
+  module _ (short : length (wholeText r) ≤ 65535) (fits : longBy (r .headers) (r .lines) ≤ 65535) (o : List ℕ) (room : longBy (r .headers) (r .lines) ≤ length o) where
     -- what `read` answers
     abbrev answered : Outcome
-    answered = record { answer = Done (length (wholeText r)) (neededBy (r .headers) (r .lines)); buffer = atFront (encode r) o }
+    answered = record { answer = Done (length (wholeText r)) (longBy (r .headers) (r .lines)); buffer = atFront (encode r) o }
 
     filled-back : filledWith (parsedOf r (length (wholeText r))) o ≡ answered
     unfolding filledWith
@@ -153,7 +157,7 @@ module _ (r : Record) (f : RecordFits r) (one : r .version ≡ 1) (a : Attached 
 
     stored-back : readStored (parsedOf r (length (wholeText r))) o ≡ answered
     unfolding readStored
-    stored-back = rw (needed-back (length (wholeText r)), le-ltb 65535 (neededBy (r .headers) (r .lines)) fits, le-ltb (length o) (neededBy (r .headers) (r .lines)) room) filled-back
+    stored-back = rw (needed-back (length (wholeText r)), le-ltb 65535 (longBy (r .headers) (r .lines)) fits, le-ltb (length o) (longBy (r .headers) (r .lines)) room) filled-back
 
     pub whole-read : fillOf (wholeText r) o ≡ answered
     unfolding fillOf earlyOf faultless
@@ -200,7 +204,7 @@ module _ (r : Record) (g : Formed r) (s : Sayable r) (c : ColorsFollow r) (h : h
       → fillOf (wholeText r) o ≡ record { answer = Done (length (wholeText r)) (length (encode r)); buffer = encode r ++ drop (length (encode r)) o }
   whole-back z short o room =
       let w = formed-fits r g in
-      let n : length (encode r) ≡ neededBy (r .headers) (r .lines) = block-length r (w .whole) in
+      let n : length (encode r) ≡ longBy (r .headers) (r .lines) = block-length r (w .whole) in
       whole-read r (whole-fit z) (g .version) (formed-attached r g) (headers-valid r g) (comments-valid r g) short (omega (arith, g .short)) o (omega arith)
       ∙ ap (λ (k : ℕ). record { answer = Done (length (wholeText r)) k; buffer = atFront (encode r) o }) (sym n)
 
@@ -210,8 +214,8 @@ module _ (r : Record) (g : Formed r) (s : Sayable r) (c : ColorsFollow r) (h : h
   unfolding left
   plain-back short o room =
       let w = formed-fits r g in
-      let n : length (encode (left r)) ≡ neededBy (r .headers) (leftLines (r .lines)) = block-length (left r) (w .whole) in
-      let m : neededBy (r .headers) (leftLines (r .lines)) ≤ 65535 = omega (arith, weight-less (r .lines) (g .some), fits r w) in
+      let n : length (encode (left r)) ≡ longBy (r .headers) (leftLines (r .lines)) = block-length (left r) (w .whole) in
+      let m : longBy (r .headers) (leftLines (r .lines)) ≤ 65535 = omega (arith, weight-less (r .lines) (g .some), fits r w) in
       rw (plain-is r)
       (whole-read (left r) left-fit (g .version) (left-attached (r .lines) (g .some) (formed-attached r g)) (headers-valid r g)
       (left-valid (comments-valid r g)) (subst (λ (t : List ℕ). length t ≤ 65535) (plain-is r) short) m o (omega arith)

@@ -29,7 +29,7 @@ use Rattle.block.proofs.Tabling.{concat-append, run-all}
 use Rattle.kakinoki.specs.Informations.{hashLinesAt, presetLineAt, turnLineAt, emptyHand, handLineAt, valueAt, keyValueAt, Said, ofPreset, ofTurn, ofHands, ofPair, information, keyedAt, handsOrKeyedAt, informationAt, informationItem, informationsAt, faultAt, untold, tell, tellAll, pairsOf}
 use Rattle.spell.specs.Words.{presetTag, filesTag, ruleTag}
 use Rattle.kakinoki.specs.Boards.{noCells, boardAt, noBoard, board}
-use Rattle.kakinoki.specs.Starts.{addHands, merged, positionOf, headersSaid, startRead}
+use Rattle.kakinoki.specs.Starts.{addHands, merged, positionSaid, headersSaid, startRead}
 use Rattle.kakinoki.specs.declared.Told.{Told}
 use Rattle.kakinoki.specs.declared.Info.the-variants.{Nothing}
 use Rattle.kakinoki.specs.declared.Fault.the-variants.{NoFault}
@@ -236,7 +236,7 @@ module _ (hs : List Header) (up : Ascending byHeader hs) (fit : All HeaderSayabl
   header-says = subst (λ (t : List ℕ). Says t (map ofPair (written hs))) (sym (headers-text hs)) (headers-say (written-all fit))
 
   pub preset-starts : (n : ℕ) → n ≤ 16 → (s r : List ℕ) → Stands s 0 ((headersText hs ++ presetLine n) ++ (numberLine ++ r)) → Starts s hs (presetAt n) r
-  unfolding startRead headersOf headersSaid positionOf merged tellAll tell pairsOf
+  unfolding startRead headersOf headersSaid positionSaid merged tellAll tell pairsOf
   preset-starts n h s r st =
       came (infos-came (says-append header-says (says-one (preset-item n h))) _ (number-stops r) st) λ e i l.
       let d : boardAt s e ≡ noBoard = no-diagram r l in
@@ -272,7 +272,7 @@ module _ (hs : List Header) (up : Ascending byHeader hs) (fit : All HeaderSayabl
 
     pub diagram-starts : {turn : ℕ} → Side turn → (s r : List ℕ)
         → Stands s 0 ((headersText hs ++ (presetLine 16 ++ handLineText hands 1)) ++ (boardText cells ++ ((handLineText hands 0 ++ turnText turn) ++ (numberLine ++ r)))) → Starts s hs (diagramOf turn cells hands) r
-    unfolding startRead headersOf headersSaid positionOf merged tellAll tell pairsOf
+    unfolding startRead headersOf headersSaid positionSaid merged tellAll tell pairsOf
     diagram-starts {turn} d s r st =
         came (infos-came first-says _ (board-stops cells _) st) λ e i l.
         came (board-came cells cs c _ l) λ f j m.
@@ -290,7 +290,7 @@ module _ (hs : List Header) (up : Ascending byHeader hs) (fit : All HeaderSayabl
         }
       where
         placed : {turn : ℕ} (d : Side turn)
-            → positionOf (board true cells (cursor 0)) (merged (tellAll untold (ofPreset 16 ∷ ofHands 1 (countsOf hands 1) ∷ [])) (tellAll untold (ofHands 0 (countsOf hands 0) ∷ turned d))) ≡ diagramOf turn cells hands
+            → positionSaid (board true cells (cursor 0)) (merged (tellAll untold (ofPreset 16 ∷ ofHands 1 (countsOf hands 1) ∷ [])) (tellAll untold (ofHands 0 (countsOf hands 0) ∷ turned d))) ≡ diagramOf turn cells hands
         placed black = ap (diagramOf 0 cells) (hands-are hands few n)
         placed white = ap (diagramOf 1 cells) (hands-are hands few n)
 

@@ -4,7 +4,7 @@ use mathlib.Core.Path.{refl}
 use Prim.Native.Nat.{ℕ}
 use mathlib.Core.List.{List, _∷_}
 use Rattle.lists.specs.All.{All, none, next}
-use Rattle.laws.specs.CaseTexts.{moveLine, moveLines, originLine, variationLines, textOf, workedText, workedListing}
+use Rattle.laws.specs.CaseTexts.{shortMove, moveLines, originLine, variationLines, textOf, workedText, workedListing}
 use Rattle.laws.specs.Cases.{listing, Case, cases, CasesHold}
 use Rattle.laws.proofs.Cases.Roomy.{Computed, rows}
 use Rattle.laws.proofs.Cases.Opened.{lists, numbers, places, spellings, keys, values, blocks, lines, starts, readings, edits, listings}
@@ -16,7 +16,7 @@ p & ps = next p ps
 
 -- row by row, in the order of the table
 computed : (o : List ℕ) → All (Computed o) cases
-unfolding lists numbers places spellings keys values blocks lines starts readings edits listings moveLine moveLines originLine variationLines textOf workedText workedListing listing cases
+unfolding lists numbers places spellings keys values blocks lines starts readings edits listings shortMove moveLines originLine variationLines textOf workedText workedListing listing cases
 computed o =
     (refl, (refl, refl))
     & (refl, (refl, refl))

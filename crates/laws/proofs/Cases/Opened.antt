@@ -18,13 +18,13 @@ use Rattle.block.specs.Sound.{sum, soundb}
 use Rattle.moves.specs.Moves.{squareAt, moveToAt, promoteAt, originAt, moveFromAt, kindToOriginAt, moveAt, whatAt, figureAt, hmsAt, msAt, clockAt, spacedAt, clocksAt, timeAt, finished, moveLineAt, remarkFrom, keptAt, commentLineAt, beginsNoSkip, skipLineAt}
 use Rattle.kakinoki.specs.Informations.{hashLineAt, hashLinesAt, paddedEndAt, presetLineAt, turnLineAt, pieceAt, pieceStep, piecesAt, handAt, heldAt, handLineAt, valueAt, keyValueAt, headerAt, keyedAt, handsOrKeyedAt, informationAt, informationItem, informationsAt, faultAt, tell, tellAll, pairsOf, headerPlacesFrom, headerPlacesAt}
 use Rattle.kakinoki.specs.Boards.{whiteAt, cellAt, cellsFrom, rowEndAt, rowAt, rowsFrom, boardAt}
-use Rattle.kakinoki.specs.Starts.{addHands, merged, positionOf, headersSaid, headerPlaces, startRead}
+use Rattle.kakinoki.specs.Starts.{addHands, merged, positionSaid, headersSaid, headerPlaces, startRead}
 use Rattle.plays.specs.Plays.{commentItem, commentsAt, entryItem, entriesAt, numberItem, numbersAt, inSequence, plyAt, skippedAt, skipsAt, playItem, variationItem, variationsAt, mainAt, playsAt}
 use Rattle.parser.specs.Parse.{headersOf, parse, needed}
 use Rattle.parser.specs.Read.{filledWith, readStored, earlyOf, faultless, fillOf}
 use Rattle.edit.specs.Edit.{fresh, isVariation, isPlyOf, carries, above, insertAt, insertOn, insert, notBelow, remove}
 use Rattle.edit.specs.Outcomes.{editStored, editedOf, putInOf, cutOf}
-use Rattle.shown.specs.Listing.{readText, refusalText, rowText, rowOf, rowsText, listingText}
+use Rattle.shown.specs.Listing.{readText, refusalText, rowText, listedRow, rowsText, listingText}
 
 unfoldable pub lists : Unit {0}
 unfolding repeatFrom manyFrom allBelow
@@ -59,7 +59,7 @@ unfolding squareAt moveToAt promoteAt originAt moveFromAt kindToOriginAt moveAt 
 lines = tt
 
 unfoldable pub starts : Unit {0}
-unfolding hashLineAt hashLinesAt paddedEndAt presetLineAt turnLineAt pieceAt pieceStep piecesAt handAt heldAt handLineAt valueAt keyValueAt headerAt keyedAt handsOrKeyedAt informationAt informationItem informationsAt faultAt tell tellAll pairsOf headerPlacesFrom headerPlacesAt whiteAt cellAt cellsFrom rowEndAt rowAt rowsFrom boardAt addHands merged positionOf headersSaid headerPlaces startRead
+unfolding hashLineAt hashLinesAt paddedEndAt presetLineAt turnLineAt pieceAt pieceStep piecesAt handAt heldAt handLineAt valueAt keyValueAt headerAt keyedAt handsOrKeyedAt informationAt informationItem informationsAt faultAt tell tellAll pairsOf headerPlacesFrom headerPlacesAt whiteAt cellAt cellsFrom rowEndAt rowAt rowsFrom boardAt addHands merged positionSaid headersSaid headerPlaces startRead
 starts = tt
 
 unfoldable pub readings : Unit {0}
@@ -71,5 +71,5 @@ unfolding fresh isVariation isPlyOf carries above insertAt insertOn insert notBe
 edits = tt
 
 unfoldable pub listings : Unit {0}
-unfolding readText refusalText rowText rowOf rowsText listingText
+unfolding readText refusalText rowText listedRow rowsText listingText
 listings = tt

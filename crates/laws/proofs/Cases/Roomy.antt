@@ -23,7 +23,7 @@ use Rattle.parser.specs.declared.Early.{Early}
 use Rattle.parser.specs.declared.Early.the-variants.{Refused, Passed}
 use Rattle.edit.specs.Edit.{Edited, edited, refused, insert, remove}
 use Rattle.edit.specs.Outcomes.{editStored, editedOf, putInOf, cutOf}
-use Rattle.laws.specs.CaseTexts.{moveLine, textOf}
+use Rattle.laws.specs.CaseTexts.{shortMove, textOf}
 use Rattle.laws.specs.Cases.{blockOf, listing, Result, Gives, Case, reads, puts, cuts, isFrom, isNoLine, counts, prints, Holds}
 
 -- a test that fails does not pass
@@ -95,7 +95,7 @@ edit-gives f s o given h i p =
 abbrev pub Computed : List ℕ → Case → Type 0
 Computed o (reads vs given) = (isRead (textOf vs) ≡ true) × Gives o given (filledWith (parse (textOf vs)) o)
 Computed o (puts vs line ply given) =
-    (isRead (textOf vs) ≡ true) × Edits (λ r. insert r line (moveLine ply)) (stored (textOf vs) o) o given
+    (isRead (textOf vs) ≡ true) × Edits (λ r. insert r line (shortMove ply)) (stored (textOf vs) o) o given
 Computed o (cuts vs line given) = (isRead (textOf vs) ≡ true) × Edits (λ r. remove r line) (stored (textOf vs) o) o given
 Computed o (isFrom n x y) = Holds o (isFrom n x y)
 Computed o (isNoLine n) = Holds o (isNoLine n)
@@ -105,7 +105,7 @@ Computed o (prints t listed) = (isRead t ≡ true) × (listing (filledWith (pars
 row : (o : List ℕ) → 600 ≤ length o → (c : Case) → Computed o c → Holds o c
 unfolding putInOf cutOf
 row o h (reads vs given) p = subst (λ (r : Outcome). Gives o given r) (sym (read-is (textOf vs) o h (p .0))) (p .1)
-row o h (puts vs line ply given) p = edit-gives (λ r. insert r line (moveLine ply)) (textOf vs) o given h (p .0) (p .1)
+row o h (puts vs line ply given) p = edit-gives (λ r. insert r line (shortMove ply)) (textOf vs) o given h (p .0) (p .1)
 row o h (cuts vs line given) p = edit-gives (λ r. remove r line) (textOf vs) o given h (p .0) (p .1)
 row o h (isFrom n x y) p = p
 row o h (isNoLine n) p = p

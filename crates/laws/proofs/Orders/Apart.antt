@@ -18,7 +18,7 @@ use Rattle.jkf.specs.Model.{Line}
 use Rattle.jkf.specs.Attaching.{Play, play, starts, counts, parentIn, attach}
 use Rattle.block.specs.Formed.{lineOf}
 use Rattle.block.proofs.Attached.{attach-length, attach-line}
-use Rattle.edit.specs.Edit.{isPlyOf, carries, placeOf, putIn, renumbered}
+use Rattle.edit.specs.Edit.{isPlyOf, carries, placeOf, withPlay, renumbered}
 use Rattle.edit.proofs.Nearing.{put-kept, renumbered-low, renumbered-high}
 use Rattle.edit.proofs.Placing.{PutsIn, unmet, place-past, place-within, put-length, put-starts, put-counts}
 use Rattle.edit.proofs.Keeping.{still-lines, kept-after-put, new-parent}
@@ -53,7 +53,7 @@ module _ (ps : List Play) (k : ℕ) (v : Play) (ok : PutsIn ps k (v .start)) (l 
   n = placeOf ps k (v .start)
 
   abbrev qs : List Play
-  qs = putIn (placeOf ps k (v .start)) v ps
+  qs = withPlay (placeOf ps k (v .start)) v ps
 
   fits : n ≤ length ps
   fits = place-within ps k (v .start) ok

@@ -16,7 +16,7 @@ use Rattle.block.specs.Encode.{encode}
 use Rattle.block.specs.Decode.{decode}
 use Rattle.block.specs.Formed.{Formed}
 use Rattle.plays.specs.Plays.{plyAt}
-use Rattle.edit.specs.Edit.{playsIn, isVariation, variationOf, placeOf, putIn, renumbered}
+use Rattle.edit.specs.Edit.{playsIn, isVariation, variationOf, placeOf, withPlay, renumbered}
 use Rattle.edit.specs.inner.Splicing.{relined}
 use Rattle.edit.proofs.Placing.{PutsIn}
 use Rattle.edit.proofs.Sounds.{plays-back}
@@ -63,7 +63,7 @@ module _ (b : List ℕ) (p q : PutAsked) where
     second-block : blockFor (blockFor b p) second ≡ blockThen
     second-block =
         ap encode (relined-after b p g (putLines (blockFor b p) (second .line) (q .text)))
-        ∙ ap (λ (ps : List Play). encode (relined (decode b) (putIn (placeOf ps (second .line) (plyAt (q .text) 0)) (variationOf (q .text)) ps))) (plays-after b p g)
+        ∙ ap (λ (ps : List Play). encode (relined (decode b) (withPlay (placeOf ps (second .line) (plyAt (q .text) 0)) (variationOf (q .text)) ps))) (plays-after b p g)
 
   -- ---- the order
 

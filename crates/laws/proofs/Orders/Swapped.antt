@@ -14,7 +14,7 @@ use mathlib.Core.List.{List, [], _∷_}
 use mathlib.Core.Logic.{_⊎_, inl, inr, ⊎-elim}
 use lib.ListN.{length, drop}
 use Rattle.jkf.specs.Attaching.{near, Play, starts}
-use Rattle.edit.specs.Edit.{above, placeOf, putIn, renumbered}
+use Rattle.edit.specs.Edit.{above, placeOf, withPlay, renumbered}
 use Rattle.edit.proofs.Leading.{Runs, above-leads, behind}
 use Rattle.edit.proofs.Nearing.{near-is, put-kept, renumbered-low, renumbered-high}
 use Rattle.edit.proofs.Placing.{PutsIn, ply-low, place-past, place-within, place-above, place-next, put-length, put-starts}
@@ -23,7 +23,7 @@ use Rattle.laws.proofs.Orders.NewNumbers.{renumbered-most, renumbered-l
 -- ---- the list
 
 -- two elements put in, the one with the earlier place first or last
-put-put : (n m : ℕ) (v w : Play) (ps : List Play) → n ≤ m → m ≤ length ps → putIn (suc m) w (putIn n v ps) ≡ putIn n v (putIn m w ps)
+put-put : (n m : ℕ) (v w : Play) (ps : List Play) → n ≤ m → m ≤ length ps → withPlay (suc m) w (withPlay n v ps) ≡ withPlay n v (withPlay m w ps)
 put-put zero m v w ps h l = refl
 put-put (suc n) zero v w ps h l = absurd (omega arith)
 put-put (suc n) (suc m) v w [] h l = absurd (omega arith)
@@ -51,11 +51,11 @@ place-only ps k j n a b each next = go (decLt m n) (decLt n m)
 -- the number that w gets
 abbrev pub placeThen : List Play → ℕ → Play → ℕ → Play → ℕ
 placeThen ps k v l w =
-    let n = placeOf ps k (v .start) in placeOf (putIn n v ps) (renumbered n l) (w .start)
+    let n = placeOf ps k (v .start) in placeOf (withPlay n v ps) (renumbered n l) (w .start)
 
 -- the lines after both
 abbrev pub linesThen : List Play → ℕ → Play → ℕ → Play → List Play
-linesThen ps k v l w = putIn (placeThen ps k v l w) w (putIn (placeOf ps k (v .start)) v ps)
+linesThen ps k v l w = withPlay (placeThen ps k v l w) w (withPlay (placeOf ps k (v .start)) v ps)
 
 module _ (ps : List Play) (k : ℕ) (v : Play) (l : ℕ) (w : Play) where
   -- v is the one that stands first
@@ -77,7 +77,7 @@ module _ (ps : List Play) (k : ℕ) (v : Play) (l : ℕ) (w : Play) (ok : PutsIn
   m = placeOf ps l (w .start)
 
   abbrev qs : List Play
-  qs = putIn (placeOf ps k (v .start)) v ps
+  qs = withPlay (placeOf ps k (v .start)) v ps
 
   one-more : length qs ≡ length ps + 1
   one-more = put-length ps n v (place-within ps k (v .start) ok)
@@ -141,9 +141,9 @@ module _ (ps : List Play) where
   lines-settled k v l w ask x =
       let n = placeOf ps k (v .start) in
       let m = placeOf ps l (w .start) in
-      ap (λ (i : ℕ). putIn i w (putIn n v ps)) (x .up ∙ add-one m)
+      ap (λ (i : ℕ). withPlay i w (withPlay n v ps)) (x .up ∙ add-one m)
       ∙ put-put n m v w ps (x .first) (place-within ps l (w .start) ask)
-      ∙ sym (ap (λ (i : ℕ). putIn i v (putIn m w ps)) (x .stays))
+      ∙ sym (ap (λ (i : ℕ). withPlay i v (withPlay m w ps)) (x .stays))
 
   module _ (k : ℕ) (v : Play) (l : ℕ) (w : Play) (ok : PutsIn ps k (v .start)) (ask : PutsIn ps l (w .start)) (apart : k ≡ l → v .start ≡ w .start → ⊥) where
     one-first : Settled ps k v l w ⊎ Settled ps l w k v

@@ -8,7 +8,7 @@ use lib.ListN.{length, getD}
 use lib.Dec.{eqb}
 use Rattle.lists.specs.Pick.{pick}
 use Rattle.text.specs.Text.{cursor, isDigit, standsAt}
-use Rattle.spell.specs.Spell.{firstOf, numberOf}
+use Rattle.spell.specs.Spell.{firstOf, numberSpelled}
 use Rattle.spell.specs.inner.Codes.{threeAt}
 use Rattle.spell.specs.Tables.{kinds, numerals}
 use Rattle.spell.specs.declared.Spelled.the-variants.{As}
@@ -56,11 +56,11 @@ pub record Usual (s : List ℕ) (at : ℕ) : Type 0 where
 
 -- The target at a place: 同, or a full-width digit and a numeral.
 unfoldable pub aimOf : List ℕ → ℕ → Target
-aimOf s at = pick (eqb (getD s at 0) 229) Same (Square (getD s (at + 2) 0 - 144) (numberOf numerals (threeAt s (at + 3))))
+aimOf s at = pick (eqb (getD s at 0) 229) Same (Square (getD s (at + 2) 0 - 144) (numberSpelled numerals (threeAt s (at + 3))))
 
 -- The kind after it: 成 and the kind that was promoted, or a kind of one character.
 unfoldable pub kindOf : List ℕ → ℕ → ℕ
-kindOf s at = pick (standsAt promotes s (at + 6)) (numberOf kinds (promotes ++ threeAt s (at + 9))) (numberOf kinds (threeAt s (at + 6)))
+kindOf s at = pick (standsAt promotes s (at + 6)) (numberSpelled kinds (promotes ++ threeAt s (at + 9))) (numberSpelled kinds (threeAt s (at + 6)))
 
 -- The mark of a move of so many bytes: 13 leave room for none, and 成 before the kind is none.
 unfoldable pub markOf : List ℕ → ℕ → ℕ → ℕ

@@ -5,7 +5,7 @@ use native.Mathlib.Omega.{arith}
 use mathlib.Core.Path.{_≡_, refl, ap, _∙_}
 use mathlib.Core.List.{[], _∷_}
 use Rattle.spell.specs.Tables.{kinds}
-use Rattle.spell.specs.Spell.{numberOf}
+use Rattle.spell.specs.Spell.{numberSpelled}
 use Rattle.spell.specs.inner.Slots.{numberIn, kindSlots}
 use Rattle.spell.proofs.Lookups.{slot-number, number-some, number-none}
 use borrow.Author.Needs.{needs}
@@ -19,7 +19,7 @@ kind-row-requires : tie.Need-kind-row-requires
 kind-row-requires c κs = tt
 
 -- what the slots say, the spellings say
-by-slot : (c : tie.After-code) → numberIn kindSlots 35 (c .code .result) ≡ numberOf kinds (c .before .args .a ∷ c .before .args .b ∷ c .before .args .c ∷ [])
+by-slot : (c : tie.After-code) → numberIn kindSlots 35 (c .code .result) ≡ numberSpelled kinds (c .before .args .a ∷ c .before .args .b ∷ c .before .args .c ∷ [])
 by-slot c = ap (numberIn kindSlots 35) (c .code .ensures) ∙ slot-number kinds kindSlots 35 refl refl refl _ _ _ (omega arith) (omega arith) (omega arith)
 
 returns : tie.Need-returns

@@ -5,7 +5,7 @@ use mathlib.Core.Path.{_≡_, ap, _∙_}
 use mathlib.Core.List.{[], _∷_, _++_}
 use Rattle.spell.specs.Tables.{kinds}
 use Rattle.spell.specs.Words.{promotes}
-use Rattle.spell.specs.Spell.{numberOf}
+use Rattle.spell.specs.Spell.{numberSpelled}
 use Rattle.spell.specs.inner.Slots.{promotedOf}
 use Rattle.spell.proofs.Lookups.{promoted-number, promoted-low, promoted-high, promoted-some}
 use borrow.Author.Needs.{needs}
@@ -16,7 +16,7 @@ kind-of-requires : tie.Need-kind-of-requires
 kind-of-requires c κs = tt
 
 -- 成 and what was found are spelled so
-spelled-so : (c : tie.After-kind-of) → promotedOf (c .kind-of .result) ≡ numberOf kinds (promotes ++ (c .before .args .a ∷ c .before .args .b ∷ c .before .args .c ∷ []))
+spelled-so : (c : tie.After-kind-of) → promotedOf (c .kind-of .result) ≡ numberSpelled kinds (promotes ++ (c .before .args .a ∷ c .before .args .b ∷ c .before .args .c ∷ []))
 spelled-so c = ap promotedOf (c .kind-of .ensures) ∙ promoted-number _ _ _ (omega arith) (omega arith) (omega arith)
 
 returns : tie.Need-returns

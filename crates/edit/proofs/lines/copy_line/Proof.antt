@@ -5,7 +5,7 @@ use mathlib.Core.Path.{ap₂}
 use denote.Ref.{now}
 use Rattle.block.specs.Decode.{run, notedIn}
 use Rattle.edit.specs.inner.Splicing.{playIn}
-use Rattle.edit.proofs.Sounds.{entries-within}
+use Rattle.block.proofs.Within.{entries-within}
 use Rattle.edit.proofs.Hung.{play-made}
 use borrow.Author.Needs.{needs}
 use Rattle.edit.proofs.lines.copy_line.Statement.{statement}

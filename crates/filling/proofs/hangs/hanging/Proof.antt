@@ -9,11 +9,6 @@ use Rattle.filling.proofs.Hooking.{first-hangs, later-hangs}
 use borrow.Author.Needs.{needs}
 use Rattle.filling.proofs.hangs.hanging.Statement.{statement}
 use Rattle.filling.proofs.hangs.hanging.Tie as tie
-use Rattle.filling.proofs.hangs.hanging.Reads as reads
-use Rattle.filling.proofs.hangs.hanging.Lts as lts
-use Rattle.filling.proofs.hangs.less.Reads as less-reads
-use Rattle.filling.proofs.hangs.rest.Reads as rest-reads
-use Rattle.jkf.proofs.hang_of.Reads as hang-of-reads
 
 less-requires : tie.Need-less-requires
 less-requires c κs = search needs

@@ -1,6 +1,6 @@
 -- With a board and without one, the position is the definition's.
 -- Assumes nothing.
-use Rattle.kakinoki.specs.Starts.{positionOf}
+use Rattle.kakinoki.specs.Starts.{positionSaid}
 use Rattle.kakinoki.proofs.starts.position.Statement.{statement}
 use Rattle.kakinoki.proofs.starts.position.Tie as tie
 
@@ -11,14 +11,14 @@ both-hands-requires : tie.Need-both-hands-requires
 both-hands-requires c κs = tt
 
 returns : tie.Need-returns
-unfolding positionOf
+unfolding positionSaid
 returns c = rw (c .before .before .if1 .taken, ← c .before .or-else .ensures, ← c .both-hands .ensures)
 
 or-else-requires-2 : tie.Need-or-else-requires-2
 or-else-requires-2 c κs = tt
 
 returns-2 : tie.Need-returns-2
-unfolding positionOf
+unfolding positionSaid
 returns-2 c = rw (c .before .if1 .left, ← c .or-else2 .ensures)
 
 pub position-spec : {M : Type 1} → statement M

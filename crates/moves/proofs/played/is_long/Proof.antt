@@ -8,7 +8,7 @@ use mathlib.Core.List.{_++_}
 use denote.Ref.{now}
 use borrow.Author.Tests.{eqb-false, not-true, not-false}
 use Rattle.spell.specs.Tables.{kinds}
-use Rattle.spell.specs.Spell.{numberOf}
+use Rattle.spell.specs.Spell.{numberSpelled}
 use Rattle.spell.specs.Words.{promotes}
 use Rattle.moves.proofs.Usually.{by-three, long-named, marked-named}
 use borrow.Author.Needs.{needs}
@@ -57,7 +57,7 @@ returns-2 c =
     λ e. long-named (now (a .s)) (λ i. omega (arith, c .before .before .before .before .before .before .before .before .shared-slice-known .given i)) (a .at) (c .promoted-of .result) (eqb-false _ _ (not-true _ e)) (c .before .before .before .before .before .before .before .before .before .pre)
     (c .before .before .before .before .before .before .before .is-bracketed .ensures (not-false _ (c .before .before .before .before .before .before .if1 .left)))
     (sym (c .before .before .before .before .before .is-promotion .ensures) ∙ c .before .before .before .before .if2 .taken)
-    (by-three (now (a .s)) (λ t. numberOf kinds (promotes ++ t)) (a .at + 9) (a .at + 10) (a .at + 11) _ (omega arith) (omega arith) (c .promoted-of .ensures))
+    (by-three (now (a .s)) (λ t. numberSpelled kinds (promotes ++ t)) (a .at + 9) (a .at + 10) (a .at + 11) _ (omega arith) (omega arith) (c .promoted-of .ensures))
 
 add-is-promotion-2 : tie.Need-add-is-promotion-2
 add-is-promotion-2 c = search needs
@@ -96,7 +96,7 @@ returns-4 c =
     (c .before .before .before .before .before .before .before .before .before .is-bracketed .ensures (not-false _ (c .before .before .before .before .before .before .before .before .if1 .left)))
     (sym (c .before .before .before .before .before .before .before .is-promotion .ensures) ∙ c .before .before .before .before .before .before .if2 .left)
     (sym (c .before .before .before .before .before .is-promotion2 .ensures) ∙ not-false _ (c .before .before .before .before .if3 .left))
-    (by-three (now (a .s)) (numberOf kinds) (a .at + 6) (a .at + 7) (a .at + 8) _ (omega arith) (omega arith) (c .kind-of .ensures))
+    (by-three (now (a .s)) (numberSpelled kinds) (a .at + 6) (a .at + 7) (a .at + 8) _ (omega arith) (omega arith) (c .kind-of .ensures))
 
 pub is-long-spec : {M : Type 1} → statement M
 is-long-spec =

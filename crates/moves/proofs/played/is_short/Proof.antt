@@ -6,7 +6,7 @@ use mathlib.Core.Bool.{false≢true}
 use denote.Ref.{now}
 use borrow.Author.Tests.{eqb-false, not-true, not-false}
 use Rattle.spell.specs.Tables.{kinds}
-use Rattle.spell.specs.Spell.{numberOf}
+use Rattle.spell.specs.Spell.{numberSpelled}
 use Rattle.moves.proofs.Usually.{by-three, short-named}
 use borrow.Author.Needs.{needs}
 use Rattle.moves.proofs.played.is_short.Statement.{statement}
@@ -47,7 +47,7 @@ returns-2 c =
     let a = c .before .before .before .before .before .before .before .args in
     λ e. short-named (now (a .s)) (λ i. omega (arith, c .before .before .before .before .before .before .shared-slice-known .given i)) (a .at) (c .kind-of .result) (eqb-false _ _ (not-true _ e)) (c .before .before .before .before .before .before .before .pre)
     (c .before .before .before .before .before .is-bracketed .ensures (not-false _ (c .before .before .before .before .if1 .left)))
-    (by-three (now (a .s)) (numberOf kinds) (a .at + 6) (a .at + 7) (a .at + 8) _ (omega arith) (omega arith) (c .kind-of .ensures))
+    (by-three (now (a .s)) (numberSpelled kinds) (a .at + 6) (a .at + 7) (a .at + 8) _ (omega arith) (omega arith) (c .kind-of .ensures))
 
 pub is-short-spec : {M : Type 1} → statement M
 is-short-spec =

@@ -6,7 +6,7 @@ use mathlib.Core.Bool.{false≢true}
 use denote.Ref.{now}
 use borrow.Author.Tests.{eqb-false, not-true}
 use Rattle.spell.specs.Tables.{numerals}
-use Rattle.spell.specs.Spell.{numberOf}
+use Rattle.spell.specs.Spell.{numberSpelled}
 use Rattle.moves.proofs.Usually.{by-three, square-aimed}
 use borrow.Author.Needs.{needs}
 use Rattle.moves.proofs.played.is_square.Statement.{statement}
@@ -71,7 +71,7 @@ returns-5 c =
     let a = c .before .before .before .before .before .before .before .before .before .before .before .before .before .args in
     λ e. square-aimed (now (a .s)) (λ i. omega (arith, c .before .before .before .before .before .before .before .before .before .before .before .before .shared-slice-known .given i)) (a .at) (c .numeral-of .result) (eqb-false _ _ (not-true _ e)) (c .before .before .before .before .before .before .before .before .before .before .before .before .before .pre)
     (c .before .before .before .before .before .before .before .before .before .before .if1 .left) (c .before .before .before .before .before .before .before .before .if2 .left) (c .before .before .before .before .before .before .if3 .left) (c .before .before .before .before .if4 .left)
-    (by-three (now (a .s)) (numberOf numerals) (a .at + 3) (a .at + 4) (a .at + 5) _ (omega arith) (omega arith) (c .numeral-of .ensures))
+    (by-three (now (a .s)) (numberSpelled numerals) (a .at + 3) (a .at + 4) (a .at + 5) _ (omega arith) (omega arith) (c .numeral-of .ensures))
 
 pub is-square-spec : {M : Type 1} → statement M
 is-square-spec =

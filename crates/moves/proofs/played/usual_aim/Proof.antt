@@ -5,7 +5,7 @@ use native.Mathlib.Omega.{arith}
 use denote.Ref.{now}
 use borrow.Author.Tests.{eq-eqb, ne-eqb}
 use Rattle.spell.specs.Tables.{numerals}
-use Rattle.spell.specs.Spell.{numberOf}
+use Rattle.spell.specs.Spell.{numberSpelled}
 use Rattle.moves.specs.inner.Usuals.{aimOf}
 use Rattle.moves.proofs.Usually.{by-three}
 use borrow.Author.Needs.{needs}
@@ -51,7 +51,7 @@ numeral-of-requires c κs = tt
 
 returns-2 : tie.Need-returns-2
 unfolding aimOf
-returns-2 c = let a = c .before .before .before .before .before .before .before .before .args in rw (ne-eqb _ _ (c .before .before .before .before .before .if1 .left), ← by-three (now (a .s)) (numberOf numerals) (a .at + 3) (a .at + 4) (a .at + 5) _ (omega arith) (omega arith) (c .numeral-of .ensures))
+returns-2 c = let a = c .before .before .before .before .before .before .before .before .args in rw (ne-eqb _ _ (c .before .before .before .before .before .if1 .left), ← by-three (now (a .s)) (numberSpelled numerals) (a .at + 3) (a .at + 4) (a .at + 5) _ (omega arith) (omega arith) (c .numeral-of .ensures))
 
 pub usual-aim-spec : {M : Type 1} → statement M
 usual-aim-spec =

@@ -5,7 +5,7 @@ use native.Mathlib.Omega.{arith}
 use mathlib.Core.List.{_++_}
 use denote.Ref.{now}
 use Rattle.spell.specs.Tables.{kinds}
-use Rattle.spell.specs.Spell.{numberOf}
+use Rattle.spell.specs.Spell.{numberSpelled}
 use Rattle.spell.specs.Words.{promotes}
 use Rattle.moves.specs.inner.Usuals.{kindOf}
 use Rattle.moves.proofs.Usually.{by-three}
@@ -42,7 +42,7 @@ promoted-of-requires c κs = tt
 
 returns : tie.Need-returns
 unfolding kindOf
-returns c = let a = c .before .before .before .before .before .before .before .args in rw (← c .before .before .before .before .before .is-promotion .ensures, c .before .before .before .before .if1 .taken) (by-three (now (a .s)) (λ t. numberOf kinds (promotes ++ t)) (a .at + 9) (a .at + 10) (a .at + 11) _ (omega arith) (omega arith) (c .promoted-of .ensures))
+returns c = let a = c .before .before .before .before .before .before .before .args in rw (← c .before .before .before .before .before .is-promotion .ensures, c .before .before .before .before .if1 .taken) (by-three (now (a .s)) (λ t. numberSpelled kinds (promotes ++ t)) (a .at + 9) (a .at + 10) (a .at + 11) _ (omega arith) (omega arith) (c .promoted-of .ensures))
 
 add-kind-of : tie.Need-add-kind-of
 add-kind-of c = search needs
@@ -67,7 +67,7 @@ kind-of-requires c κs = tt
 
 returns-2 : tie.Need-returns-2
 unfolding kindOf
-returns-2 c = let a = c .before .before .before .before .before .before .before .args in rw (← c .before .before .before .before .before .is-promotion .ensures, c .before .before .before .before .if1 .left) (by-three (now (a .s)) (numberOf kinds) (a .at + 6) (a .at + 7) (a .at + 8) _ (omega arith) (omega arith) (c .kind-of .ensures))
+returns-2 c = let a = c .before .before .before .before .before .before .before .args in rw (← c .before .before .before .before .before .is-promotion .ensures, c .before .before .before .before .if1 .left) (by-three (now (a .s)) (numberSpelled kinds) (a .at + 6) (a .at + 7) (a .at + 8) _ (omega arith) (omega arith) (c .kind-of .ensures))
 
 pub usual-kind-spec : {M : Type 1} → statement M
 usual-kind-spec =

@@ -1,6 +1,6 @@
 -- The slot and its comments, and the line after them.
 -- Assumes nothing.
-use Rattle.parser.proofs.Sizing.{main-small, main-made}
+use Rattle.parser.proofs.Sizing.{main-small, counted-past, main-made}
 use Rattle.plays.specs.Counted.{remarksAt}
 use mathlib.Core.Path.{ap, _∙_}
 use native.Mathlib.Omega.{arith}
@@ -29,12 +29,12 @@ add-t8 : tie.Need-add-t8
 add-t8 c = let a = c .before .before .before .before .before .before .before .before .before in let s = a .args .s .now in
     let b = main-small s (a .args .c .at) (a .pre) (search needs) (c .before .before .before .before .before .count-moves .result) (c .before .before .before .before .before .before .count-comments .result) (c .before .before .before .before .before .before .count-comments .ensures ∙ ap (remarksAt s) (c .before .before .before .before .before .before .before .skipped .ensures)) (c .before .before .before .before .before .count-moves .ensures) in omega (arith, b .2)
 
-past-line-requires : tie.Need-past-line-requires
-past-line-requires c κs = search needs
+past-requires : tie.Need-past-requires
+past-requires c κs = search needs
 
 returns : tie.Need-returns
 returns c = let a = c .before .before .before .before .before .before .before .before .before .before in let s = a .args .s .now in
-    main-made s (a .args .c .at) (c .before .before .before .before .before .before .count-moves .result) (c .before .before .before .before .before .before .before .count-comments .result) (c .past-line .result) (c .before .before .before .before .before .before .before .count-comments .ensures ∙ ap (remarksAt s) (c .before .before .before .before .before .before .before .before .skipped .ensures)) (c .before .before .before .before .before .before .count-moves .ensures) (c .past-line .ensures)
+    main-made s (a .args .c .at) (c .before .before .before .before .before .before .count-moves .result) (c .before .before .before .before .before .before .before .count-comments .result) (c .past .result) (c .before .before .before .before .before .before .before .count-comments .ensures ∙ ap (remarksAt s) (c .before .before .before .before .before .before .before .before .skipped .ensures)) (c .before .before .before .before .before .before .count-moves .ensures) (c .past .ensures ∙ counted-past s (a .args .c .at) (c .before .before .before .before .before .before .before .count-comments .result .next .at) (c .before .before .before .before .before .before .count-moves .result) (c .before .before .before .before .before .before .count-moves .ensures))
 
 pub count-main-spec : {M : Type 1} → statement M
 count-main-spec =
@@ -46,5 +46,5 @@ count-main-spec =
     add-t6
     add-t7
     add-t8
-    past-line-requires
+    past-requires
     returns)

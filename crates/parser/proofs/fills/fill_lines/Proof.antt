@@ -12,7 +12,7 @@ use Rattle.filling.specs.inner.Parts.{LinesFit, Lined}
 use Rattle.filling.specs.declared.Walk.{Walk}
 use Rattle.plays.specs.Plays.{slotAt, pastMain, playsAt}
 use Rattle.parser.specs.inner.Lines.{mainLine, hanging}
-use Rattle.parser.proofs.Lining.{Lining, main-fits, lining-start, next-grows, next-long, next-none, next-less, next-row, next-lost, next-more}
+use Rattle.parser.proofs.Lining.{Lining, main-fits, lining-start, next-long, next-none, next-less, next-row, next-lost, next-more}
 use Rattle.jkf.specs.declared.Hang.the-variants.{On, Nowhere}
 use Rattle.filling.proofs.Hooking.{hooked-size, row-told, none-told}
 use borrow.Author.Needs.{needs}
@@ -73,7 +73,7 @@ skipped-requires : tie.Need-skipped-requires Inv-loop μ-loop
 skipped-requires c κs = tt
 
 add-k : tie.Need-add-k Inv-loop μ-loop
-add-k c = let a = c .before .before .before .before .before .before .before .before .before .before .before .before .before .before .before .before .before .before .before .before .before .before .before .before .before .before .before in let l = c .before .before .before .before .before .before .before .before .before .before .before .before .before .before .before .before .before .before .loop in let m = c .before .before .before .before .before .before .before .before .before .before .before .before .before .before .before .before .before .before .before .before .before .before .before .fill-main .ensures in let k = c .before .before .before .before .before .before .before .before .before .before .before .before .before .before .before .before .before .skips in let r = c .before .before .before .before .before .before .before .before .before .before .before .before .before .before .before .fill-moves in let n = next-row (a .args .s .now) (a .args .c .at) (a .args .w) (a .args .out .now) (a .pre) (l .k) (l .walk) (l .next .at) (l .out) (l .inv (a .args .c .at) (a .args .w) (a .args .out .now) refl (a .pre) (m .0) (m .1)) (k .result) (k .ensures) (r .result) _ (r .ensures .0) (r .ensures .1 .0) (r .ensures .1 .1) (c .before .before .before .before .before .before .before .before .before .if1 .left) in omega (arith, n .1, a .pre .lines, attach-length (playsAt (a .args .s .now) (a .args .c .at) .state))
+add-k c = let a = c .before .before .before .before .before .before .before .before .before .before .before .before .before .before .before .before .before .before .before .before .before .before .before .before .before .before .before in let l = c .before .before .before .before .before .before .before .before .before .before .before .before .before .before .before .before .before .before .loop in let m = c .before .before .before .before .before .before .before .before .before .before .before .before .before .before .before .before .before .before .before .before .before .before .before .fill-main .ensures in let k = c .before .before .before .before .before .before .before .before .before .before .before .before .before .before .before .before .before .skips in let r = c .before .before .before .before .before .before .before .before .before .before .before .before .before .before .before .fill-moves in let n = next-row (a .args .s .now) (a .args .c .at) (a .args .w) (a .args .out .now) (a .pre) (l .k) (l .walk) (l .next .at) (l .out) (l .inv (a .args .c .at) (a .args .w) (a .args .out .now) refl (a .pre) (m .0) (m .1)) (k .result) (k .ensures) (r .result) _ (r .ensures .0) (r .ensures .1 .0) (r .ensures .1 .1) (c .before .before .before .before .before .before .before .before .before .if1 .left) in omega (arith, n, a .pre .lines, attach-length (playsAt (a .args .s .now) (a .args .c .at) .state))
 
 loop-less : tie.Need-loop-less Inv-loop μ-loop
 loop-less c = let a = c .before .before .before .before .before .before .before .before .before .before .before .before .before .before .before .before .before .before .before .before .before .before .before .before .before .before .before in let l = c .before .before .before .before .before .before .before .before .before .before .before .before .before .before .before .before .before .before .loop in let m = c .before .before .before .before .before .before .before .before .before .before .before .before .before .before .before .before .before .before .before .before .before .before .before .fill-main .ensures in let k = c .before .before .before .before .before .before .before .before .before .before .before .before .before .before .before .before .before .skips in let r = c .before .before .before .before .before .before .before .before .before .before .before .before .before .before .before .fill-moves in let n = next-less (a .args .s .now) (a .args .c .at) (a .args .w) (a .args .out .now) (a .pre) (l .k) (l .walk) (l .next .at) (l .out) (l .inv (a .args .c .at) (a .args .w) (a .args .out .now) refl (a .pre) (m .0) (m .1)) (k .result) (k .ensures) (r .result) _ (r .ensures .0) (r .ensures .1 .0) (r .ensures .1 .1) (c .before .before .before .before .before .before .before .before .before .if1 .left) (c .skipped .result) (c .skipped .ensures) in omega (arith, n .0, n .1)

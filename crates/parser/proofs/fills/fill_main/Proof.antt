@@ -1,7 +1,9 @@
--- The slot, the entries and the row are those of the main line.
+-- The slot, the entries and the row are those of the main line, and the row hangs on nothing.
 -- Assumes nothing.
 use native.Mathlib.Omega.{arith}
-use Rattle.parser.proofs.Mains.{main-grows, main-past, main-lined}
+use mathlib.Core.Path.{sym, _∙_}
+use Rattle.parser.proofs.Mains.{slot-grows, past-main, main-lined, main-hangs}
+use Rattle.lent.proofs.Regions.{filled-length}
 use borrow.Author.Needs.{needs}
 use Rattle.parser.proofs.fills.fill_main.Statement.{statement}
 use Rattle.parser.proofs.fills.fill_main.Tie as tie
@@ -15,24 +17,36 @@ fill-slot-requires c κs = search needs
 fill-moves-requires : tie.Need-fill-moves-requires
 fill-moves-requires c κs = search needs
 
-sub-put-line : tie.Need-sub-put-line
-sub-put-line c = let a = c .before .before .before .before .before .before .before .before .before .before .before .before .before .before .before in let s = c .before .before .before .before .before .before .before .before .before .before .fill-slot in let m = c .before .before .before .before .before .before .fill-moves in
-    omega (arith, main-grows (a .args .s .now) (a .args .c .at) (a .args .w) (a .args .out .now) (a .pre) (c .before .before .before .before .before .before .before .before .before .before .before .before .skipped .result) (s .result) _ (c .before .before .before .before .before .before .before .before .before .before .before .before .skipped .ensures) (s .ensures .0) (s .ensures .1 .0) (s .ensures .1 .1) (m .result) _ (m .ensures .0) (m .ensures .1 .0) (m .ensures .1 .1))
+sub-past : tie.Need-sub-past
+sub-past c = omega (arith, slot-grows (c .before .before .before .before .before .before .before .before .before .before .before .before .before .before .before .args .s .now) (c .before .before .before .before .before .before .before .before .before .before .before .before .before .before .before .args .c .at) (c .before .before .before .before .before .before .before .before .before .before .before .before .before .before .before .args .w) (c .before .before .before .before .before .before .before .before .before .before .before .before .before .before .before .args .out .now) (c .before .before .before .before .before .before .before .before .before .before .before .before .before .before .before .pre) (c .before .before .before .before .before .before .before .before .before .before .before .before .skipped .result) (c .before .before .before .before .before .before .before .before .before .before .fill-slot .result) _ (c .before .before .before .before .before .before .before .before .before .before .before .before .skipped .ensures) (c .before .before .before .before .before .before .before .before .before .before .fill-slot .ensures .0) (c .before .before .before .before .before .before .before .before .before .before .fill-slot .ensures .1 .0) (c .before .before .before .before .before .before .before .before .before .before .fill-slot .ensures .1 .1) (c .before .before .before .before .before .fill-moves .result) _ (c .before .before .before .before .before .fill-moves .ensures .0) (c .before .before .before .before .before .fill-moves .ensures .1 .0) (c .before .before .before .before .before .fill-moves .ensures .1 .1))
 
-put-line-requires : tie.Need-put-line-requires
-put-line-requires c κs = search needs
+past-requires : tie.Need-past-requires
+past-requires c κs = search needs
 
-past-entries-requires : tie.Need-past-entries-requires
-past-entries-requires c κs = search needs
+hang-line-requires : tie.Need-hang-line-requires
+hang-line-requires c κs = search needs
+
+enum-known-walk : tie.Need-enum-known-walk
+enum-known-walk c = c .match .keys1
+
+enum-told : tie.Need-enum-told
+enum-told c = c .match .keys2
 
 same-length : tie.Need-same-length
 same-length c = search needs
 
 returns : tie.Need-returns
-returns c = let a = c .before .before .before .before .before .before .before .before .before .before .before .before .before .before .before .before .before .before .before in let s = c .before .before .before .before .before .before .before .before .before .before .before .before .before .before .fill-slot in let m = c .before .before .before .before .before .before .before .before .before .before .fill-moves in let p = c .before .before .before .put-line .ensures in (
-  main-lined (a .args .s .now) (a .args .c .at) (a .args .w) (a .args .out .now) (a .pre) (c .before .before .before .before .before .before .before .before .before .before .before .before .before .before .before .before .skipped .result) (s .result) _ (c .before .before .before .before .before .before .before .before .before .before .before .before .before .before .before .before .skipped .ensures) (s .ensures .0) (s .ensures .1 .0) (s .ensures .1 .1) (m .result) _ (m .ensures .0) (m .ensures .1 .0) (m .ensures .1 .1) (p .0) (p .1),
-  main-past (a .args .s .now) (a .args .c .at) (a .args .w) (a .args .out .now) (a .pre) (c .before .before .before .before .before .before .before .before .before .before .before .before .before .before .before .before .skipped .result) (s .result) _ (c .before .before .before .before .before .before .before .before .before .before .before .before .before .before .before .before .skipped .ensures) (s .ensures .0) (s .ensures .1 .0) (s .ensures .1 .1) (m .result) _ (m .ensures .0) (m .ensures .1 .0) (m .ensures .1 .1) (c .past-entries .result) (c .past-entries .ensures),
-)
+returns c = main-hangs (c .before .before .before .before .before .before .before .before .before .before .before .before .before .before .before .before .before .before .before .before .before .before .args .s .now) (c .before .before .before .before .before .before .before .before .before .before .before .before .before .before .before .before .before .before .before .before .before .before .args .c .at) (c .before .before .before .before .before .before .before .before .before .before .before .before .before .before .before .before .before .before .before .before .before .before .args .w) (c .before .before .before .before .before .before .before .before .before .before .before .before .before .before .before .before .before .before .before .before .before .before .args .out .now) (c .before .before .before .before .before .before .before .before .before .before .before .before .before .before .before .before .before .before .before .before .before .before .pre) (c .before .before .before .before .before .before .before .before .before .before .before .before .before .before .before .before .before .before .before .skipped .result) (c .before .before .before .before .before .before .before .before .before .before .before .before .before .before .before .before .before .fill-slot .result) _ (c .before .before .before .before .before .before .before .before .before .before .before .before .before .before .before .before .before .before .before .skipped .ensures) (c .before .before .before .before .before .before .before .before .before .before .before .before .before .before .before .before .before .fill-slot .ensures .0) (c .before .before .before .before .before .before .before .before .before .before .before .before .before .before .before .before .before .fill-slot .ensures .1 .0) (c .before .before .before .before .before .before .before .before .before .before .before .before .before .before .before .before .before .fill-slot .ensures .1 .1) (c .before .before .before .before .before .before .before .before .before .before .before .before .fill-moves .result) _ (c .before .before .before .before .before .before .before .before .before .before .before .before .fill-moves .ensures .0) (c .before .before .before .before .before .before .before .before .before .before .before .before .fill-moves .ensures .1 .0) (c .before .before .before .before .before .before .before .before .before .before .before .before .fill-moves .ensures .1 .1) (sym (c .enum-told .given .1) ∙ c .before .before .before .before .hang-line .ensures .0)
+
+returns-2 : tie.Need-returns-2
+returns-2 c =
+    let l = c .before .before .before .before .before .hang-line .ensures in (
+      main-lined (c .before .before .before .before .before .before .before .before .before .before .before .before .before .before .before .before .before .before .before .before .before .before .before .args .s .now) (c .before .before .before .before .before .before .before .before .before .before .before .before .before .before .before .before .before .before .before .before .before .before .before .args .c .at) (c .before .before .before .before .before .before .before .before .before .before .before .before .before .before .before .before .before .before .before .before .before .before .before .args .w) (c .before .before .before .before .before .before .before .before .before .before .before .before .before .before .before .before .before .before .before .before .before .before .before .args .out .now) (c .before .before .before .before .before .before .before .before .before .before .before .before .before .before .before .before .before .before .before .before .before .before .before .pre) (c .before .before .before .before .before .before .before .before .before .before .before .before .before .before .before .before .before .before .before .before .skipped .result) (c .before .before .before .before .before .before .before .before .before .before .before .before .before .before .before .before .before .before .fill-slot .result) _ (c .before .before .before .before .before .before .before .before .before .before .before .before .before .before .before .before .before .before .before .before .skipped .ensures) (c .before .before .before .before .before .before .before .before .before .before .before .before .before .before .before .before .before .before .fill-slot .ensures .0) (c .before .before .before .before .before .before .before .before .before .before .before .before .before .before .before .before .before .before .fill-slot .ensures .1 .0) (c .before .before .before .before .before .before .before .before .before .before .before .before .before .before .before .before .before .before .fill-slot .ensures .1 .1) (c .before .before .before .before .before .before .before .before .before .before .before .before .before .fill-moves .result) _ (c .before .before .before .before .before .before .before .before .before .before .before .before .before .fill-moves .ensures .0) (c .before .before .before .before .before .before .before .before .before .before .before .before .before .fill-moves .ensures .1 .0) (c .before .before .before .before .before .before .before .before .before .before .before .before .before .fill-moves .ensures .1 .1) (sym (c .before .walk .given .1) ∙ l .0) (l .1),
+      past-main (c .before .before .before .before .before .before .before .before .before .before .before .before .before .before .before .before .before .before .before .before .before .before .before .args .s .now) (c .before .before .before .before .before .before .before .before .before .before .before .before .before .before .before .before .before .before .before .before .before .before .before .args .c .at) (c .before .before .before .before .before .before .before .before .before .before .before .before .before .before .before .before .before .before .before .before .before .before .before .args .w) (c .before .before .before .before .before .before .before .before .before .before .before .before .before .before .before .before .before .before .before .before .before .before .before .args .out .now) (c .before .before .before .before .before .before .before .before .before .before .before .before .before .before .before .before .before .before .before .before .before .before .before .pre) (c .before .before .before .before .before .before .before .before .before .before .before .before .before .before .before .before .before .before .before .before .skipped .result) (c .before .before .before .before .before .before .before .before .before .before .before .before .before .before .before .before .before .before .fill-slot .result) _ (c .before .before .before .before .before .before .before .before .before .before .before .before .before .before .before .before .before .before .before .before .skipped .ensures) (c .before .before .before .before .before .before .before .before .before .before .before .before .before .before .before .before .before .before .fill-slot .ensures .0) (c .before .before .before .before .before .before .before .before .before .before .before .before .before .before .before .before .before .before .fill-slot .ensures .1 .0) (c .before .before .before .before .before .before .before .before .before .before .before .before .before .before .before .before .before .before .fill-slot .ensures .1 .1) (c .before .before .before .before .before .before .before .before .before .before .before .before .before .fill-moves .result) _ (c .before .before .before .before .before .before .before .before .before .before .before .before .before .fill-moves .ensures .0) (c .before .before .before .before .before .before .before .before .before .before .before .before .before .fill-moves .ensures .1 .0) (c .before .before .before .before .before .before .before .before .before .before .before .before .before .fill-moves .ensures .1 .1) (c .before .before .before .before .before .before .before .past .result) (c .before .before .before .before .before .before .before .past .ensures),
+    )
+
+same-length-2 : tie.Need-same-length-2
+same-length-2 c = filled-length (returns-2 c .0 .filled)
 
 pub fill-main-spec : {M : Type 1} → statement M
 fill-main-spec =
@@ -41,8 +55,12 @@ fill-main-spec =
     skipped-requires
     fill-slot-requires
     fill-moves-requires
-    sub-put-line
-    put-line-requires
-    past-entries-requires
+    sub-past
+    past-requires
+    hang-line-requires
+    enum-known-walk
+    enum-told
     same-length
-    returns)
+    returns
+    same-length-2
+    returns-2)

@@ -52,10 +52,10 @@ use Rattle.reader.proofs.Reader.next as next
 use Rattle.reader.proofs.Reader.next.Symbol as next-def
 use Rattle.reader.proofs.Reader.next.Symbol.{name as #next}
 use Rattle.reader.proofs.Reader.next.Met as next-thm
-use Rattle.reader.proofs.line_in.Key.{name as #line-in}
-use Rattle.reader.proofs.line_in as line
-use Rattle.reader.proofs.line_in.Statement as stated
-use Rattle.reader.proofs.line_in.Code as code
+use Rattle.reader.proofs.line_standing.Key.{name as #line-standing}
+use Rattle.reader.proofs.line_standing as line
+use Rattle.reader.proofs.line_standing.Statement as stated
+use Rattle.reader.proofs.line_standing.Code as code
 
 abbrev stayed : Stays (line.ended .signature .params) (line.ended .kept)
 stayed = (stay-none-slice (0 ∷ []) tt (plain (λ _. u8)) yes, (stay-none (λ _. usize) yes, tt))
@@ -158,11 +158,11 @@ module _ {M : Type 1} (𝓤 : URA M) (H : Heap 𝓤) (A : Atoms 𝓤) (W : Given
       walk-meets 𝓤 H A line.ended stayed W (goes-none-slice 𝓤 H A W 1 (0 ∷ []) tt (plain (λ _. u8)) yes, (goes-none 𝓤 H A W 1 (λ _. usize) yes (λ κs x f. refl), tt)) (line.clauses 𝓤 H A mem run)
       (WpFn 𝓤 H (𝓣 .C) (𝓣 .Λ) code.function) (WpFn-mono 𝓤 H (W .laws) 𝓣 code.function) walks
 
-pub line-in-spec : {M : Type 1} → stated.statement M
+pub line-standing-spec : {M : Type 1} → stated.statement M
 unfolding code.routine tablesOf
-line-in-spec 𝓤 H 𝓜 𝓖 𝓡 =
+line-standing-spec 𝓤 H 𝓜 𝓖 𝓡 =
     entered 𝓤 H (tripleOf 𝓤 H (𝓖 .A) line.signature (line.spec 𝓤 H (𝓖 .A) (𝓜 .mem) (𝓡 .run)))
-    (tables 𝓤 H 𝓜 𝓡 code.env .C) (tables 𝓤 H 𝓜 𝓡 code.env .Λ) #line-in code.function (code.unfolded 𝓤 H 𝓜 𝓡)
+    (tables 𝓤 H 𝓜 𝓡 code.env .C) (tables 𝓤 H 𝓜 𝓡 code.env .Λ) #line-standing code.function (code.unfolded 𝓤 H 𝓜 𝓡)
     (meets 𝓤 H (𝓖 .A) (givenOf 𝓤 H 𝓜 𝓖) (𝓜 .mem) (𝓡 .run) (tablesOf 𝓤 H 𝓜 (tables 𝓤 H 𝓜 𝓡 code.env))
     (cited 𝓤 H (Over 𝓤 H (𝓖 .A) (𝓜 .mem) (𝓡 .run)) 𝓜 𝓡 code.env #over over-def.routine code.calls-reader·Reader·over (over-thm.met 𝓤 H 𝓜 𝓖 𝓡))
     (cited 𝓤 H (Next 𝓤 H (𝓖 .A) (𝓜 .mem) (𝓡 .run)) 𝓜 𝓡 code.env #next next-def.routine code.calls-reader·Reader·next (next-thm.met 𝓤 H 𝓜 𝓖 𝓡)))

@@ -7,8 +7,8 @@ use lib.ListN.{take, List·getD-eq-default}
 use denote.Ref.{now}
 use borrow.Author.Needs.{needs}
 use Rattle.lent.proofs.Writes.{rest}
-use Rattle.shown.proofs.text_at.Statement.{statement}
-use Rattle.shown.proofs.text_at.Tie as tie
+use Rattle.shown.proofs.table_text.Statement.{statement}
+use Rattle.shown.proofs.table_text.Tie as tie
 
 slice-aggregate-result : tie.Need-slice-aggregate-result
 slice-aggregate-result c = search needs
@@ -42,8 +42,8 @@ returns-2 c =
     let a = c .before .before .before .before .before .before .args in
     c .front .ensures ∙ ap₂ take (c .before .wide .ensures .0) (rest (now (a .table)) (a .at + 1))
 
-pub text-at-spec : {M : Type 1} → statement M
-text-at-spec =
+pub table-text-spec : {M : Type 1} → statement M
+table-text-spec =
     tie.close
     (tie.spec
     slice-aggregate-result

@@ -2,10 +2,9 @@
 -- Assumes nothing.
 use denote.Ref.{now}
 use borrow.Author.Needs.{needs}
-use Rattle.block.proofs.Cuts.{rest-none}
-use Rattle.lent.proofs.Writes.{rest}
-use Rattle.block.proofs.texts.rest.Statement.{statement}
-use Rattle.block.proofs.texts.rest.Tie as tie
+use Rattle.lent.proofs.Writes.{rest, rest-none}
+use Rattle.lent.proofs.rest.Statement.{statement}
+use Rattle.lent.proofs.rest.Tie as tie
 
 sub-result : tie.Need-sub-result
 sub-result c = search needs
@@ -18,7 +17,7 @@ part-result-end c = search needs
 
 returns : tie.Need-returns
 returns c =
-    let b = now (c .before .before .args .b) in
+    let b = now (c .before .before .args .s) in
     rest-none b (c .before .before .args .at) (c .before .if1 .taken)
 
 sub-result-2 : tie.Need-sub-result-2
@@ -31,7 +30,7 @@ part-result-end-2 : tie.Need-part-result-end-2
 part-result-end-2 c = search needs
 
 returns-2 : tie.Need-returns-2
-returns-2 c = rest (now (c .before .before .args .b)) (c .before .before .args .at)
+returns-2 c = rest (now (c .before .before .args .s)) (c .before .before .args .at)
 
 pub rest-spec : {M : Type 1} → statement M
 rest-spec =

@@ -5,8 +5,8 @@ use mathlib.Core.Path.{sym}
 use lib.Seq.{take-all, length-take-le}
 use denote.Ref.{now}
 use borrow.Author.Needs.{needs}
-use Rattle.block.proofs.texts.front.Statement.{statement}
-use Rattle.block.proofs.texts.front.Tie as tie
+use Rattle.lent.proofs.front.Statement.{statement}
+use Rattle.lent.proofs.front.Tie as tie
 
 returns : tie.Need-returns
 returns c = sym (take-all (c .before .args .n) (now (c .before .args .s)) (c .if1 .taken))
