@@ -1,6 +1,6 @@
 -- The parts that were filled in are the block of what the text says; or the first variation that does not hang is told.
 -- Assumes nothing.
-use Prim.Native.Nat.{ℕ}
+use Prim.Native.Nat.{ℕ, _≤_, _<_}
 use native.Mathlib.Omega.{arith}
 use mathlib.Core.Path.{_≡_, refl, sym, ap, ap₂, _∙_, subst}
 use mathlib.Core.List.{List, _++_}
@@ -11,7 +11,8 @@ use Rattle.jkf.specs.Answers.{Outcome}
 use Rattle.jkf.specs.Attaching.{Hung, all, first, Play, attach, allHung}
 use Rattle.jkf.specs.declared.Position.{Position}
 use Rattle.jkf.specs.declared.Answer.{Answer}
-use Rattle.jkf.specs.declared.Answer.the-variants.{Done, NoEntry}
+use Rattle.jkf.specs.declared.Answer.the-variants.{Done, BlockTooLong, NoEntry}
+use borrow.Author.Tests.{lt-ltb, le-ltb}
 use Rattle.jkf.specs.Model.{Header, Line}
 use Rattle.block.specs.PositionBytes.{positionBytes}
 use Rattle.block.specs.Encode.{entriesOf, commentsOf, encodeFlat, encode}
@@ -184,6 +185,14 @@ module _ (s : List ℕ) {p : Position} (c : Cursor) (hs : List ℕ) (f : Prepare
           (x ∙ ap (λ (g : Outcome). g .answer) (same ∙ sym u), y ∙ ap (λ (g : Outcome). g .buffer) (same ∙ sym u))
 
 -- ---- measured
+
+pub measured-long : (n t : ℕ) → 65535 < n → measured n t ≡ BlockTooLong n
+unfolding measured
+measured-long n t h = rw (lt-ltb 65535 n h)
+
+pub measured-short : (n t : ℕ) → n ≤ 65535 → measured n t ≡ Done n t
+unfolding measured
+measured-short n t h = rw (le-ltb 65535 n h)
 
 -- what was counted comes to the length needed
 pub measured-so : {s : List ℕ} {v : Survey} {hs : List ℕ} → Surveyed s v hs → measured (lengthOf (v .sizes)) (v .taken) ≡ measured (needed (parse s)) (parse s .taken)
