@@ -16,7 +16,7 @@ use Rattle.lent.specs.Bytes.{Wrote, bytes16, fitting}
 use Rattle.lent.specs.Stored.{Stored, put}
 use Rattle.lent.proofs.Writes.{wrote-all, wrote-whole}
 use Rattle.lent.proofs.Regions.{length-put, put-eq, put-more, stored-all}
-use Rattle.jkf.specs.Answers.{Outcome}
+use Rattle.jkf.specs.Answers.{Outcome, refuse}
 use Rattle.jkf.specs.declared.Answer.{Answer}
 use Rattle.jkf.specs.declared.Answer.the-variants.{BlockTooLong, BufferShort}
 use Rattle.jkf.specs.declared.Entry.{Entry}
@@ -30,7 +30,7 @@ use Rattle.filling.specs.declared.Sizes.{Sizes}
 use Rattle.filling.specs.declared.Walk.{Walk}
 use Rattle.filling.specs.declared.Opening.{Opening}
 use Rattle.filling.specs.declared.Opening.the-variants.{Begun, Refused}
-use Rattle.filling.specs.Filling.{unlessRefused, areSmall, lengthOf, begun, opening, headFor, frontPut, opened, header, hasHeader, putHeader, putLine, hasComment, putComment, putEntry}
+use Rattle.filling.specs.Filling.{ifFits, unlessRefused, areSmall, lengthOf, begun, opening, headFor, frontPut, opened, header, hasHeader, putHeader, putLine, hasComment, putComment, putEntry}
 use Rattle.filling.specs.inner.Parts.{onOpening, Opens}
 
 -- ---- whether something has room
@@ -112,19 +112,21 @@ module _ (version : ℕ) (z : Sizes) (p : Position) (o : List ℕ) where
       let x₁ = stored-all {t = headFor version z} (omega (arith, long, length-short z h, h, k)) x in
       y .bytes ∙ ap (λ (u : List ℕ). put u 28 (fitting (positionBytes p) (drop 28 u))) (x₁ .bytes)
 
-  pub open-long : 65535 < lengthOf z → (Refused (BlockTooLong (lengthOf z)) ≡ opening z (length o)) × (o ≡ opened version z p o)
-  unfolding opening opened
-  open-long h = rw (lt-ltb 65535 (lengthOf z) h) (refl, refl)
+-- ---- whether it is admitted
+
+module _ (z : Sizes) (room : ℕ) where
+  pub admit-long : 65535 < lengthOf z → Refused (BlockTooLong (lengthOf z)) ≡ opening z room
+  unfolding opening
+  admit-long h = rw (lt-ltb 65535 (lengthOf z) h)
 
   module _ (h : lengthOf z ≤ 65535) where
-    pub open-short : length o < lengthOf z → (Refused (BufferShort (lengthOf z)) ≡ opening z (length o)) × (o ≡ opened version z p o)
-    unfolding opening opened
-    open-short k = rw (le-ltb 65535 (lengthOf z) h, lt-ltb (length o) (lengthOf z) k) (refl, refl)
+    pub admit-short : room < lengthOf z → Refused (BufferShort (lengthOf z)) ≡ opening z room
+    unfolding opening
+    admit-short k = rw (le-ltb 65535 (lengthOf z) h, lt-ltb room (lengthOf z) k)
 
-    pub open-done : {w : Walk} {o₁ : List ℕ} → lengthOf z ≤ length o → w ≡ begun z → o₁ ≡ frontPut version z p o
-        → (Begun w (lengthOf z) ≡ opening z (length o)) × (o₁ ≡ opened version z p o)
-    unfolding opening opened
-    open-done {w} {o₁} k e f = rw (le-ltb 65535 (lengthOf z) h, le-ltb (length o) (lengthOf z) k) (ap (λ (v : Walk). Begun v (lengthOf z)) e, f)
+    pub admit-done : {w : Walk} → lengthOf z ≤ room → w ≡ begun z → Begun w (lengthOf z) ≡ opening z room
+    unfolding opening
+    admit-done k e = rw (le-ltb 65535 (lengthOf z) h, le-ltb room (lengthOf z) k) (ap (λ (v : Walk). Begun v (lengthOf z)) e)
 
 -- a beginning and a refusal told apart, and what each holds
 whichOf : Opening → ℕ
@@ -143,41 +145,66 @@ begun-total e = ap (λ (r : Opening). onOpening r (λ v m. m) (λ a. 0)) e
 pub refused-answer : {a b : Answer} → Refused a ≡ Refused b → a ≡ b
 refused-answer {a} e = ap (λ (r : Opening). onOpening r (λ v m. a) (λ b. b)) e
 
-module _ (version : ℕ) (z : Sizes) (p : Position) (o : List ℕ) where
-  pub opens : {w : Walk} {n : ℕ} {o₁ : List ℕ} → Begun w n ≡ opening z (length o) → o₁ ≡ opened version z p o → Opens version z p w n o o₁
-  opens {w} {n} {o₁} e f = go (ltb 65535 (lengthOf z)) refl
-    where
-      fit : lengthOf z ≤ 65535 → (t : Bool) → ltb (length o) (lengthOf z) ≡ t → Opens version z p w n o o₁
-      fit h true k = not-begun (e ∙ sym (open-short version z p o h (ltb-true (length o) (lengthOf z) k) .0))
-      fit h false k =
-          let r = ltb-false (length o) (lengthOf z) k in
-          let q = open-done version z p o h {w = begun z} {o₁ = frontPut version z p o} r refl refl in
-          record { walk = begun-walk (e ∙ sym (q .0)); total = begun-total (e ∙ sym (q .0)); short = h; room = r; front = f ∙ sym (q .1) }
+pub record IsBegun (z : Sizes) (k : ℕ) (w : Walk) (n : ℕ) : Type 0 where
+  pub walk : w ≡ begun z
+  pub total : n ≡ lengthOf z
+  pub short : lengthOf z ≤ 65535
+  pub room : lengthOf z ≤ k
 
-      go : (t : Bool) → ltb 65535 (lengthOf z) ≡ t → Opens version z p w n o o₁
-      go true k = not-begun (e ∙ sym (open-long version z p o (ltb-true 65535 (lengthOf z) k) .0))
-      go false k = fit (ltb-false 65535 (lengthOf z) k) (ltb (length o) (lengthOf z)) refl
+-- a block is begun only where it fits, and refused only where it does not
+module _ (z : Sizes) (room : ℕ) where
+  pub is-begun : {w : Walk} {n : ℕ} → Begun w n ≡ opening z room → IsBegun z room w n
+  is-begun {w} {n} e = go (ltb 65535 (lengthOf z)) refl
+    where
+      fit : lengthOf z ≤ 65535 → (t : Bool) → ltb room (lengthOf z) ≡ t → IsBegun z room w n
+      fit h true k = not-begun (e ∙ sym (admit-short z room h (ltb-true room (lengthOf z) k)))
+      fit h false k =
+          let r = ltb-false room (lengthOf z) k in
+          let q = e ∙ sym (admit-done z room h {w = begun z} r refl) in
+          record { walk = begun-walk q; total = begun-total q; short = h; room = r }
+
+      go : (t : Bool) → ltb 65535 (lengthOf z) ≡ t → IsBegun z room w n
+      go true k = not-begun (e ∙ sym (admit-long z room (ltb-true 65535 (lengthOf z) k)))
+      go false k = fit (ltb-false 65535 (lengthOf z) k) (ltb room (lengthOf z)) refl
+
+  pub is-refused : {A : Type 0} {a : Answer} → Refused a ≡ opening z room → (f : Answer → A) (r : A) → f a ≡ ifFits (lengthOf z) room f r
+  is-refused {A} {a} e f r = go (ltb 65535 (lengthOf z)) refl
+    where
+      fit : lengthOf z ≤ 65535 → (t : Bool) → ltb room (lengthOf z) ≡ t → f a ≡ ifFits (lengthOf z) room f r
+      fit h true k = rw (le-ltb 65535 (lengthOf z) h, k) (ap f (refused-answer (e ∙ sym (admit-short z room h (ltb-true room (lengthOf z) k)))))
+      fit h false k = not-begun (admit-done z room h {w = begun z} (ltb-false room (lengthOf z) k) refl ∙ sym e)
+
+      go : (t : Bool) → ltb 65535 (lengthOf z) ≡ t → f a ≡ ifFits (lengthOf z) room f r
+      go true k = rw k (ap f (refused-answer (e ∙ sym (admit-long z room (ltb-true 65535 (lengthOf z) k)))))
+      go false k = fit (ltb-false 65535 (lengthOf z) k) (ltb room (lengthOf z)) refl
+
+-- what fits comes out
+pub fits : {A : Type 0} {n room : ℕ} (f : Answer → A) (r : A) → n ≤ 65535 → n ≤ room → ifFits n room f r ≡ r
+fits {A} {n} {room} f r h k = rw (le-ltb 65535 n h, le-ltb room n k)
+
+module _ (version : ℕ) (z : Sizes) (p : Position) (o : List ℕ) where
+  pub left-shut : {a : Answer} → Refused a ≡ opening z (length o) → o ≡ opened version z p o
+  unfolding opened
+  left-shut e = is-refused z (length o) e (λ a. o) (frontPut version z p o)
+
+  pub front-opened : lengthOf z ≤ 65535 → lengthOf z ≤ length o → frontPut version z p o ≡ opened version z p o
+  unfolding opened
+  front-opened h k = sym (fits (λ a. o) (frontPut version z p o) h k)
+
+  pub opens : {w : Walk} {n : ℕ} {o₁ : List ℕ} → Begun w n ≡ opening z (length o) → o₁ ≡ opened version z p o → Opens version z p w n o o₁
+  opens e f =
+      let q = is-begun z (length o) e in
+      record { walk = q .walk; total = q .total; short = q .short; room = q .room; front = f ∙ sym (front-opened (q .short) (q .room)) }
 
   pub refuses : {a : Answer} {o₁ : List ℕ} → Refused a ≡ opening z (length o) → o₁ ≡ opened version z p o → (r : Outcome)
       → (a ≡ unlessRefused (lengthOf z) o r .answer) × (o₁ ≡ unlessRefused (lengthOf z) o r .buffer)
-  refuses {a} {o₁} e f r = go (ltb 65535 (lengthOf z)) refl
-    where
-      fit : lengthOf z ≤ 65535 → (t : Bool) → ltb (length o) (lengthOf z) ≡ t → (a ≡ unlessRefused (lengthOf z) o r .answer) × (o₁ ≡ unlessRefused (lengthOf z) o r .buffer)
-      fit h true k =
-          let q = open-short version z p o h (ltb-true (length o) (lengthOf z) k) in
-          rw (le-ltb 65535 (lengthOf z) h, k) (refused-answer (e ∙ sym (q .0)), f ∙ sym (q .1))
-      fit h false k =
-          not-begun (open-done version z p o h {w = begun z} {o₁ = frontPut version z p o} (ltb-false (length o) (lengthOf z) k) refl refl .0 ∙ sym e)
-
-      go : (t : Bool) → ltb 65535 (lengthOf z) ≡ t → (a ≡ unlessRefused (lengthOf z) o r .answer) × (o₁ ≡ unlessRefused (lengthOf z) o r .buffer)
-      go true k =
-          let q = open-long version z p o (ltb-true 65535 (lengthOf z) k) in
-          rw k (refused-answer (e ∙ sym (q .0)), f ∙ sym (q .1))
-      go false k = fit (ltb-false 65535 (lengthOf z) k) (ltb (length o) (lengthOf z)) refl
+  refuses e f r =
+      let q = is-refused z (length o) e (λ a. refuse a o) r in
+      (ap (λ (t : Outcome). t .answer) q, f ∙ (sym (left-shut e) ∙ ap (λ (t : Outcome). t .buffer) q))
 
 -- a block that fits is not refused
 pub unrefused : (n : ℕ) (o : List ℕ) (r : Outcome) → n ≤ 65535 → n ≤ length o → unlessRefused n o r ≡ r
-unrefused n o r h k = rw (le-ltb 65535 n h, le-ltb (length o) n k)
+unrefused n o r h k = fits (λ a. refuse a o) r h k
 
 -- ---- a text in a part that is just as long
 

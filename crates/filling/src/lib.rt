@@ -6,7 +6,7 @@ mod puts;
 
 pub use hangs::hang_line;
 use jkf::Answer;
-pub use opens::length_of;
+pub use opens::admit;
 pub use opens::open;
 pub use puts::put_comment;
 pub use puts::put_entry;

@@ -58,7 +58,7 @@ fn begin(z: Sizes) -> Walk
 }
 
 // The length of a block; the largest number where it is past all measure.
-pub fn length_of(z: Sizes) -> usize
+fn length_of(z: Sizes) -> usize
     ensures { λ r. ⌜ r ≡ lengthOf z ⌝ }
 {
     if !are_small(z) {
@@ -67,8 +67,22 @@ pub fn length_of(z: Sizes) -> usize
     begin(z).text + z.bytes
 }
 
+// Refusals 4 and 5 of a block of these sizes; where it is neither too long nor has too little room, where its parts begin.
+pub fn admit(z: Sizes, room: usize) -> Opening
+    ensures { λ r. ⌜ r ≡ opening z room ⌝ }
+{
+    let total = length_of(z);
+    if 65535 < total {
+        return Opening::Refused(Answer::BlockTooLong(total as u64));
+    }
+    if room < total {
+        return Opening::Refused(Answer::BufferShort(total as u64));
+    }
+    Opening::Begun(begin(z), total as u64)
+}
+
 // The head and the position of a block that is not too long.
-fn put_front(out: &mut [u8], version: u16, z: Sizes, total: usize, position: Position)
+fn put_front(out: &mut [u8], version: u16, z: Sizes, total: u64, position: Position)
     requires { ⌜ (total ≡ lengthOf z) × (total ≤ 65535) × (total ≤ length (now out)) ⌝ }
     ensures { λ _. ⌜ now (out .exit) ≡ frontPut version z position (now (out .entry)) ⌝ }
 {
@@ -88,18 +102,16 @@ fn put_front(out: &mut [u8], version: u16, z: Sizes, total: usize, position: Pos
     block::put_position(out, 28, position);
 }
 
-// Refusals 4 and 5; where the block is neither too long nor the buffer too short its front is filled in.
+// Refusals 4 and 5; a block that is admitted has its front filled in.
 pub fn open(out: &mut [u8], version: u16, z: Sizes, position: Position) -> Opening
     ensures { λ r. ⌜ r ≡ opening z (length (now (out .entry))) ⌝ }
     ensures { λ r. ⌜ now (out .exit) ≡ opened version z position (now (out .entry)) ⌝ }
 {
-    let total = length_of(z);
-    if 65535 < total {
-        return Opening::Refused(Answer::BlockTooLong(total as u64));
+    match admit(z, out.len()) {
+        Opening::Refused(a) => Opening::Refused(a),
+        Opening::Begun(w, n) => {
+            put_front(out, version, z, n, position);
+            Opening::Begun(w, n)
+        }
     }
-    if out.len() < total {
-        return Opening::Refused(Answer::BufferShort(total as u64));
-    }
-    put_front(out, version, z, total, position);
-    Opening::Begun(begin(z), total as u64)
 }

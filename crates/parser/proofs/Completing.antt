@@ -1,6 +1,6 @@
 -- The parts that were filled in are the block of what the text says; or the first variation that does not hang is told.
 -- Assumes nothing.
-use Prim.Native.Nat.{ℕ, _≤_, _<_}
+use Prim.Native.Nat.{ℕ}
 use native.Mathlib.Omega.{arith}
 use mathlib.Core.Path.{_≡_, refl, sym, ap, ap₂, _∙_, subst}
 use mathlib.Core.List.{List, _++_}
@@ -11,8 +11,7 @@ use Rattle.jkf.specs.Answers.{Outcome}
 use Rattle.jkf.specs.Attaching.{Hung, all, first, Play, attach, allHung}
 use Rattle.jkf.specs.declared.Position.{Position}
 use Rattle.jkf.specs.declared.Answer.{Answer}
-use Rattle.jkf.specs.declared.Answer.the-variants.{Done, BlockTooLong, NoEntry}
-use borrow.Author.Tests.{lt-ltb, le-ltb}
+use Rattle.jkf.specs.declared.Answer.the-variants.{Done, NoEntry}
 use Rattle.jkf.specs.Model.{Header, Line}
 use Rattle.block.specs.PositionBytes.{positionBytes}
 use Rattle.block.specs.Encode.{entriesOf, commentsOf, encodeFlat, encode}
@@ -22,7 +21,7 @@ use Rattle.filling.specs.inner.Parts.{lineTexts, lineEnds, LinesFit}
 use Rattle.filling.specs.declared.Sizes.{Sizes}
 use Rattle.filling.specs.declared.Walk.{Walk}
 use Rattle.filling.specs.declared.Opening.the-variants.{Begun, Refused}
-use Rattle.filling.proofs.Putting.{opens, refuses, unrefused}
+use Rattle.filling.proofs.Putting.{is-begun, is-refused, fits, opens, refuses, unrefused}
 use Rattle.filling.proofs.Wholes.{front-size, front-rest, opened-lines, opened-block}
 use Rattle.plays.specs.Plays.{playsAt}
 use Rattle.parser.specs.inner.Headers.{headersAt}
@@ -186,13 +185,17 @@ module _ (s : List ℕ) {p : Position} (c : Cursor) (hs : List ℕ) (f : Prepare
 
 -- ---- measured
 
-pub measured-long : (n t : ℕ) → 65535 < n → measured n t ≡ BlockTooLong n
-unfolding measured
-measured-long n t h = rw (lt-ltb 65535 n h)
+-- by what filling admits
+module _ (z : Sizes) (t : ℕ) where
+  pub measured-refused : {a : Answer} → Refused a ≡ opening z 65535 → a ≡ measured (lengthOf z) t
+  unfolding measured
+  measured-refused e = is-refused z 65535 e (λ a. a) (Done (lengthOf z) t)
 
-pub measured-short : (n t : ℕ) → n ≤ 65535 → measured n t ≡ Done n t
-unfolding measured
-measured-short n t h = rw (le-ltb 65535 n h)
+  pub measured-begun : {w : Walk} {n : ℕ} → Begun w n ≡ opening z 65535 → Done n t ≡ measured (lengthOf z) t
+  unfolding measured
+  measured-begun e =
+      let q = is-begun z 65535 e in
+      ap (λ (k : ℕ). Done k t) (q .total) ∙ sym (fits (λ a. a) (Done (lengthOf z) t) (q .short) (q .room))
 
 -- what was counted comes to the length needed
 pub measured-so : {s : List ℕ} {v : Survey} {hs : List ℕ} → Surveyed s v hs → measured (lengthOf (v .sizes)) (v .taken) ≡ measured (needed (parse s)) (parse s .taken)

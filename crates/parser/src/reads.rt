@@ -2,21 +2,21 @@
 use crate::Early;
 use crate::stores::store;
 use crate::surveys::survey;
+use filling::Opening;
 use filling::Sizes;
 use jkf::Answer;
 ghost use mathlib.Core.Path.{_≡_};
 ghost use Rattle.parser.specs.Read.{measured, measureOf, fillOf};
 ghost use Rattle.filling.specs.Filling.{lengthOf};
 
-// The length of a block and the bytes taken, or refusal 4.
+// The length of a block and the bytes taken, or refusal 4: there is room for all that is not too long.
 fn measured(sizes: Sizes, taken: usize) -> Answer
     ensures { λ r. ⌜ r ≡ measured (lengthOf sizes) taken ⌝ }
 {
-    let total = filling::length_of(sizes);
-    if 65535 < total {
-        return Answer::BlockTooLong(total as u64);
+    match filling::admit(sizes, 65535) {
+        Opening::Refused(a) => a,
+        Opening::Begun(_, n) => Answer::Done(n, taken as u64),
     }
-    Answer::Done(total as u64, taken as u64)
 }
 
 // How long the block of a text is, and how many bytes are taken. No memory is lent.

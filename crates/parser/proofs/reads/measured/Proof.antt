@@ -1,33 +1,29 @@
--- One test, of the length that filling reckons.
+-- What filling admits is measured.
 -- Assumes nothing.
-use native.Mathlib.Omega.{arith}
-use mathlib.Core.Path.{sym, ap, _∙_}
-use Prim.Native.Nat.{ℕ}
-use Rattle.jkf.specs.declared.Answer.the-variants.{Done, BlockTooLong}
-use Rattle.filling.specs.Filling.{lengthOf}
-use Rattle.parser.proofs.Completing.{measured-long, measured-short}
+use mathlib.Core.Path.{sym, _∙_}
+use Rattle.parser.proofs.Completing.{measured-refused, measured-begun}
+use borrow.Author.Needs.{needs}
 use Rattle.parser.proofs.reads.measured.Statement.{statement}
 use Rattle.parser.proofs.reads.measured.Tie as tie
 
-length-of-requires : tie.Need-length-of-requires
-length-of-requires c κs = tt
+admit-requires : tie.Need-admit-requires
+admit-requires c κs = search needs
+
+enum-known-a : tie.Need-enum-known-a
+enum-known-a c = search needs
+
+enum-known-n : tie.Need-enum-known-n
+enum-known-n c = search needs
 
 returns : tie.Need-returns
 returns c =
-    let a = c .before .before .args in
-    let n = c .before .length-of .ensures in
-    ap BlockTooLong n ∙ sym (measured-long (lengthOf (a .sizes)) (a .taken) (omega (arith, n, c .if1 .taken)))
+    let a = c .before .before .before .before .args in
+    measured-refused (a .sizes) (a .taken) (sym (c .before .a .given .1) ∙ c .before .before .before .admit .ensures)
 
 returns-2 : tie.Need-returns-2
 returns-2 c =
-    let a = c .before .before .args in
-    let n = c .before .length-of .ensures in
-    ap (λ (k : ℕ). Done k (a .taken)) n ∙ sym (measured-short (lengthOf (a .sizes)) (a .taken) (omega (arith, n, c .if1 .left)))
+    let a = c .before .before .before .before .args in
+    measured-begun (a .sizes) (a .taken) (sym (c .before .n .given .1) ∙ c .before .before .before .admit .ensures)
 
 pub measured-spec : {M : Type 1} → statement M
-measured-spec =
-    tie.close
-    (tie.spec
-    length-of-requires
-    returns
-    returns-2)
+measured-spec = tie.close (tie.spec admit-requires enum-known-a enum-known-n returns returns-2)
