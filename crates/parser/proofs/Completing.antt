@@ -3,19 +3,22 @@
 use Prim.Native.Nat.{ℕ}
 use native.Mathlib.Omega.{arith}
 use mathlib.Core.Path.{_≡_, refl, sym, ap, ap₂, _∙_, subst}
+use mathlib.Core.Bool.{Bool, true, false}
 use mathlib.Core.List.{List, _++_}
 use lib.ListN.{length, drop, replicate}
+use lib.Dec.{ltb}
+use Rattle.lists.specs.Pick.{pick}
 use Rattle.lent.specs.inner.Regions.{puts}
 use Rattle.text.specs.declared.Cursor.{Cursor}
 use Rattle.jkf.specs.Answers.{Outcome}
 use Rattle.jkf.specs.Attaching.{Hung, all, first, Play, attach, allHung}
 use Rattle.jkf.specs.declared.Position.{Position}
 use Rattle.jkf.specs.declared.Answer.{Answer}
-use Rattle.jkf.specs.declared.Answer.the-variants.{Done, NoEntry}
+use Rattle.jkf.specs.declared.Answer.the-variants.{Done, BlockTooLong, BufferShort, NoEntry}
 use Rattle.jkf.specs.Model.{Header, Line}
 use Rattle.block.specs.PositionBytes.{positionBytes}
 use Rattle.block.specs.Encode.{entriesOf, commentsOf, encodeFlat, encode}
-use Rattle.filling.specs.Filling.{atFront, unlessRefused, lengthOf, opening, opened}
+use Rattle.filling.specs.Filling.{ifFits, atFront, unlessRefused, lengthOf, opening, opened}
 use Rattle.filling.specs.inner.Parts.{putHeaders, Opens}
 use Rattle.filling.specs.inner.Parts.{lineTexts, lineEnds, LinesFit}
 use Rattle.filling.specs.declared.Sizes.{Sizes}
@@ -185,17 +188,24 @@ module _ (s : List ℕ) {p : Position} (c : Cursor) (hs : List ℕ) (f : Prepare
 
 -- ---- measured
 
--- by what filling admits
+-- a test that is made twice is made once
+same-test : {A : Type 0} (b : Bool) (x y r : A) → pick b x (pick b y r) ≡ pick b x r
+same-test true x y r = refl
+same-test false x y r = refl
+
+-- by what filling admits into a buffer that is long enough for every block
 module _ (z : Sizes) (t : ℕ) where
-  pub measured-refused : {a : Answer} → Refused a ≡ opening z 65535 → a ≡ measured (lengthOf z) t
+  measured-fits : ifFits (lengthOf z) 65535 (λ a. a) (Done (lengthOf z) t) ≡ measured (lengthOf z) t
   unfolding measured
-  measured-refused e = is-refused z 65535 e (λ a. a) (Done (lengthOf z) t)
+  measured-fits = same-test (ltb 65535 (lengthOf z)) (BlockTooLong (lengthOf z)) (BufferShort (lengthOf z)) (Done (lengthOf z) t)
+
+  pub measured-refused : {a : Answer} → Refused a ≡ opening z 65535 → a ≡ measured (lengthOf z) t
+  measured-refused e = is-refused z 65535 e (λ a. a) (Done (lengthOf z) t) ∙ measured-fits
 
   pub measured-begun : {w : Walk} {n : ℕ} → Begun w n ≡ opening z 65535 → Done n t ≡ measured (lengthOf z) t
-  unfolding measured
   measured-begun e =
       let q = is-begun z 65535 e in
-      ap (λ (k : ℕ). Done k t) (q .total) ∙ sym (fits (λ a. a) (Done (lengthOf z) t) (q .short) (q .room))
+      ap (λ (k : ℕ). Done k t) (q .total) ∙ (sym (fits (λ a. a) (Done (lengthOf z) t) (q .short) (q .room)) ∙ measured-fits)
 
 -- what was counted comes to the length needed
 pub measured-so : {s : List ℕ} {v : Survey} {hs : List ℕ} → Surveyed s v hs → measured (lengthOf (v .sizes)) (v .taken) ≡ measured (needed (parse s)) (parse s .taken)

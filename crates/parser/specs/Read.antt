@@ -9,9 +9,9 @@ use Rattle.text.specs.Utf8.{wellFormedBytes}
 use Rattle.jkf.specs.Attaching.{Hung, all, first, allHung}
 use Rattle.jkf.specs.Answers.{Outcome, refuse}
 use Rattle.jkf.specs.declared.Answer.{Answer}
-use Rattle.jkf.specs.declared.Answer.the-variants.{Done, TextTooLong, NotUtf8, HandLine, NoEntry}
+use Rattle.jkf.specs.declared.Answer.the-variants.{Done, TextTooLong, NotUtf8, HandLine, BlockTooLong, NoEntry}
 use Rattle.block.specs.Encode.{encode}
-use Rattle.filling.specs.Filling.{ifFits, unlessRefused, atFront}
+use Rattle.filling.specs.Filling.{unlessRefused, atFront}
 use Rattle.kakinoki.specs.Starts.{startRead}
 use Rattle.kakinoki.specs.declared.Fault.{Fault}
 use Rattle.kakinoki.specs.declared.Fault.the-variants.{NoFault, At}
@@ -49,9 +49,9 @@ earlyOf s =
 
 -- ---- measuring                                                                                       (02, request (vii))
 
--- The length needed and the bytes taken; or refusal 4. A buffer of 65,535 bytes is long enough for every block.
+-- The length needed and the bytes taken; or refusal 4.
 unfoldable pub measured : ℕ → ℕ → Answer
-measured n taken = ifFits n 65535 (λ a. a) (Done n taken)
+measured n taken = pick (ltb 65535 n) (BlockTooLong n) (Done n taken)
 
 -- Refusals 1 to 4. Nothing is lent.
 unfoldable pub measureOf : List ℕ → Answer
