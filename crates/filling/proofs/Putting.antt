@@ -189,7 +189,7 @@ module _ (version : ℕ) (z : Sizes) (p : Position) (o : List ℕ) where
 
   pub front-opened : lengthOf z ≤ 65535 → lengthOf z ≤ length o → frontPut version z p o ≡ opened version z p o
   unfolding opened
-  front-opened h k = sym (fits (λ a. o) (frontPut version z p o) h k)
+  front-opened h k = rw (le-ltb 65535 (lengthOf z) h, le-ltb (length o) (lengthOf z) k)
 
   pub opens : {w : Walk} {n : ℕ} {o₁ : List ℕ} → Begun w n ≡ opening z (length o) → o₁ ≡ opened version z p o → Opens version z p w n o o₁
   opens e f =
