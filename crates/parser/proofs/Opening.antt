@@ -191,7 +191,7 @@ merged-fine a b f g =
 -- ---- the position
 
 -- what is known of a position that was read
-record Opens (p : Position) : Type 0 where
+record GoodPosition (p : Position) : Type 0 where
   cells : length (p .cells) ≡ 81
   hands : length (p .hands) ≡ 14
   fits : claim (fitsTest p)
@@ -215,8 +215,8 @@ unfolding positionBytes
 made-bytes p a b t c h = bytes-join (bytes-join (bytes-join (also a (also b (also t (bytes-one nought)))) c) h) (bytes-one nought)
 
 module _ (b : Board) (t : Told) (c : Filled Cell 81 (b .cells)) (f : Fine t) where
-  there-opens : Opens (record { preset = 16; board = 1; turn = named (t .turn) 0; cells = b .cells; hands = t .black ++ t .white })
-  there-opens =
+  there-good : GoodPosition (record { preset = 16; board = 1; turn = named (t .turn) 0; cells = b .cells; hands = t .black ++ t .white })
+  there-good =
       let turn : named (t .turn) 0 ≤ 1 = named-below 1 0 (t .turn) (omega arith) (f .turn) in
       record {
         cells = c .long;
@@ -227,8 +227,8 @@ module _ (b : Board) (t : Told) (c : Filled Cell 81 (b .cells)) (f : Fine t) whe
             (bytes-join (bytes-from (t .black) (λ k. byte (f .black .each k))) (bytes-from (t .white) (λ k. byte (f .white .each k))));
       }
 
-  none-opens : Opens (record { preset = named (t .preset) 0; board = 0; turn = 0; cells = noCells; hands = replicate 14 0 })
-  none-opens =
+  none-good : GoodPosition (record { preset = named (t .preset) 0; board = 0; turn = 0; cells = noCells; hands = replicate 14 0 })
+  none-good =
       let preset : named (t .preset) 0 ≤ 16 = named-below 16 0 (t .preset) (omega arith) (f .preset) in
       let cells : Filled (λ v. v ≡ 0) 81 noCells = filled-zeros 81 refl in
       let counts : Filled (λ v. v ≡ 0) 14 (replicate 14 0) = filled-zeros 14 refl in
@@ -253,30 +253,30 @@ module _ (b : Board) (t : Told) (c : Filled Cell 81 (b .cells)) (f : Fine t) whe
         bytes = made-bytes _ (omega arith) (omega arith) (omega arith) (zeros 81) (zeros 14);
       }
 
-  position-opens : Opens (positionSaid b t)
+  position-good : GoodPosition (positionSaid b t)
   unfolding positionSaid
-  position-opens = by-pick Opens (b .there) _ _ (λ _. there-opens) (λ _. none-opens)
+  position-good = by-pick GoodPosition (b .there) _ _ (λ _. there-good) (λ _. none-good)
 
 module _ (s : List ℕ) where
-  start-opens : Opens (startRead s .position)
+  start-good : GoodPosition (startRead s .position)
   unfolding startRead
-  start-opens =
+  start-good =
       let first : Told = tellAll untold (firstBlock s .state) in
       let second : Told = tellAll untold (secondBlock s .state) in
-      position-opens (diagram s) (merged first second) (board-made s (firstBlock s .at))
+      position-good (diagram s) (merged first second) (board-made s (firstBlock s .at))
       (merged-fine first second (block-fine s 0) (block-fine s (secondPlace s)))
 
   pub start-cells : length (startRead s .position .cells) ≡ 81
-  start-cells = start-opens .cells
+  start-cells = start-good .cells
 
   pub start-hands : length (startRead s .position .hands) ≡ 14
-  start-hands = start-opens .hands
+  start-hands = start-good .hands
 
   pub start-length : length (positionBytes (startRead s .position)) ≡ 100
   start-length = position-length (startRead s .position) start-cells start-hands
 
   pub start-fits : claim (fitsTest (startRead s .position))
-  start-fits = start-opens .fits
+  start-fits = start-good .fits
 
   pub start-bytes : Bytes (positionBytes (startRead s .position))
-  start-bytes = start-opens .bytes
+  start-bytes = start-good .bytes
