@@ -19,7 +19,7 @@ use Rattle.block.specs.EntryBytes.{entryBytes}
 use Rattle.block.specs.Encode.{table, concat, headerRow, headerText, lineBytes, lineRow, entryRow, commentRow, entriesOf, commentsOf, commentText}
 use Rattle.block.proofs.RowPlaces.{entry-wide}
 use Rattle.filling.specs.declared.Walk.{Walk}
-use Rattle.filling.specs.Filling.{Grown, grown, hasHeader, putHeader, putLine, hasComment, putComment, putEntry, putAll, putComments, putNoted, putEntries}
+use Rattle.filling.specs.Filling.{Grown, grown, hasHeader, putHeader, putLine, hasComment, putComment, hasEntry, putEntry, putAll, putComments, putNoted, putEntries}
 use Rattle.filling.specs.inner.Parts.{putHeaders}
 use Rattle.filling.specs.inner.Parts.{headerTexts, commentTexts, entryTexts, lineTexts, headerEnds, commentEnds, entryEnds, lineEnds, HeadersFit, CommentsFit, EntriesFit, LineFits, Headed, Commented, Entered, Lined}
 use Rattle.filling.proofs.Texts.{headers-append, comments-append, entries-append, keyed, one-header, texted, one-comment, commented, written}
@@ -47,7 +47,7 @@ comment-size c w o =
 pub entry-size : (e : Entry) (first count : ℕ) (w : Walk) (o : List ℕ) → length (putEntry e first count w o .buffer) ≡ length o
 unfolding putEntry
 entry-size e first count w o =
-    by-pick (λ (g : Grown). length (g .buffer) ≡ length o) (pick (leb (w .moves + 20) (length o)) (leb (w .entries + 1) 18446744073709551615) false) _ (grown w o)
+    by-pick (λ (g : Grown). length (g .buffer) ≡ length o) (hasEntry w (length o)) _ (grown w o)
     (λ _. length-put o (w .moves) (entryBytes e (pick (eqb count 0) 0 first) count)) (λ _. refl)
 
 pub noted-size : (e : Noted) (w : Walk) (o : List ℕ) → length (putNoted e w o .buffer) ≡ length o
@@ -221,7 +221,8 @@ module _ (x : Noted) where
     row-room : Room (length o₁) (entryEnds v) (entryRow (w .noted) x ∷ [])
     row-room = then-room (entryRow (w .noted) x ∷ []) room-is (filled-under (w .moves) (v .moves) (own-put .moves) (own-put .filled))
 
-    entry-has : pick (leb (v .moves + 20) (length o₁)) (leb (v .entries + 1) 18446744073709551615) false ≡ true
+    entry-has : hasEntry v (length o₁) ≡ true
+    unfolding hasEntry
     entry-has =
         let n = entry-wide (w .noted) x in
         let k = room-at (length o₁) (entryEnds v) (entryRow (w .noted) x ∷ []) 0 row-room (omega arith) in

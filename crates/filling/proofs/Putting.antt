@@ -30,7 +30,7 @@ use Rattle.filling.specs.declared.Sizes.{Sizes}
 use Rattle.filling.specs.declared.Walk.{Walk}
 use Rattle.filling.specs.declared.Opening.{Opening}
 use Rattle.filling.specs.declared.Opening.the-variants.{Begun, Refused}
-use Rattle.filling.specs.Filling.{ifFits, unlessRefused, areSmall, lengthOf, begun, opening, headFor, frontPut, opened, header, hasHeader, putHeader, putLine, hasComment, putComment, putEntry}
+use Rattle.filling.specs.Filling.{ifFits, unlessRefused, areSmall, lengthOf, begun, opening, headFor, frontPut, opened, header, hasHeader, putHeader, putLine, hasComment, putComment, hasEntry, entered, putEntry}
 use Rattle.filling.specs.inner.Parts.{onOpening, Opens}
 
 -- ---- whether something has room
@@ -261,40 +261,28 @@ module _ (c : List ℕ) (w : Walk) (o : List ℕ) where
 
 -- ---- an entry
 
+pub record EntryRoom (w : Walk) (room : ℕ) : Type 0 where
+  pub row : w .moves + 20 ≤ room
+  pub number : w .entries + 1 ≤ 18446744073709551615
+
+pub entry-room : (w : Walk) (room : ℕ) → hasEntry w room ≡ true → EntryRoom w room
+unfolding hasEntry
+entry-room w room e = let (a, b) = pick-both (leb (w .moves + 20) room) _ e in record { row = leb-true _ _ a; number = leb-true _ _ b }
+
 module _ (e : Entry) (first count : ℕ) (w : Walk) (o : List ℕ) where
-  pub entry-none : leb (w .moves + 20) (length o) ≡ false → (w ≡ putEntry e first count w o .walk) × (o ≡ putEntry e first count w o .buffer)
+  pub entry-none : hasEntry w (length o) ≡ false → (w ≡ putEntry e first count w o .walk) × (o ≡ putEntry e first count w o .buffer)
   unfolding putEntry
   entry-none n = rw n (refl, refl)
 
-  pub entry-past : leb (w .moves + 20) (length o) ≡ true → leb (w .entries + 1) 18446744073709551615 ≡ false
-      → (w ≡ putEntry e first count w o .walk) × (o ≡ putEntry e first count w o .buffer)
+  pub entry-done : {o₁ : List ℕ} {p m : ℕ} {v : Walk} → hasEntry w (length o) ≡ true → m ≡ pick (eqb count 0) 0 first
+      → Stored (fitting (entryBytes e m count) (drop (w .moves) o)) o o₁ (w .moves) p → v ≡ entered w p
+      → (v ≡ putEntry e first count w o .walk) × (o₁ ≡ putEntry e first count w o .buffer)
   unfolding putEntry
-  entry-past m n = rw (m, n) (refl, refl)
-
-  pub entry-done : {o₁ : List ℕ} {p m : ℕ} → leb (w .moves + 20) (length o) ≡ true → leb (w .entries + 1) 18446744073709551615 ≡ true
-      → m ≡ pick (eqb count 0) 0 first
-      → Stored (fitting (entryBytes e m count) (drop (w .moves) o)) o o₁ (w .moves) p
-      → (_≡_ {A = Walk}
-      (record {
-        headers = w .headers;
-        lines = w .lines;
-        moves = p;
-        comments = w .comments;
-        text = w .text;
-        entries = w .entries + 1;
-        noted = w .noted;
-        bytes = w .bytes;
-      })
-      (putEntry e first count w o .walk)) × (o₁ ≡ putEntry e first count w o .buffer)
-  unfolding putEntry
-  entry-done {o₁} {p} {m} a b q x =
-      let n = wide m in
-      let x₁ = stored-all {t = entryBytes e m count} (omega (arith, n, leb-true (w .moves + 20) (length o) a)) x in
+  entry-done {o₁} {p} {m} h q x y =
+      let n = entry-length e m count in
+      let x₁ = stored-all {t = entryBytes e m count} (omega (arith, n, entry-room w (length o) h .row)) x in
       let z : p ≡ w .moves + 20 = omega (arith, x₁ .end, n) in
-      rw (a, b, z, ← q) (refl, x₁ .bytes)
-    where
-      wide : (k : ℕ) → length (entryBytes e k count) ≡ 20
-      wide k = entry-length e k count
+      rw (h, ← q) (y ∙ ap (entered w) z, x₁ .bytes)
 
 -- ---- a line's row
 

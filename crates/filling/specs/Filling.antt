@@ -178,22 +178,29 @@ putComment c w o =
     (put (put o (w .comments) (commentRow (w .bytes) c)) (w .text) c))
     (grown w o)
 
--- An entry at the end of the entries, with its first comment and how many it has.                   (01, The block: move entry)
-unfoldable pub putEntry : Entry → ℕ → ℕ → Walk → List ℕ → Grown
-putEntry e first count w o =
-    pick (pick (leb (w .moves + 20) (length o)) (isNumber (w .entries + 1)) false)
-    (grown
-    (record {
+-- An entry has room.
+unfoldable pub hasEntry : Walk → ℕ → Bool
+hasEntry w room = pick (leb (w .moves + 20) room) (isNumber (w .entries + 1)) false
+
+-- The walk with one entry more, which ends at a place.
+abbrev pub entered : Walk → ℕ → Walk
+entered w moves =
+    record {
       headers = w .headers;
       lines = w .lines;
-      moves = w .moves + 20;
+      moves = moves;
       comments = w .comments;
       text = w .text;
       entries = w .entries + 1;
       noted = w .noted;
       bytes = w .bytes;
-    })
-    (put o (w .moves) (entryBytes e (pick (eqb count 0) 0 first) count)))
+    }
+
+-- An entry at the end of the entries, with its first comment and how many it has.                   (01, The block: move entry)
+unfoldable pub putEntry : Entry → ℕ → ℕ → Walk → List ℕ → Grown
+putEntry e first count w o =
+    pick (hasEntry w (length o))
+    (grown (entered w (w .moves + 20)) (put o (w .moves) (entryBytes e (pick (eqb count 0) 0 first) count)))
     (grown w o)
 
 -- ---- a line, hung on those before it                                                              (01, Attaching rule)

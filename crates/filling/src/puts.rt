@@ -2,10 +2,10 @@
 use crate::Walk;
 use jkf::Entry;
 ghost use mathlib.Core.Path.{_≡_};
-ghost use Prim.Native.Nat.{_+_};
+ghost use Prim.Native.Nat.{_+_, _≤_};
 ghost use lib.Dec.{eqb, leb};
 ghost use Rattle.lists.specs.Pick.{pick};
-ghost use Rattle.filling.specs.Filling.{header, hasHeader, hasComment, putHeader, putLine, putComment, putEntry};
+ghost use Rattle.filling.specs.Filling.{header, hasHeader, hasComment, hasEntry, entered, putHeader, putLine, putComment, putEntry};
 
 // Whether n more from a place on come to an end or less.
 fn has_room(at: usize, n: usize, end: usize) -> bool
@@ -136,18 +136,21 @@ fn first_comment(first: usize, count: usize) -> usize
     if count == 0 { 0 } else { first }
 }
 
-// An entry where the entries end, with the number of its first comment and how many it has.
-pub fn put_entry(out: &mut [u8], w: Walk, e: Entry, first: usize, count: usize) -> Walk
-    ensures { λ r. ⌜ r ≡ putEntry e first count w (now (out .entry)) .walk ⌝ }
-    ensures { λ r. ⌜ now (out .exit) ≡ putEntry e first count w (now (out .entry)) .buffer ⌝ }
+// Whether an entry has room.
+fn has_entry(w: Walk, room: usize) -> bool
+    ensures { λ r. ⌜ r ≡ hasEntry w room ⌝ }
 {
-    if !has_room(w.moves, 20, out.len()) {
-        return w;
+    if !has_room(w.moves, 20, room) {
+        return false;
     }
-    if !has_room(w.entries, 1, 18446744073709551615) {
-        return w;
-    }
-    let moves = block::put_entry_row(out, w.moves, e, first_comment(first, count), count);
+    has_room(w.entries, 1, 18446744073709551615)
+}
+
+// One entry more, and the place past it.
+fn entered(w: Walk, moves: usize) -> Walk
+    requires { ⌜ w .entries + 1 ≤ 18446744073709551615 ⌝ }
+    ensures { λ r. ⌜ r ≡ entered w moves ⌝ }
+{
     Walk {
         headers: w.headers,
         lines: w.lines,
@@ -158,4 +161,31 @@ pub fn put_entry(out: &mut [u8], w: Walk, e: Entry, first: usize, count: usize) 
         noted: w.noted,
         bytes: w.bytes,
     }
+}
+
+// An entry where the entries end, with the number of its first comment and how many it has.
+pub fn put_entry(out: &mut [u8], w: Walk, e: Entry, first: usize, count: usize) -> Walk
+    ensures { λ r. ⌜ r ≡ putEntry e first count w (now (out .entry)) .walk ⌝ }
+    ensures { λ r. ⌜ now (out .exit) ≡ putEntry e first count w (now (out .entry)) .buffer ⌝ }
+{
+    if !has_entry(w, out.len()) {
+        return w;
+    }
+    let first = first_comment(first, count);
+    entered(w, block::put_entry_row(out, w.moves, e, first, count))
+}
+
+// The slot likewise; apart from put_entry, so that the bytes of an entry are not compiled into each of its callers.
+pub fn put_slot(out: &mut [u8], w: Walk, first: usize, count: usize) -> Walk
+    ensures { λ r. ⌜ r ≡ putEntry Entry.Slot first count w (now (out .entry)) .walk ⌝ }
+    ensures { λ r. ⌜ now (out .exit) ≡ putEntry Entry.Slot first count w (now (out .entry)) .buffer ⌝ }
+{
+    if !has_entry(w, out.len()) {
+        return w;
+    }
+    let first = first_comment(first, count);
+    entered(
+        w,
+        block::put_entry_row(out, w.moves, Entry::Slot, first, count),
+    )
 }

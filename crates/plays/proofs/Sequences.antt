@@ -1,57 +1,108 @@
 -- Lines of play whose numbers go up by one.
 --     sequence-more, sequence-none, sequence-stray   the first line, and what ends them
---     play-room, sequence-room                       what is counted of them is no more than the text has
+--     run-more, run-none, run-stray                  the same, and those of a whole line of play
+--     run-room                                       what is counted of them is no more than the text has
 --     sequence-all, sequence-whole                   where all numbers go up by one it is the line of play, and it is all where the text ends with it
 -- Assumes nothing.
 use Prim.Native.Nat.{ℕ, zero, suc, _+_, _≤_}
 use native.Mathlib.Omega.{arith}
-use mathlib.Core.Path.{_≡_, refl, sym, ap, _∙_}
-use mathlib.Core.Bool.{true, false}
+use mathlib.Core.Path.{_≡_, refl, sym, ap, _∙_, subst}
+use mathlib.Core.Bool.{Bool, true, false, true≢false}
 use mathlib.Core.List.{List, [], _∷_}
 use lib.ListN.{length}
 use lib.Dec.{eqb}
-use borrow.Author.Tests.{eq-eqb}
+use borrow.Author.Tests.{eq-eqb, eqb-true}
 use Rattle.lists.specs.Repeat.{Ended, ended, manyFrom}
 use Rattle.lists.proofs.Laws.{by-pick}
+use Rattle.text.specs.Text.{onPlace, onNumber, lineEndAt, blanksAt, digitsAt}
 use Rattle.text.specs.declared.Cursor.{Cursor}
+use Rattle.text.specs.declared.Number.{Number}
+use Rattle.text.specs.declared.Number.the-variants.{Value, NoDigit, TooLarge}
+use Rattle.text.proofs.Answers.{by-place}
 use Rattle.jkf.specs.declared.Entry.{Entry}
 use Rattle.jkf.specs.Model.{Noted}
 use Rattle.block.specs.Encode.{commentsOf, commentText}
-use Rattle.moves.specs.Moves.{moveLineAt}
+use Rattle.moves.specs.Moves.{onWhat, onMoveLine, whatAt, timeAt, colorOf, finished, playedLine, moveLineAt}
+use Rattle.moves.specs.declared.What.{What}
+use Rattle.moves.specs.declared.What.the-variants.{Is, Nothing}
 use Rattle.moves.specs.declared.MoveLine.{MoveLine}
 use Rattle.moves.specs.declared.MoveLine.the-variants.{Numbered, NoLine}
 use Rattle.moves.proofs.Goings.{move-goes}
-use Rattle.plays.specs.Plays.{noted, commentsAt, entryItem, entriesAt, numberItem, numbersAt, inSequence, sequenceAt}
-use Rattle.plays.proofs.Items.{numbers-more, numbers-none}
+use Rattle.plays.specs.Plays.{noted, commentsAt, entryItem, entriesAt, numberItem, numbersAt, inSequence, sequenceAt, plyAt}
+use Rattle.plays.specs.inner.Runs.{goesOn, runAt}
+use Rattle.plays.proofs.Items.{entries-more, entries-none, numbers-more, numbers-none}
 use Rattle.plays.proofs.Weights.{entries-room}
 
 module _ (s : List ℕ) where
   abbrev past : Cursor → ℕ
   past c = commentsAt s (c .at) .at
 
-  pub sequence-more : (n at : ℕ) (e : Entry) (c : Cursor) → moveLineAt s at ≡ Numbered n e c
+  sequence-more : (n at : ℕ) (e : Entry) (c : Cursor) → moveLineAt s at ≡ Numbered n e c
       → sequenceAt n s at ≡ ended (sequenceAt (n + 1) s (past c) .at) (noted e (commentsAt s (c .at) .state) ∷ sequenceAt (n + 1) s (past c) .state)
   unfolding sequenceAt inSequence manyFrom entryItem
   sequence-more n at e c q = rw (numbers-more s at n e c q, eq-eqb n n refl, q)
 
-  pub sequence-none : (n at : ℕ) → moveLineAt s at ≡ NoLine → sequenceAt n s at ≡ ended at []
+  sequence-none : (n at : ℕ) → moveLineAt s at ≡ NoLine → sequenceAt n s at ≡ ended at []
   unfolding sequenceAt inSequence manyFrom
   sequence-none n at q = rw (numbers-none s at q)
 
-  pub sequence-stray : (n at m : ℕ) (e : Entry) (c : Cursor) → moveLineAt s at ≡ Numbered m e c → eqb m n ≡ false → sequenceAt n s at ≡ ended at []
+  sequence-stray : (n at m : ℕ) (e : Entry) (c : Cursor) → moveLineAt s at ≡ Numbered m e c → eqb m n ≡ false → sequenceAt n s at ≡ ended at []
   unfolding sequenceAt inSequence manyFrom
   sequence-stray n at m e c q f = rw (numbers-more s at m e c q, f)
 
   abbrev Within : Ended (List Noted) → Type 0
   Within r = length (r .state) + (length (commentsOf (r .state)) + length (commentText (commentsOf (r .state)))) ≤ length s
 
-  pub play-room : (at : ℕ) → Within (entriesAt s at)
+  play-room : (at : ℕ) → Within (entriesAt s at)
   unfolding entriesAt
   play-room at = entries-room s (length s) at
 
-  pub sequence-room : (n at : ℕ) → Within (sequenceAt n s at)
+  sequence-room : (n at : ℕ) → Within (sequenceAt n s at)
   unfolding sequenceAt
   sequence-room n at = entries-room s (inSequence n (numbersAt s at)) at
+
+  -- ---- a whole line of play, or one as far as its numbers go up by one
+
+  -- the number printed at a place is that of its move line
+  ply-is : (at m : ℕ) (e : Entry) (c : Cursor) → moveLineAt s at ≡ Numbered m e c → plyAt s at ≡ m
+  unfolding moveLineAt plyAt
+  ply-is at m e c = go (digitsAt 18446744073709551615 s (blanksAt s at))
+    where
+      numbers : (n : ℕ) (w : What) → onMoveLine (onWhat w (λ e d. onPlace (lineEndAt s (timeAt s (blanksAt s (d .at)) .next .at)) (λ f. Numbered n (finished (colorOf n) (timeAt s (blanksAt s (d .at)) .time) e) f) NoLine) NoLine) (λ k e c. k) n ≡ n
+      numbers n (Is e d) = by-place (λ (r : MoveLine). onMoveLine r (λ k e c. k) n ≡ n) refl (lineEndAt s (timeAt s (blanksAt s (d .at)) .next .at)) (λ f. refl)
+      numbers n Nothing = refl
+
+      none : {A : Type 0} → NoLine ≡ Numbered m e c → A
+      none q = let z : _≡_ {A = ℕ} 0 1 = ap (λ (r : MoveLine). onMoveLine r (λ k e c. 1) 0) q in absurd (omega arith)
+
+      go : (r : Number) → onNumber r (λ n c. playedLine n s (blanksAt s (c .at))) NoLine ≡ Numbered m e c → onNumber r (λ n c. n) 0 ≡ m
+      go (Value n d) q = sym (numbers n (whatAt s (blanksAt s (d .at)))) ∙ ap (λ (r : MoveLine). onMoveLine r (λ k e c. k) n) q
+      go NoDigit q = none q
+      go TooLarge q = none q
+
+  pub run-none : (any : Bool) (n at : ℕ) → moveLineAt s at ≡ NoLine → runAt any n s at ≡ ended at []
+  unfolding runAt
+  run-none true n at q = entries-none s at q
+  run-none false n at q = sequence-none n at q
+
+  module _ (at m : ℕ) (e : Entry) (c : Cursor) (q : moveLineAt s at ≡ Numbered m e c) where
+    pub run-stray : (any : Bool) (n : ℕ) → goesOn any n s at ≡ false → runAt any n s at ≡ ended at []
+    unfolding runAt goesOn
+    run-stray true n f = absurd (true≢false f)
+    run-stray false n f = sequence-stray n at m e c q (ap (λ (k : ℕ). eqb k n) (sym (ply-is at m e c q)) ∙ f)
+
+    pub run-more : (any : Bool) (n : ℕ) → goesOn any n s at ≡ true
+        → runAt any n s at ≡ ended (runAt any (n + 1) s (past c) .at) (noted e (commentsAt s (c .at) .state) ∷ runAt any (n + 1) s (past c) .state)
+    unfolding runAt goesOn
+    run-more true n f = entries-more s at m e c q
+    run-more false n f =
+        let k : m ≡ n = sym (ply-is at m e c q) ∙ eqb-true _ _ f in
+        sequence-more n at e c (subst (λ (j : ℕ). moveLineAt s at ≡ Numbered j e c) k q)
+
+  pub run-room : (any : Bool) (n at : ℕ) → Within (runAt any n s at)
+  unfolding runAt
+  run-room true n at = play-room at
+  run-room false n at = sequence-room n at
 
   -- ---- held against the whole line of play
 

@@ -1,7 +1,6 @@
 // Lines of play, counted.
 use crate::Extent;
 use crate::Remarks;
-use moves::MoveLine;
 use moves::Remark;
 use text::Cursor;
 use text::Number;
@@ -12,6 +11,7 @@ ghost use lib.Dec.{eqb};
 ghost use Rattle.plays.specs.Plays.{plyAt, sequenceAt, skippedAt, skipsAt};
 ghost use Rattle.plays.specs.Counted.{remarksAt, extentOf, extentAt};
 ghost use Rattle.plays.specs.inner.Extending.{Roomy, extended};
+ghost use Rattle.plays.specs.inner.Runs.{goesOn, runAt};
 
 // Comments from a place on.
 pub fn count_comments(c: Cursor, s: &[u8]) -> Remarks
@@ -57,9 +57,29 @@ fn extended(x: Extent, remarks: Remarks) -> Extent
     }
 }
 
-// A line of play from a place on: move lines, each with its comments.   (the Rust's moves_with_index)
-pub fn count_moves(c: Cursor, s: &[u8]) -> Extent
-    ensures { λ r. ⌜ r ≡ extentAt (now (s .entry)) (c .at) ⌝ }
+// Whether a number is the k-th after n.
+fn is_next(number: u64, n: u64, k: usize) -> bool
+    ensures { λ r. ⌜ r ≡ eqb number (n + k) ⌝ }
+{
+    if number < n {
+        return false;
+    }
+    number - n == k as u64
+}
+
+// Whether the move line at a place goes with those before it: any does, or else one whose number is the k-th after n.
+fn goes_on(any: bool, c: Cursor, s: &[u8], n: u64, k: usize) -> bool
+    ensures { λ r. ⌜ r ≡ goesOn any (n + k) (now (s .entry)) (c .at) ⌝ }
+{
+    if any {
+        return true;
+    }
+    is_next(ply(c, s), n, k)
+}
+
+// A line of play from a place on, whole or as far as its numbers go up by one from n: move lines, each with its comments.
+fn count_run(any: bool, c: Cursor, s: &[u8], n: u64) -> Extent
+    ensures { λ r. ⌜ r ≡ extentOf (runAt any n (now (s .entry)) (c .at)) ⌝ }
 {
     let mut x = Extent {
         entries: 0,
@@ -71,39 +91,25 @@ pub fn count_moves(c: Cursor, s: &[u8]) -> Extent
         let Place::Past(past) = moves::move_line_end(x.next, s) else {
             return x;
         };
+        if !goes_on(any, x.next, s, n, x.entries) {
+            return x;
+        }
         x = extended(x, count_comments(past, s));
     }
 }
 
-// Whether a number is the k-th after n.
-fn is_next(number: u64, n: u64, k: usize) -> bool
-    ensures { λ r. ⌜ r ≡ eqb number (n + k) ⌝ }
+// A line of play from a place on.   (the Rust's moves_with_index)
+pub fn count_moves(c: Cursor, s: &[u8]) -> Extent
+    ensures { λ r. ⌜ r ≡ extentAt (now (s .entry)) (c .at) ⌝ }
 {
-    if number < n {
-        return false;
-    }
-    number - n == k as u64
+    count_run(true, c, s, 0)
 }
 
 // A line of play from a place on, as far as its numbers go up by one from n.
 pub fn count_sequence(c: Cursor, s: &[u8], n: u64) -> Extent
     ensures { λ r. ⌜ r ≡ extentOf (sequenceAt n (now (s .entry)) (c .at)) ⌝ }
 {
-    let mut x = Extent {
-        entries: 0,
-        comments: 0,
-        bytes: 0,
-        next: c,
-    };
-    loop {
-        let MoveLine::Numbered(number, _, past) = moves::move_line(x.next, s) else {
-            return x;
-        };
-        if !is_next(number, n, x.entries) {
-            return x;
-        }
-        x = extended(x, count_comments(past, s));
-    }
+    count_run(false, c, s, n)
 }
 
 // Past one skip line, if it is there.

@@ -53,7 +53,7 @@ pub fn fill_slot(s: &[u8], c: Cursor, w: Walk, out: &mut [u8]) -> Reached
     let comments = fill_comments(s, c, w, out);
     let v = comments.walk;
     let next = comments.next;
-    let walk = filling::put_entry(out, v, Entry::Slot, w.noted, v.noted - w.noted);
+    let walk = filling::put_slot(out, v, w.noted, v.noted - w.noted);
     Reached { walk, next }
 }
 

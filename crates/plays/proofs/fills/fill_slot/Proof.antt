@@ -13,19 +13,19 @@ use Rattle.plays.proofs.fills.fill_slot.Tie as tie
 fill-comments-requires : tie.Need-fill-comments-requires
 fill-comments-requires c κs = search needs
 
-sub-put-entry : tie.Need-sub-put-entry
-sub-put-entry c = let a = c .before .before .before .before .before .before .before .before .before .before .before .args in omega (arith, ap (λ (w : Walk). w .noted) (c .before .before .before .before .before .before .before .fill-comments .ensures .0), comments-more (commentsAt (a .s .now) (a .c .at) .state) (a .w) (a .out .now))
+sub-put-slot : tie.Need-sub-put-slot
+sub-put-slot c = let a = c .before .before .before .before .before .before .before .before .before .before .before .args in omega (arith, ap (λ (w : Walk). w .noted) (c .before .before .before .before .before .before .before .fill-comments .ensures .0), comments-more (commentsAt (a .s .now) (a .c .at) .state) (a .w) (a .out .now))
 
-put-entry-requires : tie.Need-put-entry-requires
-put-entry-requires c κs = search needs
+put-slot-requires : tie.Need-put-slot-requires
+put-slot-requires c κs = search needs
 
 same-length : tie.Need-same-length
 same-length c = search needs
 
 returns : tie.Need-returns
-returns c = let a = c .before .before .before .before .before .before .before .before .before .before .before .before .before .before .args in let f = c .before .before .before .before .before .before .before .before .before .before .fill-comments .ensures in let p = c .before .before .put-entry .ensures in noted-done Slot (commentsAt (a .s .now) (a .c .at) .state) (a .w) (a .out .now) (f .0) (f .1 .0) (p .0) (p .1) (f .1 .1)
+returns c = let a = c .before .before .before .before .before .before .before .before .before .before .before .before .before .before .args in let f = c .before .before .before .before .before .before .before .before .before .before .fill-comments .ensures in let p = c .before .before .put-slot .ensures in noted-done Slot (commentsAt (a .s .now) (a .c .at) .state) (a .w) (a .out .now) (f .0) (f .1 .0) (p .0) (p .1) (f .1 .1)
 
 pub fill-slot-spec : {M : Type 1} → statement M
 fill-slot-spec =
     tie.close
-    (tie.spec fill-comments-requires sub-put-entry put-entry-requires same-length returns)
+    (tie.spec fill-comments-requires sub-put-slot put-slot-requires same-length returns)

@@ -1,0 +1,45 @@
+-- The slot's bytes are stored where the entries end.
+-- Assumes nothing.
+use borrow.Author.Needs.{needs}
+use borrow.Author.Tests.{not-true, not-false}
+use mathlib.Core.Path.{sym, _∙_}
+use Rattle.jkf.specs.declared.Entry.the-variants.{Slot}
+use Rattle.filling.proofs.Putting.{entry-room, entry-none, entry-done}
+use Rattle.filling.proofs.puts.put_slot.Statement.{statement}
+use Rattle.filling.proofs.puts.put_slot.Tie as tie
+
+has-entry-requires : tie.Need-has-entry-requires
+has-entry-requires c κs = search needs
+
+returns : tie.Need-returns
+returns c = let a = c .before .before .before .args in entry-none Slot (a .first) (a .count) (a .w) (a .out .now) (sym (c .before .has-entry .ensures) ∙ not-true _ (c .if1 .taken))
+
+first-comment-requires : tie.Need-first-comment-requires
+first-comment-requires c κs = search needs
+
+put-entry-row-requires : tie.Need-put-entry-row-requires
+put-entry-row-requires c κs = search needs
+
+entered-requires : tie.Need-entered-requires
+entered-requires c κs = entry-room _ _ (sym (c .before .before .before .before .before .before .has-entry .ensures) ∙ not-false _ (c .before .before .before .before .before .if1 .left)) .number
+
+same-length : tie.Need-same-length
+same-length c = search needs
+
+returns-2 : tie.Need-returns-2
+returns-2 c =
+    let a = c .before .before .before .before .before .before .before .before .before .args in
+    entry-done Slot (a .first) (a .count) (a .w) (a .out .now) (sym (c .before .before .before .before .before .before .before .has-entry .ensures) ∙ not-false _ (c .before .before .before .before .before .before .if1 .left))
+    (c .before .before .before .before .before .first-comment .ensures) (c .before .before .before .put-entry-row .ensures) (c .entered .ensures)
+
+pub put-slot-spec : {M : Type 1} → statement M
+put-slot-spec =
+    tie.close
+    (tie.spec
+    has-entry-requires
+    returns
+    first-comment-requires
+    put-entry-row-requires
+    entered-requires
+    same-length
+    returns-2)
