@@ -1,7 +1,7 @@
 //! What was read, or edited after, is written and read back: the two calls, and what they must come to.
 
 use crate::call::Call;
-use crate::judge::{Answer, Outcome};
+use crate::judge::{answer, Outcome};
 use crate::left::{colours_follow, left};
 use crate::record::{decode, encode, LIMIT};
 
@@ -67,7 +67,7 @@ impl Counts {
         }
         self.back += 1;
         let result = encode(&left(&record));
-        let answer = Answer { number: 0, first: text.len() as u64, second: result.len() as u64 };
+        let answer = answer(0, text.len() as u64, result.len() as u64);
         Some((Call::Fill { text: text.clone() }, Outcome::Made { result, answer }))
     }
 

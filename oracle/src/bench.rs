@@ -66,7 +66,7 @@ fn made_slow(calls: Vec<(&str, usize, Call)>, out: &mut [u8]) {
     for (name, given, call) in calls {
         let call = confirmed(call, out);
         let [took] = best(SLOW_ROUNDS, || [port_time(&call, out)]);
-        let Answer { number, first, second } = port::answer(&call, out);
+        let Answer { number, first, second, .. } = port::answer(&call, out);
         println!("{name:44} {given:6} bytes  {number} {first:6} {second:5}  {:8.3} ms", millis(took));
         slowest = slowest.max((took, name));
     }

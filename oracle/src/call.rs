@@ -1,6 +1,6 @@
 //! A call of 01 with what it is given, the lent buffer apart.
 
-use crate::judge::{self, Answer, Outcome};
+use crate::judge::{self, Outcome};
 #[cfg(feature = "linked")]
 use crate::pairs;
 use crate::pairs::Asked;
@@ -36,7 +36,7 @@ impl Call {
             Call::Comment { block, k } => Outcome::Answered(judge::comment(block, *k).0),
             Call::Key { block, k } => Outcome::Answered(judge::key(block, *k).0),
             Call::Value { block, k } => Outcome::Answered(judge::value(block, *k).0),
-            Call::Sound { block } => Outcome::Answered(Answer { number: sound(block).into(), first: 0, second: 0 }),
+            Call::Sound { block } => Outcome::Answered(judge::answer(sound(block).into(), 0, 0)),
         }
     }
 

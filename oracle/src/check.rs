@@ -4,7 +4,7 @@ use crate::attach;
 use crate::call::Call;
 use crate::cases;
 use crate::edits::{EDITS, PAIRS};
-use crate::judge::{self, Answer, Outcome};
+use crate::judge::{self, Outcome};
 use crate::known;
 use crate::left::{colours_follow, left};
 use crate::pairs;
@@ -60,6 +60,8 @@ fn reading(call: &Call) -> u64 {
     if let Outcome::Made { result, answer } = outcome {
         assert!(answer.first <= text.len() as u64 && answer.second == result.len() as u64);
         assert!(sound(&result), "the reader's block is not sound");
+        let untimed = decode(&result).unwrap().entries().skip(1).filter(|entry| entry.time.is_none()).count();
+        assert!(answer.lost <= untimed as u64, "more times are lost than are absent");
         reads_back(&result);
     }
     number
@@ -71,7 +73,9 @@ fn measured(measured: Outcome, filled: &Outcome) {
     match filled {
         Outcome::Answered(refusal) => assert_eq!(told, *refusal),
         Outcome::Unattached { needed, .. } => assert_eq!((told.number, told.first), (0, *needed as u64)),
-        Outcome::Made { answer, .. } => assert_eq!((told.number, told.first, told.second), (0, answer.second, answer.first)),
+        Outcome::Made { answer, .. } => {
+            assert_eq!((told.number, told.first, told.second), (0, answer.second, answer.first))
+        }
     }
 }
 
@@ -129,8 +133,7 @@ fn putting_in(call: &Call) -> u64 {
         kept.parent -= usize::from(kept.parent > place);
     }
     assert_eq!(after, before);
-    let restored =
-        Outcome::Made { result: block.clone(), answer: Answer { number: 0, first: block.len() as u64, second: 1 } };
+    let restored = Outcome::Made { result: block.clone(), answer: judge::answer(0, block.len() as u64, 1) };
     assert_eq!(judge::cut(&result, answer.second), restored);
     number
 }
@@ -207,7 +210,7 @@ fn looking_up(call: &Call) -> u64 {
             (0, answer.first, part.len() as u64)
         }
     };
-    assert_eq!(answer, Answer { number, first, second });
+    assert_eq!(answer, judge::answer(number, first, second));
     assert!(number == 0 || part.is_empty());
     number
 }
@@ -233,6 +236,7 @@ fn buffers(outcome: &Outcome) -> u64 {
         };
         assert_eq!(after, changed);
         assert_eq!(answer.number == 5, length < needed);
+        assert!(answer.number == 0 || answer.lost == 0, "a refusal tells of lost times");
     }
     outcome.deliver(&mut vec![0; needed]).number
 }
@@ -251,5 +255,6 @@ fn reads_back(block: &[u8]) {
         panic!("what was written is refused");
     };
     assert_eq!(taken.first, answer.first, "what was written is not wholly taken");
+    assert_eq!(taken.lost, 0, "a time that was written is lost");
     assert_eq!(decode(&again).unwrap(), left, "not the same record");
 }

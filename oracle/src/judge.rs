@@ -2,6 +2,7 @@
 
 use crate::attach;
 use crate::jkf::{JsonKifuFormat, MoveFormat};
+use crate::lost::lost;
 use crate::original::converter::kif::ToKif;
 use crate::original::parser::kakinoki::read_head;
 use crate::original::parser::kif::{parse, read_lines, read_moves};
@@ -9,18 +10,19 @@ use crate::record::{decode, encode, u16_at, Entry, Line, Move, Record, What, LIM
 use crate::sound::sound;
 use crate::translate::{self, nest, Play};
 use nom::error::VerboseError;
-use std::{iter, str};
+use std::str;
 
 /// The longest buffer that is lent: no block is written to so long a text.
 pub const LONGEST: usize = 200_000;
 static ZEROS: [u8; LONGEST] = [0; LONGEST];
 
-/// A number of 01's table, 0 on success, and the two figures.
+/// A number of 01's table, 0 on success, and the two figures; of filling also how many move lines lost a time (02, iv).
 #[derive(Clone, Copy, Debug, PartialEq, Eq)]
 pub struct Answer {
     pub number: u64,
     pub first: u64,
     pub second: u64,
+    pub lost: u64,
 }
 
 /// What a call comes to before the lent buffer's length is looked at.
@@ -69,8 +71,9 @@ impl Outcome {
     }
 }
 
-fn answer(number: u64, first: u64, second: u64) -> Answer {
-    Answer { number, first, second }
+/// An answer that tells of no lost time: a refusal's, and that of any call but filling.
+pub fn answer(number: u64, first: u64, second: u64) -> Answer {
+    Answer { number, first, second, lost: 0 }
 }
 
 fn refused(number: u64, first: u64, second: u64) -> Outcome {
@@ -78,28 +81,29 @@ fn refused(number: u64, first: u64, second: u64) -> Outcome {
 }
 
 /// A text that refusals 1 to 4 let pass: its record, whose parents are still to be put in; these, or the first variation that has
-/// no entry to hang on and its ply; and how many bytes are taken.
-struct Taken {
+/// no entry to hang on and its ply; its lines as they stand there; and how many bytes are taken.
+struct Taken<'a> {
     record: Record,
     parents: Result<Vec<usize>, (u64, u64)>,
+    plays: Vec<&'a str>,
     bytes: usize,
 }
 
-fn taken(text: &[u8]) -> Result<Taken, Answer> {
+fn taken(text: &[u8]) -> Result<Taken<'_>, Answer> {
     if text.len() > LIMIT {
         return Err(answer(1, text.len() as u64, 0));
     }
     let text = str::from_utf8(text).map_err(|error| answer(2, error.valid_up_to() as u64, 0))?;
     let (rest, head) = read_head(text).map_err(|error| answer(3, hand_line(text, error), 0))?;
-    let (rest, (main, variations)) = read_lines(rest).expect("no line at all is a main line without moves");
-    let variations = variations.into_iter().map(|(start, moves)| (start as u64, moves));
-    let lines: Vec<Play> = iter::once((0, main)).chain(variations).collect();
+    let (rest, read) = read_lines(rest).expect("no line at all is a main line without moves");
+    let (plays, lines): (_, Vec<Play>) =
+        read.into_iter().map(|(play, (start, moves))| (play, (start as u64, moves))).unzip();
     let record = translate::record(&head, &lines);
     let parents = attach::parents(&record.shape());
     confirm_attaching(text, rest, head, lines, parents.as_deref().ok());
     match record.length() {
         needed if needed > LIMIT => Err(answer(4, needed as u64, 0)),
-        _ => Ok(Taken { record, parents, bytes: text.len() - rest.len() }),
+        _ => Ok(Taken { record, parents, plays, bytes: text.len() - rest.len() }),
     }
 }
 
@@ -110,7 +114,7 @@ pub fn measure(text: &[u8]) -> Outcome {
 }
 
 pub fn fill(text: &[u8]) -> Outcome {
-    let Taken { mut record, parents, bytes } = match taken(text) {
+    let Taken { mut record, parents, plays, bytes } = match taken(text) {
         Ok(taken) => taken,
         Err(refusal) => return Outcome::Answered(refusal),
     };
@@ -119,7 +123,9 @@ pub fn fill(text: &[u8]) -> Outcome {
         Err((variation, ply)) => Outcome::Unattached { needed, answer: answer(6, variation, ply) },
         Ok(parents) => {
             record.lines.iter_mut().zip(parents).for_each(|(line, parent)| line.parent = parent);
-            Outcome::Made { result: encode(&record), answer: answer(0, bytes as u64, needed as u64) }
+            let lost = lost(&plays, record.entries().count() - 1);
+            let answer = Answer { lost, ..answer(0, bytes as u64, needed as u64) };
+            Outcome::Made { result: encode(&record), answer }
         }
     }
 }

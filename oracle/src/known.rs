@@ -4,6 +4,7 @@ use crate::judge::{self, Outcome};
 use crate::left::left;
 use crate::listing::listing;
 use crate::record::{decode, encode, Diagram, Record, What, LIMIT};
+use crate::times;
 
 const WORKED_EXAMPLE: &str = "\
 手合割：平手
@@ -24,7 +25,7 @@ line 1 start 2 moves 1 parent 0
 ";
 
 /// Each group by name; a group panics at the first answer that is not the known one.
-pub const GROUPS: [(&str, fn()); 8] = [
+pub const GROUPS: [(&str, fn()); 10] = [
     ("worked example", worked_example),
     ("positions", positions),
     ("put-ins and cuts", put_ins_and_cuts),
@@ -33,6 +34,8 @@ pub const GROUPS: [(&str, fn()); 8] = [
     ("writing", writing),
     ("orders", orders),
     ("what is left", what_is_left),
+    ("times", times_of_lines),
+    ("lost times", lost_times),
 ];
 
 fn worked_example() {
@@ -238,4 +241,59 @@ fn what_is_left() {
     for (before, after) in known {
         assert_eq!(left(&record(&before)), record(&after), "{before:?}");
     }
+}
+
+/// Which entries of a text have a time, its slot apart, and how many move lines lost one.
+fn timed(text: &str) -> (Vec<bool>, u64) {
+    let Outcome::Made { result, answer } = judge::fill(text.as_bytes()) else { panic!("{text:?} is refused") };
+    let entries = decode(&result).unwrap().lines.into_iter().flat_map(|line| line.entries);
+    (entries.skip(1).map(|entry| entry.time.is_some()).collect(), answer.lost)
+}
+
+/// Each case behind a move and behind an ending, in the main line and in a variation, with either break and with none.
+fn times_of_lines() {
+    for (time, read, lost) in times::cases() {
+        for before in ["1同歩打", "   1 ７六歩(77) ", "1投了", " 1中断\t "] {
+            let untaken = format!("手数\n1詰み\n{before}{time}");
+            assert_eq!(timed(&untaken), (vec![false], 0), "{untaken:?}");
+            for line_break in ["\n", "\r\n"] {
+                let line = format!("{before}{time}{line_break}");
+                let known = [
+                    (format!("手数\n{line}"), vec![read], 1),
+                    (format!("手数\n1詰み\n変化\n{line}"), vec![false, read], 1),
+                    (format!("手数\n{line}*c\n{line}\n変化\n{line}"), vec![read; 3], 3),
+                ];
+                for (text, times, lines) in known {
+                    assert_eq!(timed(&text), (times, lines * u64::from(lost)), "{text:?}");
+                }
+            }
+        }
+    }
+}
+
+/// Only taken move lines count, all of them, and none where the text is refused.
+fn lost_times() {
+    let known = [
+        ("1同歩打(300)：\n手数\n*1同歩打(300)\n1投了\n&(300)\n", 0),
+        ("手数\n1同歩打\n\n1同歩打(300)\n", 0),
+        ("手数\n1同歩打\nx\n\t1同歩打(300)\n1投了\n", 0),
+        ("手数\n1同歩打\n\t2同歩打(300)\n", 1),
+        ("手数\n1同歩打(300)\n2同歩打(300)\rx\n", 1),
+        ("手数\n1同歩打(300)\n2同歩(256)(300)\n", 1),
+        ("手数\n1同歩(255)(300)\n2同歩打(0:1/0:1)\n3投了(0:1/300)\nまで\n", 2),
+    ];
+    for (text, lost) in known {
+        assert_eq!(timed(text).1, lost, "{text:?}");
+    }
+    assert_eq!(timed(&format!("手数\n{}", "1同歩打(300)\n".repeat(3_000))).1, 3_000);
+
+    let lost_in = |text: &str, room| {
+        let answer = judge::fill(text.as_bytes()).answer_in(room);
+        (answer.number, answer.lost)
+    };
+    let line = "手数\n1同歩打(300)\n";
+    assert_eq!([175, 176].map(|room| lost_in(line, room)), [(5, 0), (0, 1)]);
+    assert_eq!([203, 204].map(|room| lost_in(&format!("{line}x\n2投了\n"), room)), [(5, 0), (6, 0)]);
+    assert_eq!(lost_in(&format!("手数\n{}", "1同歩打(300)\n".repeat(3_269)), LIMIT), (4, 0));
+    assert_eq!(lost_in(&format!("先手の持駒：x\n{line}"), LIMIT), (3, 0));
 }

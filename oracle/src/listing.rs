@@ -9,7 +9,7 @@ const INPUT: usize = LIMIT + 1;
 /// Bytes taken and block length, then each line of the block; or the refusal.
 pub fn listing(input: &[u8]) -> String {
     let mut out = vec![0; LIMIT];
-    let Answer { number, first, second } = judge::fill(&input[..input.len().min(INPUT)]).deliver(&mut out);
+    let Answer { number, first, second, .. } = judge::fill(&input[..input.len().min(INPUT)]).deliver(&mut out);
     if number != 0 {
         return format!("refused {number} {first} {second}\n");
     }

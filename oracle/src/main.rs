@@ -20,6 +20,7 @@ mod left;
 #[cfg(feature = "linked")]
 mod lent;
 mod listing;
+mod lost;
 mod normalizer;
 mod original;
 mod pairs;
@@ -34,6 +35,7 @@ mod small;
 mod sound;
 mod text;
 mod texts;
+mod times;
 mod translate;
 
 use std::process::ExitCode;

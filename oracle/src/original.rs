@@ -51,14 +51,31 @@ pub mod parser {
 
     pub mod kif {
         include!(concat!(env!("KIF_RUST"), "/src/parser/kif.rs"));
+        use nom::combinator::{consumed, recognize};
+        use std::iter;
 
-        /// The main line, and each variation with the number printed on its first move.
-        pub type Lines = (Vec<MoveFormat>, Vec<(usize, Vec<MoveFormat>)>);
+        /// A line as it stands in the text, its start (of a variation the number on its first move), and its entries.
+        pub type Line<'a> = (&'a str, (usize, Vec<MoveFormat>));
 
         /// The lines in file order, as `entire_moves` has them before it attaches them.
-        pub fn read_lines(input: &str) -> IResult<&str, Lines, VerboseError<&str>> {
-            let variation = preceded(many0(not_move_line), moves_with_index);
-            pair(preceded(opt(not_move_line), main_moves), many0(variation))(input)
+        pub fn read_lines(input: &str) -> IResult<&str, Vec<Line<'_>>, VerboseError<&str>> {
+            let main = consumed(map(main_moves, |moves| (0, moves)));
+            let variation = preceded(many0(not_move_line), consumed(moves_with_index));
+            map(pair(preceded(opt(not_move_line), main), many0(variation)), |(main, variations)| {
+                iter::once(main).chain(variations).collect()
+            })(input)
+        }
+
+        /// The move lines of a line, each as it stands in the text and with its entry.
+        pub fn read_move_lines(line: &str) -> IResult<&str, Vec<(&str, MoveFormat)>, VerboseError<&str>> {
+            let moved = map(consumed(move_line), |(text, (_, entry))| Some((text, entry)));
+            let lines = many0(alt((moved, value(None, move_comment_line))));
+            map(lines, |lines| lines.into_iter().flatten().collect())(line)
+        }
+
+        /// A move line up to where its time would stand.
+        pub fn read_up_to_time(input: &str) -> IResult<&str, &str, VerboseError<&str>> {
+            recognize(tuple((space0, digit1, space0, alt((move_special, move_move)), space0)))(input)
         }
 
         /// Move lines with their comments, and no skip line after them.

@@ -4,7 +4,8 @@
 #![allow(dead_code, unused_variables, unreachable_patterns)]
 
 use crate::call::Call;
-use crate::judge::Answer;
+use crate::judge::{self, Answer};
+use std::array;
 
 type In = *const u8;
 type Out = *mut u8;
@@ -14,7 +15,16 @@ extern "C" {
     #[cfg(feature = "kif_measure")]
     fn kif_measure(text: In, text_len: usize, number: Figure, first: Figure, second: Figure);
     #[cfg(feature = "kif_fill")]
-    fn kif_fill(text: In, text_len: usize, out: Out, out_len: usize, number: Figure, first: Figure, second: Figure);
+    fn kif_fill(
+        text: In,
+        text_len: usize,
+        out: Out,
+        out_len: usize,
+        number: Figure,
+        first: Figure,
+        second: Figure,
+        lost: Figure,
+    );
     #[cfg(feature = "kif_write")]
     fn kif_write(block: In, block_len: usize, out: Out, out_len: usize, number: Figure, first: Figure, second: Figure);
     #[cfg(feature = "kif_put_in")]
@@ -59,7 +69,11 @@ pub fn answer(call: &Call, out: &mut [u8]) -> Answer {
         #[cfg(feature = "kif_measure")]
         Call::Measure { text } => lend(|n, a, b| unsafe { kif_measure(text.as_ptr(), text.len(), n, a, b) }),
         #[cfg(feature = "kif_fill")]
-        Call::Fill { text } => lend(|n, a, b| unsafe { kif_fill(text.as_ptr(), text.len(), at, room, n, a, b) }),
+        Call::Fill { text } => {
+            let fill = |[n, a, b, l]: [Figure; 4]| unsafe { kif_fill(text.as_ptr(), text.len(), at, room, n, a, b, l) };
+            let [number, first, second, lost] = numbers(fill);
+            Answer { number, first, second, lost }
+        }
         #[cfg(feature = "kif_write")]
         Call::Write { block } => lend(|n, a, b| unsafe { kif_write(block.as_ptr(), block.len(), at, room, n, a, b) }),
         #[cfg(feature = "kif_put_in")]
@@ -77,20 +91,25 @@ pub fn answer(call: &Call, out: &mut [u8]) -> Answer {
         #[cfg(feature = "kif_value")]
         Call::Value { block, k } => lend(|n, a, b| unsafe { kif_value(block.as_ptr(), block.len(), *k, n, a, b) }),
         #[cfg(feature = "kif_sound")]
-        Call::Sound { block } => {
-            Answer { number: unsafe { kif_sound(block.as_ptr(), block.len()) }.into(), first: 0, second: 0 }
-        }
+        Call::Sound { block } => judge::answer(unsafe { kif_sound(block.as_ptr(), block.len()) }.into(), 0, 0),
         _ => unreachable!("the library does not export this call"),
     }
 }
 
-/// Lends three numbers to a call, between two that it must leave alone.
+/// The answer of a call that is lent three numbers.
 fn lend(call: impl FnOnce(Figure, Figure, Figure)) -> Answer {
+    let [number, first, second] = numbers(|[n, a, b]| call(n, a, b));
+    judge::answer(number, first, second)
+}
+
+/// Lends so many numbers, at most four, to a call, between others that it must leave alone.
+fn numbers<const N: usize>(call: impl FnOnce([Figure; N])) -> [u64; N] {
     const UNTOUCHED: u64 = 0xa5a5_a5a5_a5a5_a5a5;
-    let mut numbers = [UNTOUCHED; 5];
-    let [_, number, first, second, _] = &mut numbers;
-    call(number, first, second);
-    let [before, number, first, second, after] = numbers;
-    assert_eq!([before, after], [UNTOUCHED; 2], "a number beside those lent was changed");
-    Answer { number, first, second }
+    let mut row = [UNTOUCHED; 6];
+    // All of one pointer, by which any number of the row could be changed for all that the compiler knows.
+    let start = row.as_mut_ptr();
+    call(array::from_fn(|k| start.wrapping_add(1 + k)));
+    let mut beside = row[..1].iter().chain(&row[1 + N..]);
+    assert!(beside.all(|&number| number == UNTOUCHED), "a number beside those lent was changed");
+    array::from_fn(|k| row[1 + k])
 }

@@ -19,6 +19,6 @@ pub fn text(input: &[u8]) -> String {
     String::from_utf8(out).expect("the original writes UTF-8")
 }
 
-fn refused(Answer { number, first, second }: Answer) -> String {
+fn refused(Answer { number, first, second, .. }: Answer) -> String {
     format!("refused {number} {first} {second}\n")
 }
