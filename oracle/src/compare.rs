@@ -33,7 +33,7 @@ const KINDS: &[Kind] = &[
     #[cfg(feature = "kif_value")]
     Kind { name: "value", share: 1, all: None, make: cases::a_value, test: compared },
     #[cfg(feature = "kif_fill")]
-    Kind { name: "short texts", share: 31, all: Some(crate::short::SHORT), make: cases::short_text, test: compared },
+    Kind { name: "short texts", share: 34, all: Some(crate::short::SHORT), make: cases::short_text, test: compared },
     #[cfg(feature = "kif_fill")]
     Kind { name: "texts", share: 20, all: None, make: cases::any_text, test: compared },
     #[cfg(feature = "kif_write")]

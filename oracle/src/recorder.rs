@@ -22,6 +22,9 @@ const SEED: u64 = 1;
 /// What a lent buffer holds before.
 const UNTOUCHED: u8 = 165;
 
+/// The kind whose answers tell how many times are lost.
+const READS: u8 = b'r';
+
 /// A kind's letter, what it is, and its recorder.
 type Recorder = (u8, &'static str, fn(&mut Sample));
 
@@ -41,10 +44,10 @@ const RECORDERS: [Recorder; 19] = [
     (b'k', "comments: place, text; found, its text's first place and the one after it, place after", remarks::comments),
     (b'x', "skip lines: place, text; found, place after", remarks::skips),
     (b'g', "measures: text; number, two figures", reads::measures),
-    (b'r', "reads: buffer's length, text; number, two figures, the buffer (165 in each byte before)", reads::fills),
+    (READS, "reads: buffer's length, text; number, two figures, lost, buffer (165 in each byte before)", reads::fills),
     (b'b', "writes: buffer's length, slice; number, two figures, the buffer (165 in each byte before)", writes::writes),
-    (b'p', "put-ins: buffer's length, line, block's length, block, text; as of reads", edits::put_ins),
-    (b'o', "cuts: buffer's length, line, block's length, block; as of reads", edits::cuts),
+    (b'p', "put-ins: buffer's length, line, block's length, block, text; as of writes", edits::put_ins),
+    (b'o', "cuts: buffer's length, line, block's length, block; as of writes", edits::cuts),
 ];
 
 /// Writes the sample to this file, and beside it how it was made.
@@ -91,8 +94,9 @@ impl Sample {
     fn add_lent(&mut self, room: usize, given: &[u8], outcome: &Outcome) {
         let mut out = vec![UNTOUCHED; room];
         let answer = outcome.deliver(&mut out);
-        let figures = numbers(&[answer.number, answer.first, answer.second]);
-        self.add(&[&numbers(&[room as u64])[..], given].concat(), &[figures, out].concat());
+        let figures = [answer.number, answer.first, answer.second, answer.lost];
+        let told = if self.kind == READS { 4 } else { 3 };
+        self.add(&[&numbers(&[room as u64])[..], given].concat(), &[numbers(&figures[..told]), out].concat());
     }
 
     /// The same with no buffer, one that is short by a byte, one that is just long enough, and a longer one.

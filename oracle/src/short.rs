@@ -38,7 +38,7 @@ const FILES: &str = files!();
 const ROWS: &str = rows!();
 const BOARD: &str = concat!(files!(), edge!(), "|v香 ・ ・ ・ ・ ・ ・ ・ ・|一\n", rows!(), edge!());
 
-const ALPHABETS: [Alphabet; 11] = [
+const ALPHABETS: [Alphabet; 12] = [
     // What a break, a comment and a skip line are.
     Alphabet { before: &[], pieces: &["\n", "\r\n", "\r", "*", "&", "x", "1同歩打"], after: &[], most: 6 },
     // Which lines of the head are information, skipped, comments of the slot, or moves.
@@ -51,7 +51,7 @@ const ALPHABETS: [Alphabet; 11] = [
     // Where variations begin, end and hang.
     Alphabet {
         before: &["手数\n1同歩打\n2投了\n"],
-        pieces: &["0同歩打\n", "1同歩打\n", "2同歩打(0:1/0:2)\n", "3投了\r\n", "変化：2手\n", "*c\n", "\n"],
+        pieces: &["0同歩打\n", "1同歩打(300)\n", "2同歩打(0:1/0:2)\n", "3投了\r\n", "変化：2手\n", "*c\n", "\n"],
         after: &[],
         most: 6,
     },
@@ -93,6 +93,13 @@ const ALPHABETS: [Alphabet; 11] = [
         before: &["手数\n1同歩打"],
         pieces: &["(", "1:2", "/", ":3", ")", " ", "256"],
         after: &["\n*c\n"],
+        most: 6,
+    },
+    // Where a figure of it that is too large is met.
+    Alphabet {
+        before: &["手数\n1同歩打("],
+        pieces: &["1:", "2", "/", ":", ")", " ", "256"],
+        after: &["\n2投了\n"],
         most: 6,
     },
     // The last cells of a row of the board.

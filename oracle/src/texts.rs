@@ -2,6 +2,7 @@
 
 use crate::record::LIMIT;
 use crate::rng::Rng;
+use crate::times;
 
 const KINDS: [&str; 19] = [
     "歩", "香", "桂", "銀", "金", "角", "飛", "玉", "王", "と", "杏", "成香", "圭", "成桂", "全", "成銀", "馬", "龍",
@@ -22,13 +23,19 @@ const KEYS: [&str; 20] = [
     "開始日時", "終了日時", "表題", "棋戦", "戦型", "持ち時間", "秒読み", "場所", "先手", "下手", "後手", "上手",
     "手合割", "備考", "a", "b", "*c", "\u{feff}a", "変化", " 1",
 ];
-const WORDS: [&str; 14] = ["", "x", "名人", "&x", "*", "：", "#", "a：b", "　", "\t", "\0", "🀄𠮷", "(0:1/0:2)", "手"];
+const WORDS: [&str; 15] =
+    ["", "x", "名人", "&x", "*", "：", "#", "a：b", "　", "\t", "\0", "🀄𠮷", "(0:1/0:2)", "(300)", "手"];
 const FILES: [&str; 9] = ["１", "２", "３", "４", "５", "６", "７", "８", "９"];
 const RANKS: [&str; 9] = ["一", "二", "三", "四", "五", "六", "七", "八", "九"];
 const SKIP_LINES: [&str; 12] = [
     "手数----指手---------消費時間--", "手数--", "", "変化：2手", "まで2手で先手の勝ち", "#c", "&b", "|x",
-    "\t1 同歩打", "：", "+", "先手番",
+    "\t1 同歩打(300)", "：", "+", "先手番",
 ];
+const LARGE_FIGURES: [&str; 8] =
+    ["256", "257", "300", "1000", "65537", "00000000000000000000300", "18446744073709551617", "99999999999999999999"];
+/// Of what times are made, and what comes near it.
+const TIME_SPLINTERS: [&str; 16] =
+    ["(", ")", "/", "/", ":", ":", " ", "\t", "0", "1", "59", "255", "256", "300", ".", "３"];
 const HEAD_LINE: &str = "  ９ ８ ７ ６ ５ ４ ３ ２ １";
 const EDGE_LINE: &str = "+---------------------------+";
 /// What breaks a rule when it stands in the wrong place.
@@ -135,8 +142,9 @@ fn not_utf8(r: &mut Rng) -> Vec<u8> {
 
 /// A text near a limit: of the text's length, or of the block's.
 fn sized(r: &mut Rng) -> Vec<u8> {
-    let repeated =
-        ["1同歩打\n", "1同歩打(0:0/0:0)\n", "*c\n", "x\n1同歩打\n", "x\n0投了\n", "#\n", "a：b\n"][r.below(7)];
+    let repeated = r.pick(&[
+        "1同歩打\n", "1同歩打(0:0/0:0)\n", "1同歩打(300)\n", "*c\n", "x\n1同歩打\n", "x\n0投了\n", "#\n", "a：b\n",
+    ]);
     let mut text = if repeated.contains("：") { String::new() } else { String::from("手数\n1同歩打\n") };
     let end = [LIMIT - 1, LIMIT, LIMIT + 1, 70_000, 30_000 + r.below(36_000), 36_000 + r.below(200)][r.below(6)];
     let distinct = r.one_in(2);
@@ -438,29 +446,51 @@ impl<'a> Maker<'a> {
         }
     }
 
-    /// In half of the lines, in either form, its figures round 255.
+    /// In half of the lines: mostly two clocks, now and then a known case, or pieces of times without any order.
     fn time(&mut self) {
-        if self.r.one_in(2) {
-            return;
+        match self.r.below(24) {
+            0..=11 => return,
+            12..=14 => {
+                let row = &times::ROWS[self.r.below(times::ROWS.len())];
+                self.add(row.times);
+            }
+            15..=16 => {
+                self.text += "(";
+                (0..self.r.below(10)).for_each(|_| self.add(&TIME_SPLINTERS));
+            }
+            _ => self.clocks(),
         }
+        if self.stray() {
+            self.splinter();
+        }
+    }
+
+    fn clocks(&mut self) {
         self.text += "(";
         self.clock();
         self.text += "/";
         self.clock();
         self.text += ")";
-        if self.stray() {
-            self.splinter();
-        }
     }
 
     fn clock(&mut self) {
         self.blanks();
         for place in 0..2 + self.r.below(2) {
             self.text += if place > 0 { ":" } else { "" };
-            let figure = [self.r.below(60), self.r.below(60), 0, 254, 255, 256, 300][self.r.below(60).min(6)];
-            let rarely_large = if figure > 255 && !self.r.one_in(8) { 59 } else { figure };
-            self.number(rarely_large as u64);
+            self.figure();
         }
         self.blanks();
+    }
+
+    /// Mostly below 60, sometimes 0, round 255 or far over it.
+    fn figure(&mut self) {
+        let small = self.r.below(60) as u64;
+        match self.r.below(30) {
+            0..=1 => self.add(&LARGE_FIGURES),
+            2 => self.number(0),
+            3 => self.number(254),
+            4 => self.number(255),
+            _ => self.number(small),
+        }
     }
 }

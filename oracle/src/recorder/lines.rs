@@ -6,6 +6,7 @@ use crate::original::converter::{kakinoki as show, kif as show_kif};
 use crate::original::parser::kif;
 use crate::record::entry_bytes;
 use crate::rng::Rng;
+use crate::times;
 use crate::translate::{entry, KINDS, SPECIALS};
 
 /// Move lines, one part of each varied at a time, and some of them damaged.
@@ -98,7 +99,8 @@ fn timed() -> Vec<String> {
         "\t(1:2/3:4)", "　(1:2/3:4)", "(1:2/3:4)\r", "(1:1:256/1:1)", "(0256:1/1:1)", "(１:2/3:4)", "x(1:2/3:4)",
         "(1：2/3:4)",
     ];
-    times.iter().flat_map(|time| [format!("1 ７六歩(77){time}\n"), format!("2 中断 {time}\r\n")]).collect()
+    let times = times.into_iter().chain(times::cases().map(|(time, _, _)| time));
+    times.flat_map(|time| [format!("1 ７六歩(77){time}\n"), format!("2 中断 {time}\r\n")]).collect()
 }
 
 /// Every ending, and what may stand between a move and the end of the text.

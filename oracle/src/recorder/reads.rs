@@ -4,6 +4,7 @@ use super::{numbers, Sample};
 use crate::judge::{self, Outcome};
 use crate::short::{short, SHORT};
 use crate::texts;
+use crate::times;
 
 /// The most bytes of a drawn text and of its block, so that the sample stays small.
 const TEXT: usize = 240;
@@ -12,7 +13,7 @@ const BLOCK: usize = 420;
 const PLAIN: usize = 150;
 
 /// Texts at the points where 01's words meet the original.
-const KNOWN: [&str; 48] = [
+const KNOWN: [&str; 51] = [
     "",
     "\n",
     "\r",
@@ -61,6 +62,9 @@ const KNOWN: [&str; 48] = [
     "手数\n\t1同歩打\nx\n\t1同歩打\n",
     "手数\n0同歩打\n投了\n",
     "手数\n1投了\n2同歩打\nx\n1中断\nまで\n1詰み\n2千日手\n",
+    "手数\n1同歩打(300:00/1:00:00)\n*(300)\n2同歩打(0:1/0:2)\nx\n2投了(0:01/0:0:300)\r\n3中断(2024/1/1)",
+    "手数\n1同歩打(300)\n\t2同歩打(300)\nx\n\t2同歩打(300)\n2同歩打 (300\n",
+    "手数\n1同歩打(300)\nx\n2同歩打(300)\n",
 ];
 
 /// The known texts, short ones, drawn ones, and one whose block is over the limit.
@@ -79,6 +83,10 @@ pub(super) fn fills(sample: &mut Sample) {
     for text in KNOWN.map(str::as_bytes) {
         sample.add_lent_all(text, &judge::fill(text));
     }
+    for text in timed() {
+        let outcome = judge::fill(text.as_bytes());
+        sample.add_lent(outcome.needed().expect("it is read"), text.as_bytes(), &outcome);
+    }
     let some = (0..SHORT).step_by(487).map(short).filter(|text| says_much(text));
     let (plain, boards): (Vec<_>, Vec<_>) = some.partition(|text| text.len() <= PLAIN);
     plain
@@ -92,6 +100,15 @@ pub(super) fn fills(sample: &mut Sample) {
     }
     let text = too_much().into_bytes();
     sample.add_lent(9, &text, &judge::fill(&text));
+}
+
+/// Each case of a time behind a move, and behind an ending of a variation and in a line without break; and more lost
+/// times than a byte can count.
+fn timed() -> Vec<String> {
+    let texts = times::cases().flat_map(|(time, _, _)| {
+        [format!("手数\n1同歩打{time}\n"), format!("手数\n1投了\nx\n1中断 {time}\r\n2同歩打{time}")]
+    });
+    texts.chain([format!("手数\n{}", "1同歩打(300)\n".repeat(257))]).collect()
 }
 
 /// One that is refused, or taken at least in part.
