@@ -1,9 +1,10 @@
 // The C surface: the library's calls under fixed names. A slice is a pointer and a length, a lent number a pointer.
 ghost use mathlib.Core.Path.{_≡_};
+ghost use lib.ListN.{length};
 ghost use Rattle.block.specs.Decode.{headersIn, commentsIn, keyOffset, keyLength, valueOffset, valueLength, commentOffset, commentLength};
 ghost use Rattle.block.specs.Sound.{soundb};
 ghost use Rattle.block.specs.Look.{lookAnswer, Answered};
-ghost use Rattle.parser.specs.Read.{measureOf, fillOf};
+ghost use Rattle.parser.specs.Read.{measureOf, fillOf, lostOf};
 ghost use Rattle.converter.specs.Writing.{writeOf};
 ghost use Rattle.edit.specs.Outcomes.{putInOf, cutOf};
 
@@ -62,7 +63,7 @@ pub extern "C" fn kif_measure(text: &[u8], number: &mut u64, first: &mut u64, se
     *second = f.second;
 }
 
-// Reads a text into the front of a lent buffer.
+// Reads a text into the front of a lent buffer, and tells how many times were lost.
 #[no_mangle]
 pub extern "C" fn kif_fill(
     text: &[u8],
@@ -70,14 +71,19 @@ pub extern "C" fn kif_fill(
     number: &mut u64,
     first: &mut u64,
     second: &mut u64,
+    lost: &mut u64,
 )
     ensures { λ _. ⌜ Answered (fillOf (now (text .entry)) (now (out .entry)) .answer) (now (number .exit)) (now (first .exit)) (now (second .exit)) ⌝ }
     ensures { λ _. ⌜ now (out .exit) ≡ fillOf (now (text .entry)) (now (out .entry)) .buffer ⌝ }
+    ensures { λ _. ⌜ now (lost .exit) ≡ lostOf (now (text .entry)) (length (now (out .entry))) ⌝ }
 {
-    let f = jkf::figures_of(parser::fill(text, out));
+    let r = parser::fill(text, out);
+    let a = r.answer;
+    let f = jkf::figures_of(a);
     *number = f.number;
     *first = f.first;
     *second = f.second;
+    *lost = r.lost;
 }
 
 // Writes a block's text into the front of a lent buffer.

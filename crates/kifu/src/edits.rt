@@ -2,29 +2,35 @@
 use crate::files;
 use crate::notes;
 use crate::refusals;
+use crate::times;
+use crate::times::Times;
 use jkf::Figures;
 use libc::STDERR_FILENO;
 use moves::MoveLine;
 use text::Cursor;
 
-// How long the edited block is, or that there is none.
+// How long the edited block is, and the times that were lost of what was put in; or that there is none.
 pub enum Edited {
-    Block(usize),
+    Block(usize, Times),
     Refused,
 }
 
 // What an edit came to; where it is refused, why.
-fn made(name: &[u8], f: Figures) -> Edited {
+fn made(name: &[u8], f: Figures, t: Times) -> Edited {
     if f.number != 0 {
         refusals::tell(name, f);
         return Edited::Refused;
     }
-    Edited::Block(f.first as usize)
+    Edited::Block(f.first as usize, t)
 }
 
 // Without a line, and without all that hangs from it.
 pub(crate) fn cut(name: &[u8], b: &[u8], line: u64, out: &mut [u8]) -> Edited {
-    made(name, jkf::figures_of(edit::cut(b, line, out)))
+    made(
+        name,
+        jkf::figures_of(edit::cut(b, line, out)),
+        times::none(),
+    )
 }
 
 // The number that was expected where so many entries follow a first one; the last number of 64 bits has none after it.
@@ -78,7 +84,7 @@ fn put_text(
         tell_text(variation, text, f);
         return Edited::Refused;
     }
-    made(name, f)
+    made(name, f, times::of_variation(text))
 }
 
 // With that of a file, read into a buffer with room for more than a text may have, so that a longer one is refused and not cut.
@@ -105,4 +111,11 @@ pub(crate) fn put(name: &[u8], b: &[u8], line: u64, room: &mut [u8], out: &mut [
         return Edited::Refused;
     }
     put_file(name, b, line, &variation[..n], room, out)
+}
+
+// Says which times of that file were lost.
+pub(crate) fn tell_times(t: Times) {
+    let mut variation = io::buffer();
+    let n = os::arg(4, &mut variation);
+    times::tell(&variation[..n], t);
 }

@@ -6,6 +6,7 @@ mod files;
 mod losses;
 mod notes;
 mod refusals;
+mod times;
 mod words;
 
 use libc::STDOUT_FILENO;
@@ -104,10 +105,14 @@ fn edit(
 // Prints a block as a text once it is edited. The edit is done before anything is printed, so both use one buffer.
 fn print_edited(word: Word, line: u64, name: &[u8], b: &[u8], out: &mut [u8]) -> bool {
     let mut edited = [0u8; 65535];
-    let edits::Edited::Block(n) = edit(word, line, name, b, out, &mut edited) else {
+    let edits::Edited::Block(n, times) = edit(word, line, name, b, out, &mut edited) else {
         return false;
     };
-    print_text(name, lent::front(&edited, n), out)
+    if !print_text(name, lent::front(&edited, n), out) {
+        return false;
+    }
+    edits::tell_times(times);
+    true
 }
 
 // What is asked of a text that was read into a block; and whether it was done.
@@ -138,10 +143,20 @@ fn tell_left(word: Word, name: &[u8], left: u64) {
     }
 }
 
+// The times that were lost, of which a listing has none to show.
+fn tell_times(word: Word, name: &[u8], text: &[u8], lost: u64) {
+    match word {
+        Word::List => (),
+        _ => times::tell(name, times::of_text(text, lost)),
+    }
+}
+
 // Reads a text into a block as long as a block can be, so that no buffer is short.
 fn read(word: Word, line: u64, name: &[u8], text: &[u8], out: &mut [u8]) {
     let mut block = [0u8; 65535];
-    let f = jkf::figures_of(parser::fill(text, &mut block));
+    let r = parser::fill(text, &mut block);
+    let a = r.answer;
+    let f = jkf::figures_of(a);
     if f.number != 0 {
         refusals::tell(name, f);
         return;
@@ -150,6 +165,7 @@ fn read(word: Word, line: u64, name: &[u8], text: &[u8], out: &mut [u8]) {
     let b = lent::front(&block, f.second as usize);
     if answer(word, line, name, left, f.first, b, out) {
         tell_left(word, name, left);
+        tell_times(word, name, text, r.lost);
     }
 }
 

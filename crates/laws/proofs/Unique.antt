@@ -4,7 +4,7 @@
 -- equations give the count by the input, and all else by the input and the count. A look-up's part has the bytes that stand where its figures say.
 -- Assumes nothing.
 use Prim.Native.Nat.{ℕ, _+_, _<_}
-use mathlib.Core.Path.{_≡_, refl, sym, ap, _∙_}
+use mathlib.Core.Path.{_≡_, refl, sym, ap, ap₂, _∙_}
 use mathlib.Core.List.{List, [], _++_}
 use mathlib.Core.Bool.{Bool, true, false}
 use lib.ListN.{take, drop}
@@ -22,6 +22,8 @@ use Rattle.block.specs.Sound.{soundb}
 use Rattle.block.specs.Look.{Answered, lookAnswer, lookPart}
 use Rattle.filling.specs.declared.Walk.{Walk}
 use Rattle.plays.specs.declared.Reached.{Reached}
+use Rattle.plays.specs.declared.Played.{Played}
+use Rattle.parser.specs.declared.FillAnswer.{FillAnswer}
 
 -- ---- equations
 
@@ -67,6 +69,25 @@ reached-one r s p q =
     let next = cursor-one (r .next) (s .next) (p .1 .1) (q .1 .1) in
     (equation-one (p .1 .0) (q .1 .0), ap (λ (w : Walk). reached w (r .next)) walk ∙ ap (reached (s .walk)) next)
 
+-- the same with the times that were lost
+abbrev played : Walk → Cursor → ℕ → Played
+played w c n = record { walk = w; next = c; lost = n }
+
+pub played-one : {w : Walk} {n k : ℕ} {o a b : List ℕ} (r s : Played) → (r .walk ≡ w) × ((a ≡ o) × ((r .next .at ≡ n) × (r .lost ≡ k)))
+    → (s .walk ≡ w) × ((b ≡ o) × ((s .next .at ≡ n) × (s .lost ≡ k))) → (a ≡ b) × (r ≡ s)
+played-one r s p q =
+    let walk = equation-one (p .0) (q .0) in
+    let next = cursor-one (r .next) (s .next) (p .1 .1 .0) (q .1 .1 .0) in
+    let lost = equation-one (p .1 .1 .1) (q .1 .1 .1) in
+    (equation-one (p .1 .0) (q .1 .0), ap (λ (w : Walk). played w (r .next) (r .lost)) walk ∙ ap₂ (played (s .walk)) next lost)
+
+-- a text that was read: the answer, the buffer and the times that were lost
+abbrev fillAnswer : Answer → ℕ → FillAnswer
+fillAnswer a n = record { answer = a; lost = n }
+
+pub fill-answer-one : {x : Answer} {k : ℕ} {o a b : List ℕ} (r s : FillAnswer) → (r .answer ≡ x) × ((a ≡ o) × (r .lost ≡ k)) → (s .answer ≡ x) × ((b ≡ o) × (s .lost ≡ k)) → (a ≡ b) × (r ≡ s)
+fill-answer-one r s p q = (equation-one (p .1 .0) (q .1 .0), ap₂ fillAnswer (equation-one (p .0) (q .0)) (equation-one (p .1 .1) (q .1 .1)))
+
 -- ---- the three lent numbers
 
 -- number and figures
@@ -84,6 +105,13 @@ answer-one {a} {b} s t = figures-one a b (figured-one (sym (s .number) ∙ t .nu
 pub answered-both-one : {A : Type 0} {a : Answer} {t p q : A} {n m x y z w : ℕ} → (p ≡ t) × Answered a n x y → (q ≡ t) × Answered a m z w
     → (p ≡ q) × (n ≡ m) × (x ≡ z) × (y ≡ w)
 answered-both-one s t = let e = answered-one (s .1) (t .1) in (equation-one (s .0) (t .0), e .0, e .1, e .2)
+
+-- and a fourth
+pub answered-lost-one : {A : Type 0} {a : Answer} {t p q : A} {k i j n m x y z w : ℕ} → Answered a n x y × ((p ≡ t) × (i ≡ k)) → Answered a m z w × ((q ≡ t) × (j ≡ k))
+    → (p ≡ q) × (n ≡ m) × (x ≡ z) × (y ≡ w) × (i ≡ j)
+answered-lost-one s t =
+    let e = answered-one (s .0) (t .0) in
+    (equation-one (s .1 .0) (t .1 .0), e .0, e .1, e .2, equation-one (s .1 .1) (t .1 .1))
 
 -- ---- where a look-up's part lies
 

@@ -19,7 +19,9 @@ fn print_listing(taken: u64, b: &[u8]) {
 // Reads a text into a block as long as a block can be, so that no buffer is short.
 fn list(text: &[u8]) {
     let mut block = [0u8; 65535];
-    let f = jkf::figures_of(parser::fill(text, &mut block));
+    let r = parser::fill(text, &mut block);
+    let a = r.answer;
+    let f = jkf::figures_of(a);
     if f.number != 0 {
         print_refusal(f.number, f.first, f.second);
         return;

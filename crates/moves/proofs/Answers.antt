@@ -1,7 +1,12 @@
 -- One predicate for each answer of the crate, saying what holds of its values and its place, and how it is handed on to what is made of them.
 -- Assumes nothing.
 use Prim.Native.Nat.{ℕ}
-use mathlib.Core.Path.{_≡_, subst}
+use native.Mathlib.Omega.{arith}
+use mathlib.Core.Path.{_≡_, refl, subst}
+use mathlib.Core.Logic.{⊎-elim}
+use mathlib.Core.List.{[], _∷_}
+use types.Run.{OneOf}
+use denote.Enum.Declared.{tagOf}
 use Rattle.text.specs.declared.Cursor.{Cursor}
 use Rattle.jkf.specs.declared.Clock.{Clock}
 use Rattle.jkf.specs.declared.Target.{Target}
@@ -11,7 +16,7 @@ use Rattle.moves.specs.Moves.{onAim, onSource, onClocked, onWhat}
 use Rattle.moves.specs.declared.Aim.{Aim}
 use Rattle.moves.specs.declared.Aim.the-variants.{To, NoAim}
 use Rattle.moves.specs.declared.Source.{Source}
-use Rattle.moves.specs.declared.Source.the-variants.{Out, NoSource}
+use Rattle.moves.specs.declared.Source.the-variants.{Out, NoSource, TooLarge}
 use Rattle.moves.specs.declared.Clocked.{Clocked}
 use Rattle.moves.specs.declared.Clocked.the-variants.{Shows, NoClock}
 use Rattle.moves.specs.declared.What.{What}
@@ -20,6 +25,7 @@ use Rattle.moves.specs.declared.Remark.{Remark}
 use Rattle.moves.specs.declared.Remark.the-variants.{Stands, NoRemark}
 use Rattle.moves.specs.declared.MoveLine.{MoveLine}
 use Rattle.moves.specs.declared.MoveLine.the-variants.{Numbered, NoLine}
+use Rattle.moves.proofs.Source.{the-type}
 
 pub data OnAim (P : Target → Cursor → Type 0) : Aim → Type 0 where
   to : {t : Target} {c : Cursor} → P t c → OnAim P (To t c)
@@ -28,6 +34,7 @@ pub data OnAim (P : Target → Cursor → Type 0) : Aim → Type 0 where
 pub data OnSource (P : Origin → Cursor → Type 0) : Source → Type 0 where
   out : {o : Origin} {c : Cursor} → P o c → OnSource P (Out o c)
   noSource : OnSource P NoSource
+  tooLargeSource : OnSource P TooLarge
 
 pub data OnClocked (P : Clock → Cursor → Type 0) : Clocked → Type 0 where
   shows : {k : Clock} {c : Cursor} → P k c → OnClocked P (Shows k c)
@@ -53,6 +60,7 @@ module _ {A : Type 0} (Q : A → Type 0) {d : A} (z : Q d) where
   pub by-source : {P : Origin → Cursor → Type 0} {r : Source} {f : Origin → Cursor → A} → OnSource P r → ((o : Origin) (c : Cursor) → P o c → Q (f o c)) → Q (onSource r f d)
   by-source (out {o} {c} h) k = k o c h
   by-source noSource k = z
+  by-source tooLargeSource k = z
 
   pub by-clocked : {P : Clock → Cursor → Type 0} {r : Clocked} {f : Clock → Cursor → A} → OnClocked P r → ((t : Clock) (c : Cursor) → P t c → Q (f t c)) → Q (onClocked r f d)
   by-clocked (shows {k} {c} h) g = g k c h
@@ -75,3 +83,9 @@ remark-of (stands h) = h
 
 pub remark-is : {P : Cursor → Cursor → Cursor → Type 0} {r : Remark} {from to next : Cursor} → OnRemark P r → r ≡ Stands from to next → P from to next
 remark-is {P} h q = remark-of (subst (OnRemark P) q h)
+
+-- the `else` of a `let .. else` on a source is told its tag alone
+pub source-else : {A : Type 0} (r : Source) (f : Origin → Cursor → A) (d : A) → OneOf (1 ∷ 2 ∷ []) (tagOf the-type r) → onSource r f d ≡ d
+source-else (Out o c) f d h = absurd (⊎-elim (λ e. omega arith) (λ e. omega arith) h)
+source-else NoSource f d h = refl
+source-else TooLarge f d h = refl

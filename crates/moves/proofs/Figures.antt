@@ -8,7 +8,7 @@ use Rattle.text.specs.Text.{tagAt}
 use Rattle.text.specs.declared.Cursor.{Cursor}
 use Rattle.text.specs.declared.Number.{Number}
 use Rattle.text.specs.declared.Number.the-variants.{Value}
-use Rattle.text.proofs.Answers.{OnNumber, value, noDigit, by-number, by-past, Counted, digits-fit}
+use Rattle.text.proofs.Answers.{OnNumber, value, noDigit, tooLarge, by-three, by-past, Counted, digits-fit}
 use Rattle.text.proofs.Laws.{tag-after}
 use Rattle.moves.specs.Moves.{colon, figureAt}
 
@@ -21,6 +21,6 @@ value-is {P} h e = value-of (subst (OnNumber P) e h)
 pub figure-fits : (s : List ℕ) (at : ℕ) → OnNumber (Counted 255 at) (figureAt s at)
 unfolding figureAt
 figure-fits s at =
-    by-number (OnNumber (Counted 255 at)) noDigit (digits-fit 255 s at)
+    by-three (OnNumber (Counted 255 at)) noDigit tooLarge (digits-fit 255 s at)
     (λ n c h. by-past (OnNumber (Counted 255 at)) noDigit (tagAt colon s (c .at))
     (λ e q. let p = h .past in let a = tag-after colon s (c .at) e (omega arith) q .past in value (record { small = h .small; past = omega arith })))

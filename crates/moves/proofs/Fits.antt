@@ -15,7 +15,7 @@ use Rattle.text.specs.Text.{cursor, tagAt, lineEndAt, isBlank, blanksAt, wideSp
 use Rattle.text.specs.declared.Cursor.{Cursor}
 use Rattle.text.specs.declared.Place.the-variants.{Past}
 use Rattle.text.proofs.Laws.{span-ge, tag-after, After, line-end-after}
-use Rattle.text.proofs.Answers.{by-past, by-number, Counted, digits-fit}
+use Rattle.text.proofs.Answers.{by-past, by-number, by-three, Counted, digits-fit}
 use Rattle.spell.specs.Tables.{Spelling, kinds, specials, numerals, files}
 use Rattle.spell.specs.Spell.{firstOf, hasNumber}
 use Rattle.spell.proofs.Answers.{OnSpelled, by-spelled, below, Known, first-known, first-has, first-some, both-spelled}
@@ -43,7 +43,7 @@ use Rattle.moves.specs.declared.MoveLine.{MoveLine}
 use Rattle.moves.specs.declared.Timing.{Timing}
 use Rattle.moves.proofs.Figures.{figure-fits}
 use Rattle.moves.proofs.Smalls.{each}
-use Rattle.moves.proofs.Answers.{OnAim, to, noAim, OnSource, out, noSource, OnClocked, shows, noClock, OnWhat, is, nothing, OnMoveLine, numbered, noLine, by-aim, by-source, by-clocked, by-what}
+use Rattle.moves.proofs.Answers.{OnAim, to, noAim, OnSource, out, noSource, tooLargeSource, OnClocked, shows, noClock, OnWhat, is, nothing, OnMoveLine, numbered, noLine, by-aim, by-source, by-clocked, by-what}
 
 -- ---- an answer that is fit and goes on from its place
 
@@ -101,7 +101,7 @@ pub origin-fits : (s : List ℕ) (at : ℕ) → OnSource (Read OriginFits at) (o
 unfolding originAt
 origin-fits s at =
     by-past Q noSource (tagAt (40 ∷ []) s at)
-    (λ c p. by-number Q noSource (digits-fit 255 s (c .at))
+    (λ c p. by-three Q noSource tooLargeSource (digits-fit 255 s (c .at))
     (λ n d h. by-past Q noSource (tagAt (41 ∷ []) s (d .at))
     (λ e q. out (seen n c d e (tag-past _ s at c (omega arith) p) h (tag-past _ s (d .at) e (omega arith) q)))))
   where

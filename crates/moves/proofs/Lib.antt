@@ -7,3 +7,4 @@ pub mod Shortcuts
 pub mod Worded
 pub mod Clocking
 pub mod Usually
+pub mod Losing

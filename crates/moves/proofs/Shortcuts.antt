@@ -10,14 +10,14 @@ use lib.Dec.{eqb, leb, ltb}
 use borrow.Author.Tests.{ne-eqb, eqb-true, eqb-false, ltb-true, ltb-false}
 use Rattle.lists.specs.Pick.{pick}
 use Rattle.lists.proofs.Laws.{by-pick, drop-step, pick-both}
-use Rattle.text.specs.Text.{cursor, onPlace, onNumber, isBlank, isText, isDigit, prefixFrom, spanAt, standsAt, tagAt, textAt, breakAt, tailEnd, tailAt, lineEndAt, blanksAt, numberAt, digitsAt}
+use Rattle.text.specs.Text.{cursor, onPlace, onNumber, byNumber, isBlank, isText, isDigit, prefixFrom, spanAt, standsAt, tagAt, textAt, breakAt, tailEnd, tailAt, lineEndAt, blanksAt, numberAt, digitsAt}
 use Rattle.text.specs.declared.Cursor.{Cursor}
 use Rattle.text.specs.declared.Place.{Place}
 use Rattle.text.specs.declared.Place.the-variants.{Past, Absent}
 use Rattle.text.specs.declared.Number.{Number}
 use Rattle.text.specs.declared.Number.the-variants.{Value, NoDigit, TooLarge}
 use Rattle.text.proofs.Laws.{span-end, span-on, span-off, digit-bounds, stands-fits, stands-short, stands-off, tag-back}
-use Rattle.text.proofs.Answers.{OnNumber, value, noDigit, tooLarge, by-number, by-past}
+use Rattle.text.proofs.Answers.{OnNumber, value, noDigit, tooLarge, by-number, by-three, by-past}
 use Rattle.spell.specs.Spell.{onSpelled, firstOf}
 use Rattle.spell.specs.Tables.{spelling, files, numerals, specials}
 use Rattle.spell.specs.declared.Spelled.{Spelled}
@@ -112,7 +112,7 @@ clock-from s a at = go (digitsAt 255 s at)
     second b c Absent = refl
 
     go : (r : Number)
-        → onClocked (onNumber (onNumber r (λ n c. onPlace (tagAt colon s (c .at)) (λ e. Value n e) NoDigit) NoDigit) (λ m d. onNumber (digitsAt 255 s (d .at)) (λ n e. Shows (Hms a m n) e) NoClock) NoClock) Shows
+        → onClocked (onNumber (byNumber r (λ n c. onPlace (tagAt colon s (c .at)) (λ e. Value n e) NoDigit) NoDigit TooLarge) (λ m d. onNumber (digitsAt 255 s (d .at)) (λ n e. Shows (Hms a m n) e) NoClock) NoClock) Shows
         (onNumber r (λ n d. Shows (Ms a n) d) NoClock)
         ≡ onNumber r (λ b c. onPlace (tagAt colon s (c .at)) (λ d. onNumber (digitsAt 255 s (d .at)) (λ n e. Shows (Hms a b n) e) (Shows (Ms a b) c)) (Shows (Ms a b) c)) NoClock
     go (Value b c) = second b c (tagAt colon s (c .at))
@@ -178,7 +178,7 @@ module _ (s : List ℕ) where
   figure-along : (at : ℕ) → OnNumber (λ n c. Along at (c .at)) (figureAt s at)
   unfolding figureAt
   figure-along at =
-      by-number (OnNumber (λ n c. Along at (c .at))) noDigit (digits-along 255 at)
+      by-three (OnNumber (λ n c. Along at (c .at))) noDigit tooLarge (digits-along 255 at)
       (λ n c h. by-past (OnNumber (λ n c. Along at (c .at))) noDigit (tagAt colon s (c .at)) (λ e q. value (h ∙ tag-along 58 refl (c .at) e q)))
 
   hms-along : (at : ℕ) → OnClocked (λ k c. Along at (c .at)) (hmsAt s at)

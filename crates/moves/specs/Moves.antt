@@ -6,13 +6,13 @@ use mathlib.Core.Bool.{Bool, true}
 use lib.ListN.{getD}
 use lib.Dec.{eqb}
 use Rattle.lists.specs.Pick.{pick}
-use Rattle.text.specs.Text.{cursor, onPlace, onNumber, isDigit, standsAt, tagAt, breakAt, tailAt, lineEndAt, blanksAt, wideSpace, digitsAt}
+use Rattle.text.specs.Text.{cursor, onPlace, onNumber, byNumber, isDigit, standsAt, tagAt, breakAt, tailAt, lineEndAt, blanksAt, wideSpace, digitsAt}
 use Rattle.text.specs.Utf8.{characterAt}
 use Rattle.text.specs.declared.Cursor.{Cursor}
 use Rattle.text.specs.declared.Place.{Place}
 use Rattle.text.specs.declared.Place.the-variants.{Absent as NoPlace, Past, Absent}
 use Rattle.text.specs.declared.Number.{Number}
-use Rattle.text.specs.declared.Number.the-variants.{Value, NoDigit}
+use Rattle.text.specs.declared.Number.the-variants.{Value, NoDigit, TooLarge}
 use Rattle.spell.specs.Words.{sameWord, promotes, declines, drops, black, white}
 use Rattle.spell.specs.Spell.{onSpelled, firstOf}
 use Rattle.spell.specs.Tables.{kinds, specials, numerals, files}
@@ -30,7 +30,7 @@ use Rattle.jkf.specs.declared.Entry.the-variants.{Slot, Moved, End}
 use Rattle.moves.specs.declared.Aim.{Aim}
 use Rattle.moves.specs.declared.Aim.the-variants.{To, NoAim}
 use Rattle.moves.specs.declared.Source.{Source}
-use Rattle.moves.specs.declared.Source.the-variants.{Out, NoSource}
+use Rattle.moves.specs.declared.Source.the-variants.{Out, NoSource, TooLarge as TooLargeSource}
 use Rattle.moves.specs.declared.Mark.{Mark}
 use Rattle.moves.specs.declared.Clocked.{Clocked}
 use Rattle.moves.specs.declared.Clocked.the-variants.{Shows, NoClock}
@@ -52,6 +52,7 @@ onAim NoAim f d = d
 abbrev pub onSource : {A : Type 0} → Source → (Origin → Cursor → A) → A → A
 onSource (Out o c) f d = f o c
 onSource NoSource f d = d
+onSource TooLargeSource f d = d
 
 abbrev pub onClocked : {A : Type 0} → Clocked → (Clock → Cursor → A) → A → A
 onClocked (Shows k c) f d = f k c
@@ -89,11 +90,14 @@ moveToAt s at = onPlace (tagAt sameWord s at) (λ c. onPlace (tagAt wideSpace s 
 unfoldable pub promoteAt : List ℕ → ℕ → Mark
 promoteAt s at = onPlace (tagAt promotes s at) (λ c. mark 2 c) (onPlace (tagAt declines s at) (λ c. mark 1 c) (mark 0 (cursor at)))
 
--- In brackets the tens and the ones of a number of at most 255.
+-- In brackets the tens and the ones of a number of at most 255; a number too large is told apart.
 unfoldable pub originAt : List ℕ → ℕ → Source
 originAt s at =
     onPlace (tagAt (40 ∷ []) s at)
-    (λ c. onNumber (digitsAt 255 s (c .at)) (λ n d. onPlace (tagAt (41 ∷ []) s (d .at)) (λ e. Out (From (n / 10) (n % 10)) e) NoSource) NoSource)
+    (λ c. byNumber (digitsAt 255 s (c .at))
+    (λ n d. onPlace (tagAt (41 ∷ []) s (d .at)) (λ e. Out (From (n / 10) (n % 10)) e) NoSource)
+    NoSource
+    TooLargeSource)
     NoSource
 
 -- 打, which is from (0,0), or an origin.                                                               (the Rust's move_from)
@@ -128,9 +132,9 @@ whatAt s at = onWhat (endingAt s at) (λ e c. Is e c) (moveAt s at)
 abbrev pub colon : List ℕ
 colon = 58 ∷ []
 
--- A number up to 255 and the colon after it.
+-- A number up to 255 and the colon after it. A number too large is none, and is told apart: `onNumber` joins the two, `byNumber` does not.
 unfoldable pub figureAt : List ℕ → ℕ → Number
-figureAt s at = onNumber (digitsAt 255 s at) (λ n c. onPlace (tagAt colon s (c .at)) (λ e. Value n e) NoDigit) NoDigit
+figureAt s at = byNumber (digitsAt 255 s at) (λ n c. onPlace (tagAt colon s (c .at)) (λ e. Value n e) NoDigit) NoDigit TooLarge
 
 -- h:m:s
 unfoldable pub hmsAt : List ℕ → ℕ → Clocked

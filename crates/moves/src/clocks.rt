@@ -13,17 +13,20 @@ ghost use lib.ListN.{length};
 ghost use Rattle.moves.specs.Moves.{clockAt, spacedAt, clocksAt, timeAt, figureAt};
 ghost use Rattle.moves.specs.inner.Usuals.{Two, twoDigits, UsualNow, UsualTotal, Usual};
 
-// A number up to 255 and the colon after it.
-fn figure(c: Cursor, s: &[u8]) -> Number
+// A number up to 255 and the colon after it; a number that is too large is told, whatever follows it.
+pub(crate) fn figure(c: Cursor, s: &[u8]) -> Number
     ensures { λ r. ⌜ r ≡ figureAt (now (s .entry)) (c .at) ⌝ }
 {
-    let Number::Value(n, past) = c.digits(s, 255) else {
-        return Number::NoDigit;
-    };
-    let Place::Past(end) = past.tag(s, b":") else {
-        return Number::NoDigit;
-    };
-    Number::Value(n, end)
+    match c.digits(s, 255) {
+        Number::NoDigit => Number::NoDigit,
+        Number::TooLarge => Number::TooLarge,
+        Number::Value(n, past) => {
+            let Place::Past(end) = past.tag(s, b":") else {
+                return Number::NoDigit;
+            };
+            Number::Value(n, end)
+        }
+    }
 }
 
 // h:m:s, or else m:s, with the figures before the last read once.   (the Rust's move_time_format)
@@ -46,7 +49,7 @@ fn clock(c: Cursor, s: &[u8]) -> Clocked
 }
 
 // With blanks around it.
-fn spaced(c: Cursor, s: &[u8]) -> Clocked
+pub(crate) fn spaced(c: Cursor, s: &[u8]) -> Clocked
     ensures { λ r. ⌜ r ≡ spacedAt (now (s .entry)) (c .at) ⌝ }
 {
     let Clocked::Shows(k, end) = clock(c.blanks(s), s) else {

@@ -1,5 +1,6 @@
 // Reading move lines, comments and skip lines.   (the Rust's src/parser/kif.rs)
 mod clocks;
+mod lost;
 mod played;
 mod remarks;
 
@@ -18,9 +19,12 @@ use text::Cursor;
 use text::Number;
 use text::Place;
 ghost use mathlib.Core.Path.{_≡_};
+ghost use mathlib.Core.Bool.{false};
 ghost use Prim.Native.Nat.{_+_};
 ghost use Rattle.text.specs.Text.{blanksAt};
 ghost use Rattle.moves.specs.Moves.{moveLineEndAt, colorOf, finished, moveLineAt, playedLine};
+ghost use Rattle.moves.specs.Lost.{takenLine, playedLost, lineLost};
+ghost use Rattle.moves.specs.declared.MoveLine.the-variants.{NoLine};
 ghost use Rattle.moves.specs.inner.Usuals.{Usual, UsualMove};
 
 // Where a move goes, and the place past it.
@@ -29,10 +33,11 @@ pub enum Aim {
     NoAim,
 }
 
-// Where it comes from, and the place past it.
+// Where it comes from, and the place past it; or that nothing says so, or a figure too large.
 pub enum Source {
     Out(Origin, Cursor),
     NoSource,
+    TooLarge,
 }
 
 // 2 for 成, 1 for 不成, 0 for neither, and the place past it.
@@ -71,6 +76,12 @@ pub enum MoveLine {
     NoLine,
 }
 
+// A move line, and whether it has no time because a figure was too large.
+pub struct TakenLine {
+    pub line: MoveLine,
+    pub lost: bool,
+}
+
 // An entry with its colour and its time.
 fn finish(color: u8, time: Time, entry: Entry) -> Entry
     ensures { λ r. ⌜ r ≡ finished color time entry ⌝ }
@@ -100,39 +111,56 @@ fn color(ply: u64) -> u8
     (1 - ply % 2) as u8
 }
 
+// No move line, which so has no time to lose.
+fn no_line() -> TakenLine
+    ensures { λ r. ⌜ r ≡ takenLine NoLine false ⌝ }
+{
+    TakenLine {
+        line: MoveLine::NoLine,
+        lost: false,
+    }
+}
+
 // A move line after its number, in any form.
-fn any_line(ply: u64, from: Cursor, s: &[u8]) -> MoveLine
-    ensures { λ r. ⌜ r ≡ playedLine ply (now (s .entry)) (from .at) ⌝ }
+fn any_line(ply: u64, from: Cursor, s: &[u8]) -> TakenLine
+    ensures { λ r. ⌜ r ≡ takenLine (playedLine ply (now (s .entry)) (from .at)) (playedLost (now (s .entry)) (from .at)) ⌝ }
 {
     let What::Is(entry, played) = what(from, s) else {
-        return MoveLine::NoLine;
+        return no_line();
     };
-    let timing = time(played.blanks(s), s);
+    let start = played.blanks(s);
+    let timing = time(start, s);
     let Place::Past(end) = timing.next.line_end(s) else {
-        return MoveLine::NoLine;
+        return no_line();
     };
     let taken = timing.time;
-    MoveLine::Numbered(ply, finish(color(ply), taken, entry), end)
+    TakenLine {
+        line: MoveLine::Numbered(ply, finish(color(ply), taken, entry), end),
+        lost: lost::is_lost(taken, start, s),
+    }
 }
 
-// A move line past its number, where the move has the usual form, and so has the time, which stands at t.
-fn usual_line(ply: u64, at: usize, width: usize, t: usize, s: &[u8]) -> MoveLine
+// A move line past its number, where the move has the usual form, and so has the time, which stands at t and so is not lost.
+fn usual_line(ply: u64, at: usize, width: usize, t: usize, s: &[u8]) -> TakenLine
     requires { ⌜ UsualMove (now s) at width × Usual (now s) t × (t ≡ blanksAt (now s) (at + width)) ⌝ }
-    ensures { λ r. ⌜ r ≡ playedLine ply (now (s .entry)) at ⌝ }
+    ensures { λ r. ⌜ r ≡ takenLine (playedLine ply (now (s .entry)) at) (playedLost (now (s .entry)) at) ⌝ }
 {
     let Place::Past(end) = Cursor { at: t + 16 }.line_end(s) else {
-        return MoveLine::NoLine;
+        return no_line();
     };
     let taken = clocks::usual(s, t).time;
-    MoveLine::Numbered(ply, played::usual(s, at, width, color(ply), taken), end)
+    TakenLine {
+        line: MoveLine::Numbered(ply, played::usual(s, at, width, color(ply), taken), end),
+        lost: false,
+    }
 }
 
-// A move line.   (the Rust's move_line)
-pub fn move_line(c: Cursor, s: &[u8]) -> MoveLine
-    ensures { λ r. ⌜ r ≡ moveLineAt (now (s .entry)) (c .at) ⌝ }
+// A move line, and whether its time is lost.   (the Rust's move_line; 02, request (iv))
+pub fn taken_line(c: Cursor, s: &[u8]) -> TakenLine
+    ensures { λ r. ⌜ r ≡ takenLine (moveLineAt (now (s .entry)) (c .at)) (lineLost (now (s .entry)) (c .at)) ⌝ }
 {
     let Number::Value(ply, numbered) = c.blanks(s).digits(s, u64::MAX) else {
-        return MoveLine::NoLine;
+        return no_line();
     };
     let from = numbered.blanks(s);
     let at = from.at;
@@ -144,6 +172,13 @@ pub fn move_line(c: Cursor, s: &[u8]) -> MoveLine
         }
     }
     any_line(ply, from, s)
+}
+
+// A move line.   (the Rust's move_line)
+pub fn move_line(c: Cursor, s: &[u8]) -> MoveLine
+    ensures { λ r. ⌜ r ≡ moveLineAt (now (s .entry)) (c .at) ⌝ }
+{
+    taken_line(c, s).line
 }
 
 // Past a move line. Its time, if it has one, is text, so that the tail may begin before it.

@@ -69,20 +69,23 @@ fn promote(c: Cursor, s: &[u8]) -> Mark
     }
 }
 
-// A number in brackets, split into tens and ones.
+// A number in brackets, split into tens and ones; one that is too large is told, whatever follows it.
 fn origin(c: Cursor, s: &[u8]) -> Source
     ensures { λ r. ⌜ r ≡ originAt (now (s .entry)) (c .at) ⌝ }
 {
     let Place::Past(inside) = c.tag(s, b"(") else {
         return Source::NoSource;
     };
-    let Number::Value(n, past) = inside.digits(s, 255) else {
-        return Source::NoSource;
-    };
-    let Place::Past(end) = past.tag(s, b")") else {
-        return Source::NoSource;
-    };
-    Source::Out(Origin::From((n / 10) as u8, (n % 10) as u8), end)
+    match inside.digits(s, 255) {
+        Number::NoDigit => Source::NoSource,
+        Number::TooLarge => Source::TooLarge,
+        Number::Value(n, past) => {
+            let Place::Past(end) = past.tag(s, b")") else {
+                return Source::NoSource;
+            };
+            Source::Out(Origin::From((n / 10) as u8, (n % 10) as u8), end)
+        }
+    }
 }
 
 // 打, which is from (0,0), or an origin.   (the Rust's move_from)

@@ -1,6 +1,6 @@
 -- The parts that were filled in are the block of what the text says; or the first variation that does not hang is told.
 -- Assumes nothing.
-use Prim.Native.Nat.{ℕ}
+use Prim.Native.Nat.{ℕ, _≤_}
 use native.Mathlib.Omega.{arith}
 use mathlib.Core.Path.{_≡_, refl, sym, ap, ap₂, _∙_, subst}
 use mathlib.Core.Bool.{Bool, true, false}
@@ -27,10 +27,12 @@ use Rattle.filling.specs.declared.Opening.the-variants.{Begun, Refused}
 use Rattle.filling.proofs.Putting.{is-begun, is-refused, fits, opens, refuses, unrefused}
 use Rattle.filling.proofs.Wholes.{front-size, front-rest, opened-lines, opened-block}
 use Rattle.plays.specs.Plays.{playsAt}
+use Rattle.plays.specs.Losses.{playsLost}
+use Rattle.kakinoki.specs.Starts.{startRead}
 use Rattle.parser.specs.inner.Headers.{headersAt}
 use Rattle.parser.specs.inner.Lines.{hanging}
 use Rattle.parser.specs.Parse.{Parsed, parse, needed, recordOf}
-use Rattle.parser.specs.Read.{filledWith, readStored, measured}
+use Rattle.parser.specs.Read.{filledWith, readStored, measured, hungLost, storedLost}
 use Rattle.parser.specs.inner.Stores.{Prepared, parsedSizes, Opened, Surveyed}
 use Rattle.parser.specs.declared.Survey.{Survey}
 use Rattle.parser.specs.declared.Hanging.{Hanging}
@@ -40,28 +42,32 @@ use Rattle.parser.proofs.Needing.{needed-is}
 use Rattle.parser.proofs.Storing.{headers-are, needed-length}
 
 -- what a filling of lines answered
-hanging-all : (h : Hung) (at : ℕ) (c : Cursor) → AllHung c ≡ hanging h at → (h ≡ all) × (c .at ≡ at)
-hanging-all all at c e = (refl, ap place e)
+hanging-all : (h : Hung) (at lost : ℕ) (c : Cursor) (n : ℕ) → AllHung c n ≡ hanging h at lost → (h ≡ all) × (c .at ≡ at) × (n ≡ lost)
+hanging-all all at lost c n e = (refl, ap place e, ap number e)
   where
     place : Hanging → ℕ
-    place (AllHung d) = d .at
+    place (AllHung d k) = d .at
     place (Lost k ply) = 0
-hanging-all (first k ply) at c e = let z : _≡_ {A = ℕ} 0 1 = ap one e in absurd (omega arith)
+
+    number : Hanging → ℕ
+    number (AllHung d k) = k
+    number (Lost k ply) = 0
+hanging-all (first k ply) at lost c n e = let z : _≡_ {A = ℕ} 0 1 = ap one e in absurd (omega arith)
   where
     one : Hanging → ℕ
-    one (AllHung d) = 0
+    one (AllHung d k) = 0
     one (Lost k ply) = 1
 
-hanging-lost : (h : Hung) (at k ply : ℕ) → Lost k ply ≡ hanging h at → h ≡ first k ply
-hanging-lost all at k ply e = let z : _≡_ {A = ℕ} 0 1 = ap one e in absurd (omega arith)
+hanging-lost : (h : Hung) (at lost k ply : ℕ) → Lost k ply ≡ hanging h at lost → h ≡ first k ply
+hanging-lost all at lost k ply e = let z : _≡_ {A = ℕ} 0 1 = ap one e in absurd (omega arith)
   where
     one : Hanging → ℕ
-    one (AllHung d) = 1
+    one (AllHung d k) = 1
     one (Lost k ply) = 0
-hanging-lost (first j q) at k ply e = sym (ap back e)
+hanging-lost (first j q) at lost k ply e = sym (ap back e)
   where
     back : Hanging → Hung
-    back (AllHung d) = all
+    back (AllHung d k) = all
     back (Lost k ply) = first k ply
 
 -- the answer and the buffer of a record that hangs, and of one that does not
@@ -74,6 +80,15 @@ lost-filled : (r : Parsed) (o : List ℕ) (k ply : ℕ) → allHung (r .plays) �
     → (filledWith r o .answer ≡ NoEntry k ply) × (filledWith r o .buffer ≡ replicate (length o) 0)
 unfolding filledWith
 lost-filled r o k ply e = rw e (refl, refl)
+
+-- the times that were lost, likewise
+hung-lost : (s : List ℕ) → allHung (parse s .plays) ≡ all → hungLost s ≡ playsLost s (startRead s .next .at)
+unfolding hungLost
+hung-lost s e = rw e
+
+none-lost : (s : List ℕ) (k ply : ℕ) → allHung (parse s .plays) ≡ first k ply → hungLost s ≡ 0
+unfolding hungLost
+none-lost s k ply e = rw e
 
 -- both look at a buffer's length, and at what stands past the block
 filled-same : (r : Parsed) (o o₁ : List ℕ) → length o₁ ≡ length o → drop (length (encode (recordOf r))) o₁ ≡ drop (length (encode (recordOf r))) o → filledWith r o₁ ≡ filledWith r o
@@ -127,26 +142,27 @@ module _ (s : List ℕ) {p : Position} (c : Cursor) (hs : List ℕ) (f : Prepare
           subst (λ (ps : List Play). LinesFit (attach ps) v o₁) (sym plays-there)
           (opened-lines 1 (parse s .position) hd ls position-long (m .1) walk-there buffer-there)
 
-      pub all-stored : (h : Hanging) (end : Cursor) {o₂ : List ℕ} → h ≡ hanging (allHung (playsAt s (c .at) .state)) (playsAt s (c .at) .at)
-          → (allHung (playsAt s (c .at) .state) ≡ all → o₂ ≡ puts o₁ (lineEnds v) (lineTexts 0 0 (v .bytes) (attach (playsAt s (c .at) .state)))) → h ≡ AllHung end
-          → (Done (end .at) n ≡ filledWith (parse s) o .answer) × (o₂ ≡ filledWith (parse s) o .buffer)
-      all-stored h end {o₂} e g q =
-          let (x, y) = hanging-all (allHung (playsAt s (c .at) .state)) (playsAt s (c .at) .at) end (sym q ∙ e) in
-          let k = hung-filled (parse s) o (ap allHung (sym plays-there) ∙ x) in
+      pub all-stored : (h : Hanging) (end : Cursor) (lost : ℕ) {o₂ : List ℕ} → h ≡ hanging (allHung (playsAt s (c .at) .state)) (playsAt s (c .at) .at) (playsLost s (c .at))
+          → (allHung (playsAt s (c .at) .state) ≡ all → o₂ ≡ puts o₁ (lineEnds v) (lineTexts 0 0 (v .bytes) (attach (playsAt s (c .at) .state)))) → h ≡ AllHung end lost
+          → (Done (end .at) n ≡ filledWith (parse s) o .answer) × ((o₂ ≡ filledWith (parse s) o .buffer) × (lost ≡ hungLost s))
+      all-stored h end lost {o₂} e g q =
+          let (x, y, t) = hanging-all (allHung (playsAt s (c .at) .state)) (playsAt s (c .at) .at) (playsLost s (c .at)) end lost (sym q ∙ e) in
+          let hung = ap allHung (sym plays-there) ∙ x in
+          let k = hung-filled (parse s) o hung in
           let l : length (encode (recordOf (parse s))) ≡ lengthOf (parsedSizes (parse s)) = sym block-long in
           let z = opened-block 1 (parse s .position) hd ls position-long (m .1) walk-there buffer-there
           (g x ∙ ap (λ (ps : List Play). puts o₁ (lineEnds v) (lineTexts 0 0 (v .bytes) (attach ps))) plays-there) in
           let r = front-rest 1 (parse s .position) hd ls position-long (m .1 .short) (m .0) (m .1 .room) o (m .1 .front) in (
             ap₂ Done (y ∙ taken-there) (m .1 .total ∙ needed-length f) ∙ sym (k .0),
-            z ∙ ap₂ _++_ block-is (sym r ∙ ap (λ (j : ℕ). drop j o) block-long) ∙ sym (k .1),
+            (z ∙ ap₂ _++_ block-is (sym r ∙ ap (λ (j : ℕ). drop j o) block-long) ∙ sym (k .1), t ∙ ap (playsLost s) (f .place) ∙ sym (hung-lost s hung)),
           )
 
-      pub none-stored : (h : Hanging) (k ply : ℕ) {o₃ : List ℕ} → h ≡ hanging (allHung (playsAt s (c .at) .state)) (playsAt s (c .at) .at)
-          → h ≡ Lost k ply → o₃ ≡ replicate (length o) 0 → (NoEntry k ply ≡ filledWith (parse s) o .answer) × (o₃ ≡ filledWith (parse s) o .buffer)
+      pub none-stored : (h : Hanging) (k ply : ℕ) {o₃ : List ℕ} → h ≡ hanging (allHung (playsAt s (c .at) .state)) (playsAt s (c .at) .at) (playsLost s (c .at))
+          → h ≡ Lost k ply → o₃ ≡ replicate (length o) 0 → (NoEntry k ply ≡ filledWith (parse s) o .answer) × ((o₃ ≡ filledWith (parse s) o .buffer) × (0 ≡ hungLost s))
       none-stored h k ply {o₃} e q b =
-          let x = hanging-lost (allHung (playsAt s (c .at) .state)) (playsAt s (c .at) .at) k ply (sym q ∙ e) in
-          let l = lost-filled (parse s) o k ply (ap allHung (sym plays-there) ∙ x) in
-          (sym (l .0), b ∙ sym (l .1))
+          let x = ap allHung (sym plays-there) ∙ hanging-lost (allHung (playsAt s (c .at) .state)) (playsAt s (c .at) .at) (playsLost s (c .at)) k ply (sym q ∙ e) in
+          let l = lost-filled (parse s) o k ply x in
+          (sym (l .0), (b ∙ sym (l .1), sym (none-lost s k ply x)))
 
   -- ---- stored
 
@@ -159,11 +175,13 @@ module _ (s : List ℕ) {p : Position} (c : Cursor) (hs : List ℕ) (f : Prepare
 
   module _ (o : List ℕ) {z : Sizes} (sized : z ≡ parsedSizes (parse s)) {o₁ : List ℕ} (left : o₁ ≡ opened 1 z p o) where
     -- a refusal is the one that the block's length calls for
-    pub refused-so : {a : Answer} → Refused a ≡ opening z (length o) → (a ≡ readStored (parse s) o .answer) × (o₁ ≡ readStored (parse s) o .buffer)
-    unfolding readStored
+    pub refused-so : {a : Answer} → Refused a ≡ opening z (length o)
+        → (a ≡ readStored (parse s) o .answer) × ((o₁ ≡ readStored (parse s) o .buffer) × (0 ≡ storedLost s (length o)))
+    unfolding readStored storedLost
     refused-so {a} e =
-        subst (λ (n : ℕ). (a ≡ unlessRefused n o (filledWith (parse s) o) .answer) × (o₁ ≡ unlessRefused n o (filledWith (parse s) o) .buffer))
-        (ap lengthOf sized ∙ needed-length f) (refuses 1 z p o e left (filledWith (parse s) o))
+        let x = refuses 1 z p o e left (filledWith (parse s) o) in
+        subst (λ (n : ℕ). (a ≡ unlessRefused n o (filledWith (parse s) o) .answer) × ((o₁ ≡ unlessRefused n o (filledWith (parse s) o) .buffer) × (0 ≡ ifFits n (length o) (λ b. 0) (hungLost s))))
+        (ap lengthOf sized ∙ needed-length f) (x .0, (x .1, is-refused z (length o) e (λ b. 0) (hungLost s)))
 
     module _ {w : Walk} {n : ℕ} (e : Begun w n ≡ opening z (length o)) where
       opens-so : Opens 1 (parsedSizes (parse s)) (parse s .position) w n o o₁
@@ -175,16 +193,18 @@ module _ (s : List ℕ) {p : Position} (c : Cursor) (hs : List ℕ) (f : Prepare
       opened-so = (o, opens-so)
 
       -- what is filled into a block that is begun is what is stored
-      pub stored-so : {a : Answer} {o₂ : List ℕ} → a ≡ filledWith (parse s) o₁ .answer → o₂ ≡ filledWith (parse s) o₁ .buffer
-          → (a ≡ readStored (parse s) o .answer) × (o₂ ≡ readStored (parse s) o .buffer)
-      unfolding readStored
-      stored-so {a} {o₂} x y =
+      pub stored-so : {a : Answer} {o₂ : List ℕ} {lost : ℕ} → a ≡ filledWith (parse s) o₁ .answer → o₂ ≡ filledWith (parse s) o₁ .buffer → lost ≡ hungLost s
+          → (a ≡ readStored (parse s) o .answer) × ((o₂ ≡ readStored (parse s) o .buffer) × (lost ≡ storedLost s (length o)))
+      unfolding readStored storedLost
+      stored-so {a} {o₂} x y l =
           let q = opens-so in
           let k = front-size 1 (parse s .position) hd ls position-long (q .short) o (q .room) o₁ (q .front) in
           let r = front-rest 1 (parse s .position) hd ls position-long (q .short) o (q .room) o₁ (q .front) in
           let same = filled-same (parse s) o o₁ k (subst (λ (j : ℕ). drop j o₁ ≡ drop j o) block-long r) in
-          let u = unrefused (needed (parse s)) o (filledWith (parse s) o) (omega (arith, needed-length f, q .short)) (omega (arith, needed-length f, q .room)) in
-          (x ∙ ap (λ (g : Outcome). g .answer) (same ∙ sym u), y ∙ ap (λ (g : Outcome). g .buffer) (same ∙ sym u))
+          let short : needed (parse s) ≤ 65535 = omega (arith, needed-length f, q .short) in
+          let room : needed (parse s) ≤ length o = omega (arith, needed-length f, q .room) in
+          let u = unrefused (needed (parse s)) o (filledWith (parse s) o) short room in
+          (x ∙ ap (λ (g : Outcome). g .answer) (same ∙ sym u), (y ∙ ap (λ (g : Outcome). g .buffer) (same ∙ sym u), l ∙ sym (fits (λ b. 0) (hungLost s) short room)))
 
 -- ---- measured
 

@@ -2,7 +2,7 @@
 -- Assumes nothing.
 use Prim.Native.Nat.{ℕ, suc, _+_, _-_, _≤_, _<_}
 use native.Mathlib.Omega.{arith}
-use mathlib.Core.Path.{_≡_, refl, sym, ap, _∙_, subst}
+use mathlib.Core.Path.{_≡_, refl, sym, ap, ap₂, _∙_, subst}
 use mathlib.Core.List.{List, [], _∷_, _++_}
 use native.Mathlib.Decide.{decLt}
 use lib.ListN.{length, take, drop, getD, length-drop}
@@ -24,9 +24,10 @@ use Rattle.filling.specs.declared.Walk.{Walk}
 use Rattle.filling.proofs.Growing.{line}
 use Rattle.filling.proofs.Lines.{lineAt, take-more, lined-none, room-for, room-for-none, entries-fit, next-hangs, row-lined, all-lined}
 use Rattle.plays.specs.Plays.{noted, entriesAt, plyAt, skippedAt, skipsAt, variationsAt, slotAt, pastMain, mainAt, playsAt}
-use Rattle.plays.specs.declared.Reached.{Reached}
+use Rattle.plays.specs.Losses.{lostFrom, variationsLost, playsLost}
+use Rattle.plays.specs.declared.Played.{Played}
 use Rattle.parser.specs.inner.Lines.{mainLine}
-use Rattle.parser.proofs.Variations.{variation-past, variations-more, variations-none}
+use Rattle.parser.proofs.Variations.{variation-past, variations-more, variations-none, lost-more, lost-none}
 use Rattle.parser.proofs.Mains.{entered-by}
 
 -- ---- lines before line k
@@ -165,7 +166,7 @@ module _ (s : List ℕ) (at : ℕ) (w : Walk) (o₀ : List ℕ) (f : LinesFit (a
             subst (λ (p : Play). EntriesFit (p .entries) v o) (play-here some) (entries-fit ps w o₀ f k (i .few) (i .done) (more-left some))
         go (no h) = subst (λ (l : List Noted). EntriesFit l v o) (sym (nothing es (omega arith))) (room-for-none ps w o₀ f k (i .few) (i .done))
 
-    module _ (c : Cursor) (p : c .at ≡ place) (x : Reached) (o₁ : List ℕ) (a : x .walk ≡ putEntries (entriesAt s (c .at) .state) v o .walk)
+    module _ (c : Cursor) (p : c .at ≡ place) (x : Played) (o₁ : List ℕ) (a : x .walk ≡ putEntries (entriesAt s (c .at) .state) v o .walk)
         (b : o₁ ≡ putEntries (entriesAt s (c .at) .state) v o .buffer) (q : x .next .at ≡ entriesAt s (c .at) .at) where
       entered : Entered es v (x .walk) o o₁
       entered =
@@ -183,9 +184,18 @@ module _ (s : List ℕ) (at : ℕ) (w : Walk) (o₀ : List ℕ) (f : LinesFit (a
           let z : length es ≡ 0 = omega (arith, entered .entries) in
           (all-hung z, all-taken z, unfilled-by es v (x .walk) (nothing es z) (entered .filled) ∙ all-filled z)
 
+      pub none-lost : x .walk .entries ≡ v .entries → variationsLost s to ≡ 0
+      none-lost e = lost-none s to (omega (arith, entered .entries, e))
+
       module _ (ne : x .walk .entries ≡ v .entries → ⊥) where
         some-here : length es ≡ 0 → ⊥
         some-here z = ne (omega (arith, entered .entries, z))
+
+        -- the times that the variation lost are counted with it
+        pub some-lost : (q₂ : Cursor) → q₂ .at ≡ skippedAt s (x .next .at) → variationsLost s to ≡ lostFrom s (c .at) + variationsLost s (q₂ .at)
+        some-lost q₂ n =
+            lost-more s to some-here
+            ∙ ap₂ (λ (i j : ℕ). lostFrom s i + variationsLost s j) (sym p) (sym (n ∙ ap (skippedAt s) past))
 
         hang-is : (h : Hang) (start : ℕ) → start ≡ plyAt s (c .at) → hangingOf (w .lines) start (x .walk) o₁ ≡ h → hangs (starts ps) (counts ps) (starts ps k) k ≡ h
         hang-is h start e y =
@@ -243,3 +253,9 @@ module _ (s : List ℕ) (at : ℕ) (w : Walk) (o₀ : List ℕ) (f : LinesFit (a
                       ap (hungFrom (starts ps) (counts ps) 1) k₁
                       ∙ hung-more (starts ps) (counts ps) (k - 1) 1 parent e (i .hung) (ap (λ (j : ℕ). hangs (starts ps) (counts ps) (starts ps j) j) b ∙ hang);
                 }
+
+-- what was lost up to the last line is lost in all
+pub fill-lost : (s : List ℕ) (at next : ℕ) {next₀ lost₀ lost : ℕ} → next₀ ≡ pastMain s (slotAt s at .at) → lost₀ ≡ lostFrom s (slotAt s at .at)
+    → lost₀ + variationsLost s next₀ ≡ lost + variationsLost s next → variationsLost s next ≡ 0 → playsLost s at ≡ lost
+unfolding playsLost
+fill-lost s at next n m i z = omega (arith, ap (variationsLost s) n, m, i, z)

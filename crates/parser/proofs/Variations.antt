@@ -10,16 +10,18 @@ use lib.Dec.{eqb}
 use borrow.Author.Tests.{eqb-false, eqb-true, eq-eqb, ne-eqb}
 use Rattle.lists.specs.Pick.{pick}
 use Rattle.lists.proofs.Laws.{by-pick}
-use Rattle.lists.specs.Repeat.{Step, more, stop, ended, onStep, manyFrom}
+use Rattle.lists.specs.Repeat.{Step, more, stop, Ended, ended, onStep, manyFrom}
 use Rattle.lists.proofs.Repeats.{ItemGoes, many-more, many-stop, many-within}
 use Rattle.jkf.specs.Model.{Noted}
 use Rattle.jkf.specs.Attaching.{Play, play}
 use Rattle.block.specs.Encode.{concat, commentsOf, commentText}
 use Rattle.block.proofs.Tabling.{concat-append}
 use Rattle.plays.specs.Plays.{entriesAt, plyAt, skippedAt, skipsAt, playItem, variationItem, variationsAt, pastMain}
+use Rattle.plays.specs.Losses.{sumOf, lostFrom, variationLoss, variationsLost}
 use Rattle.plays.specs.inner.Entries.{playEntries}
 use Rattle.plays.proofs.Items.{on-both, no-more, entries-max, entries-within, skips-from, skipped-from, skipped-within}
 use Rattle.plays.proofs.Weights.{weight, many-weighs, entries-short}
+use Rattle.plays.proofs.Losing.{sum-weighs, losses-short}
 
 -- the entries of a line of play, their comments and the bytes of these
 abbrev pub tally : List Noted → ℕ
@@ -142,6 +144,46 @@ module _ (s : List ℕ) where
   pub variations-within : (at : ℕ) → at ≤ length s → variationsAt s at .at ≤ length s
   unfolding variationsAt
   variations-within at h = omega (arith, many-within (variationItem s) (length s) variation-goes (length s) at)
+
+  -- ---- the times that they lost
+
+  loss-goes : ItemGoes (variationLoss s) (length s)
+  unfolding variationLoss
+  loss-goes at next a = go (variationItem s at) refl
+    where
+      go : (r : Step Play) → variationItem s at ≡ r → onStep r (λ n v. more n (lostFrom s (skipsAt s at))) stop ≡ more next a → (at < next) × (next ≤ length s)
+      go (more n p) q e =
+          let g = variation-goes at n p q in
+          let k = on-both e .0 in
+          (omega (arith, g .0, k), omega (arith, g .1, k))
+      go stop q e = no-more e
+
+  loss-takes : (at next a : ℕ) → variationLoss s at ≡ more next a → at + a ≤ next
+  unfolding variationLoss variationItem
+  loss-takes at next a = go (playItem s (skipsAt s at)) refl
+    where
+      go : (r : Step Play) → playItem s (skipsAt s at) ≡ r → onStep r (λ n v. more n (lostFrom s (skipsAt s at))) stop ≡ more next a → at + a ≤ next
+      go (more n p) q e =
+          let b = on-both e in
+          let k = play-back (skipsAt s at) n p q .1 in
+          omega (arith, b .0, b .1, k, skips-from s at, losses-short s (skipsAt s at), skipped-from s (entriesAt s (skipsAt s at) .at))
+      go stop q e = no-more e
+
+  pub lost-more : (at : ℕ) → (length (entriesAt s (skipsAt s at) .state) ≡ 0 → ⊥)
+      → variationsLost s at ≡ lostFrom s (skipsAt s at) + variationsLost s (skippedAt s (entriesAt s (skipsAt s at) .at))
+  unfolding variationsLost variationLoss variationItem sumOf
+  lost-more at h =
+      ap (λ (r : Ended (List ℕ)). sumOf (r .state))
+      (many-more (variationLoss s) (length s) loss-goes at (skippedAt s (entriesAt s (skipsAt s at) .at)) (lostFrom s (skipsAt s at)) (rw (play-is (skipsAt s at) h)))
+
+  pub lost-none : (at : ℕ) → length (entriesAt s (skipsAt s at) .state) ≡ 0 → variationsLost s at ≡ 0
+  unfolding variationsLost variationLoss variationItem sumOf
+  lost-none at h = ap (λ (r : Ended (List ℕ)). sumOf (r .state)) (many-stop (variationLoss s) (length s) at (rw (play-none (skipsAt s at) h)))
+
+  pub lost-few : (at : ℕ) → variationsLost s at ≤ length s
+  unfolding variationsLost
+  lost-few at =
+      omega (arith, many-weighs (variationLoss s) (λ n. n) loss-takes (length s) at, sum-weighs (manyFrom (variationLoss s) (length s) at .state), many-within (variationLoss s) (length s) loss-goes (length s) at)
 
   -- ---- the main line
 

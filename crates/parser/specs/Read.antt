@@ -11,7 +11,8 @@ use Rattle.jkf.specs.Answers.{Outcome, refuse}
 use Rattle.jkf.specs.declared.Answer.{Answer}
 use Rattle.jkf.specs.declared.Answer.the-variants.{Done, TextTooLong, NotUtf8, HandLine, BlockTooLong, NoEntry}
 use Rattle.block.specs.Encode.{encode}
-use Rattle.filling.specs.Filling.{unlessRefused, atFront}
+use Rattle.filling.specs.Filling.{ifFits, unlessRefused, atFront}
+use Rattle.plays.specs.Losses.{playsLost}
 use Rattle.kakinoki.specs.Starts.{startRead}
 use Rattle.kakinoki.specs.declared.Fault.{Fault}
 use Rattle.kakinoki.specs.declared.Fault.the-variants.{NoFault, At}
@@ -73,3 +74,17 @@ readStored p o = unlessRefused (needed p) o (filledWith p o)
 -- Refusals 1 to 6.
 unfoldable pub fillOf : List ℕ → List ℕ → Outcome
 fillOf s o = let r = readStored (parse s) o in onEarly (earlyOf s) (λ a. refuse a o) r
+
+-- ---- times that were lost                                                                            (02, request (iv))
+
+-- Where every line hangs, those of all of them.
+unfoldable pub hungLost : List ℕ → ℕ
+hungLost s = onHung (allHung (parse s .plays)) (λ k ply. 0) (playsLost s (startRead s .next .at))
+
+-- Where the block fits into a buffer of this length.
+unfoldable pub storedLost : List ℕ → ℕ → ℕ
+storedLost s room = ifFits (needed (parse s)) room (λ a. 0) (hungLost s)
+
+-- How many move lines of a text lost a time, told beside the answer; 0 beside a refusal.
+unfoldable pub lostOf : List ℕ → ℕ → ℕ
+lostOf s room = let r = storedLost s room in onEarly (earlyOf s) (λ a. 0) r

@@ -22,9 +22,9 @@ pub struct Extents {
     pub next: Cursor,
 }
 
-// That every variation hangs, with the place past the last; or the first that does not, and its ply.
+// That every variation hangs, with the place past the last and how many times were lost; or the first that does not, and its ply.
 pub enum Hanging {
-    AllHung(Cursor),
+    AllHung(Cursor, usize),
     Lost(u64, u64),
 }
 
@@ -42,4 +42,10 @@ pub struct Survey {
     pub moves: Cursor,
     pub sizes: Sizes,
     pub taken: usize,
+}
+
+// What filling answers, and how many move lines lost a time to a figure too large: none where it refuses.
+pub struct FillAnswer {
+    pub answer: Answer,
+    pub lost: u64,
 }

@@ -1,12 +1,15 @@
 // A text measured, and filled into a block.
 use crate::Early;
+use crate::FillAnswer;
+use crate::stores::refused;
 use crate::stores::store;
 use crate::surveys::survey;
 use filling::Opening;
 use filling::Sizes;
 use jkf::Answer;
 ghost use mathlib.Core.Path.{_≡_};
-ghost use Rattle.parser.specs.Read.{measured, measureOf, fillOf};
+ghost use lib.ListN.{length};
+ghost use Rattle.parser.specs.Read.{measured, measureOf, fillOf, lostOf};
 ghost use Rattle.filling.specs.Filling.{lengthOf};
 
 // The length of a block and the bytes taken, or refusal 4: there is room for all that is not too long.
@@ -32,16 +35,17 @@ pub fn measure(text: &[u8]) -> Answer
     }
 }
 
-// Reads a text into the front of a lent buffer.
-pub fn fill(text: &[u8], out: &mut [u8]) -> Answer
-    ensures { λ r. ⌜ r ≡ fillOf (now (text .entry)) (now (out .entry)) .answer ⌝ }
+// Reads a text into the front of a lent buffer, and tells how many times were lost.
+pub fn fill(text: &[u8], out: &mut [u8]) -> FillAnswer
+    ensures { λ r. ⌜ r .answer ≡ fillOf (now (text .entry)) (now (out .entry)) .answer ⌝ }
     ensures { λ r. ⌜ now (out .exit) ≡ fillOf (now (text .entry)) (now (out .entry)) .buffer ⌝ }
+    ensures { λ r. ⌜ r .lost ≡ lostOf (now (text .entry)) (length (now (out .entry))) ⌝ }
 {
     let mut sorted = [0u16; 13107];
     let v = survey(text, &mut sorted);
     let early = v.early;
     match early {
-        Early::Refused(a) => a,
+        Early::Refused(a) => refused(a),
         Early::Passed => {
             let n = v.sizes.headers;
             store(text, v, &sorted[..n], out)

@@ -67,7 +67,7 @@ module _ (s : List ℕ) where
 
   -- ---- entries
 
-  line-goes : {A : Type 0} (f : ℕ → Noted → A) → ItemGoes (lineItem f s) (length s)
+  pub line-goes : {A : Type 0} (f : ℕ → Noted → A) → ItemGoes (lineItem f s) (length s)
   line-goes f at next a = go (moveLineAt s at) refl
     where
       go : (r : MoveLine) → moveLineAt s at ≡ r

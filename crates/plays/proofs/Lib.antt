@@ -2,4 +2,5 @@ pub mod Items
 pub mod Weights
 pub mod Counting
 pub mod Filled
+pub mod Losing
 pub mod Sequences

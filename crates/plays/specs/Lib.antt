@@ -1,3 +1,4 @@
 pub mod Plays
+pub mod Losses
 pub mod Counted
 pub mod inner

@@ -1,4 +1,5 @@
 // A line of play, filled into a block.
+use crate::Played;
 use crate::Reached;
 use filling::Walk;
 use jkf::Entry;
@@ -8,6 +9,7 @@ use text::Cursor;
 ghost use mathlib.Core.Path.{_≡_};
 ghost use Rattle.filling.specs.Filling.{putComments, putNoted, putEntries};
 ghost use Rattle.plays.specs.Plays.{noted, commentsAt, entriesAt};
+ghost use Rattle.plays.specs.Losses.{one, lostFrom};
 
 // The comments from a place on.
 fn fill_comments(s: &[u8], c: Cursor, w: Walk, out: &mut [u8]) -> Reached
@@ -57,20 +59,32 @@ pub fn fill_slot(s: &[u8], c: Cursor, w: Walk, out: &mut [u8]) -> Reached
     Reached { walk, next }
 }
 
-// A line of play from a place on.   (the Rust's moves_with_index)
-pub fn fill_moves(s: &[u8], c: Cursor, w: Walk, out: &mut [u8]) -> Reached
+// 1 for yes, 0 for no.
+fn one(b: bool) -> usize
+    ensures { λ r. ⌜ r ≡ one b ⌝ }
+{
+    if b { 1 } else { 0 }
+}
+
+// A line of play from a place on, and how many of its times were lost.   (the Rust's moves_with_index; 02, request (iv))
+pub fn fill_moves(s: &[u8], c: Cursor, w: Walk, out: &mut [u8]) -> Played
     ensures { λ r. ⌜ r .walk ≡ putEntries (entriesAt (now (s .entry)) (c .at) .state) w (now (out .entry)) .walk ⌝ }
     ensures { λ r. ⌜ now (out .exit) ≡ putEntries (entriesAt (now (s .entry)) (c .at) .state) w (now (out .entry)) .buffer ⌝ }
     ensures { λ r. ⌜ r .next .at ≡ entriesAt (now (s .entry)) (c .at) .at ⌝ }
+    ensures { λ r. ⌜ r .lost ≡ lostFrom (now (s .entry)) (c .at) ⌝ }
 {
     let mut walk = w;
     let mut next = c;
+    let mut lost = 0;
     loop {
-        let MoveLine::Numbered(_, e, past) = moves::move_line(next, s) else {
-            return Reached { walk, next };
+        let taken = moves::taken_line(next, s);
+        let line = taken.line;
+        let MoveLine::Numbered(_, e, past) = line else {
+            return Played { walk, next, lost };
         };
         let entry = fill_noted(s, e, past, walk, out);
         walk = entry.walk;
         next = entry.next;
+        lost += one(taken.lost);
     }
 }

@@ -33,3 +33,10 @@ pub struct Reached {
     pub walk: Walk,
     pub next: Cursor,
 }
+
+// The same with a line of play, and how many of its move lines lost a time to a figure too large.
+pub struct Played {
+    pub walk: Walk,
+    pub next: Cursor,
+    pub lost: usize,
+}

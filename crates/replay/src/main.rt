@@ -115,7 +115,7 @@ fn respond(kind: u8, request: &[u8], out: &mut [u8]) -> usize
 
 // Whether the library's answer to a request is the recorded one. The bytes before tell one that a call left alone from a 0.
 fn agrees(kind: u8, request: &[u8], answer: &[u8]) -> bool {
-    let mut out = [165u8; 2048];
+    let mut out = [165u8; 8192];
     let n = respond(kind, request, &mut out);
     check::same(&out[..n], answer)
 }

@@ -12,7 +12,7 @@ use denote.Enum.Declared.{tagOf}
 use borrow.Author.Tests.{leb-true, eqb-false}
 use Rattle.lists.specs.Pick.{pick}
 use Rattle.lists.proofs.Laws.{by-pick}
-use Rattle.text.specs.Text.{cursor, onPlace, onNumber, isDigit, spanAt, numberAt, digitsAt}
+use Rattle.text.specs.Text.{cursor, onPlace, onNumber, byNumber, isDigit, spanAt, numberAt, digitsAt}
 use Rattle.text.specs.declared.Cursor.{Cursor}
 use Rattle.text.specs.declared.Place.{Place}
 use Rattle.text.specs.declared.Place.the-variants.{Past, Absent}
@@ -41,6 +41,13 @@ module _ {A : Type 0} (Q : A → Type 0) {d : A} (z : Q d) where
   by-number (value {n} {c} h) k = k n c h
   by-number noDigit k = z
   by-number tooLarge k = z
+
+-- where no number and one too large are told apart
+pub by-three : {A : Type 0} (Q : A → Type 0) {none large : A} → Q none → Q large → {P : ℕ → Cursor → Type 0} {r : Number} {f : ℕ → Cursor → A} → OnNumber P r
+    → ((n : ℕ) (c : Cursor) → P n c → Q (f n c)) → Q (byNumber r f none large)
+by-three Q x y (value {n} {c} h) k = k n c h
+by-three Q x y noDigit k = x
+by-three Q x y tooLarge k = y
 
 -- a number that was read is at most the largest allowed, and it goes on from its place
 pub record Counted (largest at n : ℕ) (c : Cursor) : Type 0 where

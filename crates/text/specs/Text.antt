@@ -27,6 +27,12 @@ onNumber (Value n c) f d = f n c
 onNumber NoDigit f d = d
 onNumber TooLarge f d = d
 
+-- The same where no number and one too large are told apart.                                        (02, request (iv))
+abbrev pub byNumber : {A : Type 0} → Number → (ℕ → Cursor → A) → A → A → A
+byNumber (Value n c) f none large = f n c
+byNumber NoDigit f none large = none
+byNumber TooLarge f none large = large
+
 -- ---- bytes of a class
 
 -- A space or a tab.                                                                                (01, Reading rules: blanks)

@@ -35,7 +35,7 @@ extentsAt s at = extents (playsAt s at .state) (playsAt s at .at)
 abbrev pub mainLine : List ℕ → ℕ → Line
 mainLine s at = record { start = 0; parent = 0; entries = mainAt s at .entries }
 
--- Whether every variation hangs, and then the place past the last.
-abbrev pub hanging : Hung → ℕ → Hanging
-hanging (first k ply) at = Lost k ply
-hanging all at = AllHung (cursor at)
+-- Whether every variation hangs, and then the place past the last and how many times were lost.
+abbrev pub hanging : Hung → ℕ → ℕ → Hanging
+hanging (first k ply) at lost = Lost k ply
+hanging all at lost = AllHung (cursor at) lost

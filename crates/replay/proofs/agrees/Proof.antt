@@ -20,7 +20,7 @@ array-share-prefix-out c = search needs
 slice-aggregate-same : tie.Need-slice-aggregate-same
 slice-aggregate-same c =
     let o = c .before .before .respond .last .1 .1 .0 in
-    let h : length o ≡ 2048 = search needs in
+    let h : length o ≡ 8192 = search needs in
     sym (length-take-le (c .before .before .respond .result) o (omega (arith, c .before .before .respond .ensures)))
 
 same-requires : tie.Need-same-requires

@@ -1,6 +1,8 @@
 -- The answers of the steps, handed on as the definition hands them on.
 -- Assumes nothing.
+use mathlib.Core.Path.{sym}
 use Rattle.moves.specs.Moves.{kindToOriginAt}
+use Rattle.moves.proofs.Answers.{source-else}
 use Rattle.moves.proofs.played.piece.Statement.{statement}
 use Rattle.moves.proofs.played.piece.Tie as tie
 
@@ -26,12 +28,9 @@ move-from-requires c κs = tt
 enum-known-from : tie.Need-enum-known-from
 enum-known-from c = c .match2 .keys1
 
-enum-told-2 : tie.Need-enum-told-2
-enum-told-2 c = c .match2 .keys2
-
 returns-2 : tie.Need-returns-2
 unfolding kindToOriginAt
-returns-2 c = rw (← c .before .before .before .before .before .before .before .kind .ensures, c .before .before .before .before .before .kind2 .given .1, ← c .before .before .before .promote .ensures, ← c .before .before .move-from .ensures, c .enum-told2 .given .1)
+returns-2 c = rw (← c .before .before .before .before .before .before .kind .ensures, c .before .before .before .before .kind2 .given .1, ← c .before .before .promote .ensures, ← c .before .move-from .ensures) (sym (source-else (c .before .move-from .result) _ _ (c .match2 .keys2)))
 
 returns-3 : tie.Need-returns-3
 unfolding kindToOriginAt
@@ -48,6 +47,5 @@ piece-spec =
     promote-requires
     move-from-requires
     enum-known-from
-    enum-told-2
     returns-2
     returns-3)

@@ -1,7 +1,10 @@
 -- The slot, the entries and the row are those of the main line, and the row hangs on nothing.
 -- Assumes nothing.
 use native.Mathlib.Omega.{arith}
-use mathlib.Core.Path.{sym, _∙_}
+use Prim.Native.Nat.{ℕ}
+use mathlib.Core.Path.{sym, ap, _∙_}
+use Rattle.plays.specs.Plays.{commentsAt}
+use Rattle.plays.specs.Losses.{lostFrom}
 use Rattle.parser.proofs.Mains.{slot-grows, past-main, main-lined, main-hangs}
 use Rattle.lent.proofs.Regions.{filled-length}
 use borrow.Author.Needs.{needs}
@@ -18,7 +21,7 @@ fill-moves-requires : tie.Need-fill-moves-requires
 fill-moves-requires c κs = search needs
 
 sub-past : tie.Need-sub-past
-sub-past c = omega (arith, slot-grows (c .before .before .before .before .before .before .before .before .before .before .before .before .before .before .before .args .s .now) (c .before .before .before .before .before .before .before .before .before .before .before .before .before .before .before .args .c .at) (c .before .before .before .before .before .before .before .before .before .before .before .before .before .before .before .args .w) (c .before .before .before .before .before .before .before .before .before .before .before .before .before .before .before .args .out .now) (c .before .before .before .before .before .before .before .before .before .before .before .before .before .before .before .pre) (c .before .before .before .before .before .before .before .before .before .before .before .before .skipped .result) (c .before .before .before .before .before .before .before .before .before .before .fill-slot .result) _ (c .before .before .before .before .before .before .before .before .before .before .before .before .skipped .ensures) (c .before .before .before .before .before .before .before .before .before .before .fill-slot .ensures .0) (c .before .before .before .before .before .before .before .before .before .before .fill-slot .ensures .1 .0) (c .before .before .before .before .before .before .before .before .before .before .fill-slot .ensures .1 .1) (c .before .before .before .before .before .fill-moves .result) _ (c .before .before .before .before .before .fill-moves .ensures .0) (c .before .before .before .before .before .fill-moves .ensures .1 .0) (c .before .before .before .before .before .fill-moves .ensures .1 .1))
+sub-past c = omega (arith, slot-grows (c .before .before .before .before .before .before .before .before .before .before .before .before .before .before .before .args .s .now) (c .before .before .before .before .before .before .before .before .before .before .before .before .before .before .before .args .c .at) (c .before .before .before .before .before .before .before .before .before .before .before .before .before .before .before .args .w) (c .before .before .before .before .before .before .before .before .before .before .before .before .before .before .before .args .out .now) (c .before .before .before .before .before .before .before .before .before .before .before .before .before .before .before .pre) (c .before .before .before .before .before .before .before .before .before .before .before .before .skipped .result) (c .before .before .before .before .before .before .before .before .before .before .fill-slot .result) _ (c .before .before .before .before .before .before .before .before .before .before .before .before .skipped .ensures) (c .before .before .before .before .before .before .before .before .before .before .fill-slot .ensures .0) (c .before .before .before .before .before .before .before .before .before .before .fill-slot .ensures .1 .0) (c .before .before .before .before .before .before .before .before .before .before .fill-slot .ensures .1 .1) (c .before .before .before .before .before .fill-moves .result) _ (c .before .before .before .before .before .fill-moves .ensures .0) (c .before .before .before .before .before .fill-moves .ensures .1 .0) (c .before .before .before .before .before .fill-moves .ensures .1 .1 .0))
 
 past-requires : tie.Need-past-requires
 past-requires c κs = search needs
@@ -36,13 +39,16 @@ same-length : tie.Need-same-length
 same-length c = search needs
 
 returns : tie.Need-returns
-returns c = main-hangs (c .before .before .before .before .before .before .before .before .before .before .before .before .before .before .before .before .before .before .before .before .before .before .args .s .now) (c .before .before .before .before .before .before .before .before .before .before .before .before .before .before .before .before .before .before .before .before .before .before .args .c .at) (c .before .before .before .before .before .before .before .before .before .before .before .before .before .before .before .before .before .before .before .before .before .before .args .w) (c .before .before .before .before .before .before .before .before .before .before .before .before .before .before .before .before .before .before .before .before .before .before .args .out .now) (c .before .before .before .before .before .before .before .before .before .before .before .before .before .before .before .before .before .before .before .before .before .before .pre) (c .before .before .before .before .before .before .before .before .before .before .before .before .before .before .before .before .before .before .before .skipped .result) (c .before .before .before .before .before .before .before .before .before .before .before .before .before .before .before .before .before .fill-slot .result) _ (c .before .before .before .before .before .before .before .before .before .before .before .before .before .before .before .before .before .before .before .skipped .ensures) (c .before .before .before .before .before .before .before .before .before .before .before .before .before .before .before .before .before .fill-slot .ensures .0) (c .before .before .before .before .before .before .before .before .before .before .before .before .before .before .before .before .before .fill-slot .ensures .1 .0) (c .before .before .before .before .before .before .before .before .before .before .before .before .before .before .before .before .before .fill-slot .ensures .1 .1) (c .before .before .before .before .before .before .before .before .before .before .before .before .fill-moves .result) _ (c .before .before .before .before .before .before .before .before .before .before .before .before .fill-moves .ensures .0) (c .before .before .before .before .before .before .before .before .before .before .before .before .fill-moves .ensures .1 .0) (c .before .before .before .before .before .before .before .before .before .before .before .before .fill-moves .ensures .1 .1) (sym (c .enum-told .given .1) ∙ c .before .before .before .before .hang-line .ensures .0)
+returns c = main-hangs (c .before .before .before .before .before .before .before .before .before .before .before .before .before .before .before .before .before .before .before .before .before .before .args .s .now) (c .before .before .before .before .before .before .before .before .before .before .before .before .before .before .before .before .before .before .before .before .before .before .args .c .at) (c .before .before .before .before .before .before .before .before .before .before .before .before .before .before .before .before .before .before .before .before .before .before .args .w) (c .before .before .before .before .before .before .before .before .before .before .before .before .before .before .before .before .before .before .before .before .before .before .args .out .now) (c .before .before .before .before .before .before .before .before .before .before .before .before .before .before .before .before .before .before .before .before .before .before .pre) (c .before .before .before .before .before .before .before .before .before .before .before .before .before .before .before .before .before .before .before .skipped .result) (c .before .before .before .before .before .before .before .before .before .before .before .before .before .before .before .before .before .fill-slot .result) _ (c .before .before .before .before .before .before .before .before .before .before .before .before .before .before .before .before .before .before .before .skipped .ensures) (c .before .before .before .before .before .before .before .before .before .before .before .before .before .before .before .before .before .fill-slot .ensures .0) (c .before .before .before .before .before .before .before .before .before .before .before .before .before .before .before .before .before .fill-slot .ensures .1 .0) (c .before .before .before .before .before .before .before .before .before .before .before .before .before .before .before .before .before .fill-slot .ensures .1 .1) (c .before .before .before .before .before .before .before .before .before .before .before .before .fill-moves .result) _ (c .before .before .before .before .before .before .before .before .before .before .before .before .fill-moves .ensures .0) (c .before .before .before .before .before .before .before .before .before .before .before .before .fill-moves .ensures .1 .0) (c .before .before .before .before .before .before .before .before .before .before .before .before .fill-moves .ensures .1 .1 .0) (sym (c .enum-told .given .1) ∙ c .before .before .before .before .hang-line .ensures .0)
 
 returns-2 : tie.Need-returns-2
 returns-2 c =
     let l = c .before .before .before .before .before .hang-line .ensures in (
-      main-lined (c .before .before .before .before .before .before .before .before .before .before .before .before .before .before .before .before .before .before .before .before .before .before .before .args .s .now) (c .before .before .before .before .before .before .before .before .before .before .before .before .before .before .before .before .before .before .before .before .before .before .before .args .c .at) (c .before .before .before .before .before .before .before .before .before .before .before .before .before .before .before .before .before .before .before .before .before .before .before .args .w) (c .before .before .before .before .before .before .before .before .before .before .before .before .before .before .before .before .before .before .before .before .before .before .before .args .out .now) (c .before .before .before .before .before .before .before .before .before .before .before .before .before .before .before .before .before .before .before .before .before .before .before .pre) (c .before .before .before .before .before .before .before .before .before .before .before .before .before .before .before .before .before .before .before .before .skipped .result) (c .before .before .before .before .before .before .before .before .before .before .before .before .before .before .before .before .before .before .fill-slot .result) _ (c .before .before .before .before .before .before .before .before .before .before .before .before .before .before .before .before .before .before .before .before .skipped .ensures) (c .before .before .before .before .before .before .before .before .before .before .before .before .before .before .before .before .before .before .fill-slot .ensures .0) (c .before .before .before .before .before .before .before .before .before .before .before .before .before .before .before .before .before .before .fill-slot .ensures .1 .0) (c .before .before .before .before .before .before .before .before .before .before .before .before .before .before .before .before .before .before .fill-slot .ensures .1 .1) (c .before .before .before .before .before .before .before .before .before .before .before .before .before .fill-moves .result) _ (c .before .before .before .before .before .before .before .before .before .before .before .before .before .fill-moves .ensures .0) (c .before .before .before .before .before .before .before .before .before .before .before .before .before .fill-moves .ensures .1 .0) (c .before .before .before .before .before .before .before .before .before .before .before .before .before .fill-moves .ensures .1 .1) (sym (c .before .walk .given .1) ∙ l .0) (l .1),
-      past-main (c .before .before .before .before .before .before .before .before .before .before .before .before .before .before .before .before .before .before .before .before .before .before .before .args .s .now) (c .before .before .before .before .before .before .before .before .before .before .before .before .before .before .before .before .before .before .before .before .before .before .before .args .c .at) (c .before .before .before .before .before .before .before .before .before .before .before .before .before .before .before .before .before .before .before .before .before .before .before .args .w) (c .before .before .before .before .before .before .before .before .before .before .before .before .before .before .before .before .before .before .before .before .before .before .before .args .out .now) (c .before .before .before .before .before .before .before .before .before .before .before .before .before .before .before .before .before .before .before .before .before .before .before .pre) (c .before .before .before .before .before .before .before .before .before .before .before .before .before .before .before .before .before .before .before .before .skipped .result) (c .before .before .before .before .before .before .before .before .before .before .before .before .before .before .before .before .before .before .fill-slot .result) _ (c .before .before .before .before .before .before .before .before .before .before .before .before .before .before .before .before .before .before .before .before .skipped .ensures) (c .before .before .before .before .before .before .before .before .before .before .before .before .before .before .before .before .before .before .fill-slot .ensures .0) (c .before .before .before .before .before .before .before .before .before .before .before .before .before .before .before .before .before .before .fill-slot .ensures .1 .0) (c .before .before .before .before .before .before .before .before .before .before .before .before .before .before .before .before .before .before .fill-slot .ensures .1 .1) (c .before .before .before .before .before .before .before .before .before .before .before .before .before .fill-moves .result) _ (c .before .before .before .before .before .before .before .before .before .before .before .before .before .fill-moves .ensures .0) (c .before .before .before .before .before .before .before .before .before .before .before .before .before .fill-moves .ensures .1 .0) (c .before .before .before .before .before .before .before .before .before .before .before .before .before .fill-moves .ensures .1 .1) (c .before .before .before .before .before .before .before .past .result) (c .before .before .before .before .before .before .before .past .ensures),
+      main-lined (c .before .before .before .before .before .before .before .before .before .before .before .before .before .before .before .before .before .before .before .before .before .before .before .args .s .now) (c .before .before .before .before .before .before .before .before .before .before .before .before .before .before .before .before .before .before .before .before .before .before .before .args .c .at) (c .before .before .before .before .before .before .before .before .before .before .before .before .before .before .before .before .before .before .before .before .before .before .before .args .w) (c .before .before .before .before .before .before .before .before .before .before .before .before .before .before .before .before .before .before .before .before .before .before .before .args .out .now) (c .before .before .before .before .before .before .before .before .before .before .before .before .before .before .before .before .before .before .before .before .before .before .before .pre) (c .before .before .before .before .before .before .before .before .before .before .before .before .before .before .before .before .before .before .before .before .skipped .result) (c .before .before .before .before .before .before .before .before .before .before .before .before .before .before .before .before .before .before .fill-slot .result) _ (c .before .before .before .before .before .before .before .before .before .before .before .before .before .before .before .before .before .before .before .before .skipped .ensures) (c .before .before .before .before .before .before .before .before .before .before .before .before .before .before .before .before .before .before .fill-slot .ensures .0) (c .before .before .before .before .before .before .before .before .before .before .before .before .before .before .before .before .before .before .fill-slot .ensures .1 .0) (c .before .before .before .before .before .before .before .before .before .before .before .before .before .before .before .before .before .before .fill-slot .ensures .1 .1) (c .before .before .before .before .before .before .before .before .before .before .before .before .before .fill-moves .result) _ (c .before .before .before .before .before .before .before .before .before .before .before .before .before .fill-moves .ensures .0) (c .before .before .before .before .before .before .before .before .before .before .before .before .before .fill-moves .ensures .1 .0) (c .before .before .before .before .before .before .before .before .before .before .before .before .before .fill-moves .ensures .1 .1 .0) (sym (c .before .walk .given .1) ∙ l .0) (l .1),
+      (
+        past-main (c .before .before .before .before .before .before .before .before .before .before .before .before .before .before .before .before .before .before .before .before .before .before .before .args .s .now) (c .before .before .before .before .before .before .before .before .before .before .before .before .before .before .before .before .before .before .before .before .before .before .before .args .c .at) (c .before .before .before .before .before .before .before .before .before .before .before .before .before .before .before .before .before .before .before .before .before .before .before .args .w) (c .before .before .before .before .before .before .before .before .before .before .before .before .before .before .before .before .before .before .before .before .before .before .before .args .out .now) (c .before .before .before .before .before .before .before .before .before .before .before .before .before .before .before .before .before .before .before .before .before .before .before .pre) (c .before .before .before .before .before .before .before .before .before .before .before .before .before .before .before .before .before .before .before .before .skipped .result) (c .before .before .before .before .before .before .before .before .before .before .before .before .before .before .before .before .before .before .fill-slot .result) _ (c .before .before .before .before .before .before .before .before .before .before .before .before .before .before .before .before .before .before .before .before .skipped .ensures) (c .before .before .before .before .before .before .before .before .before .before .before .before .before .before .before .before .before .before .fill-slot .ensures .0) (c .before .before .before .before .before .before .before .before .before .before .before .before .before .before .before .before .before .before .fill-slot .ensures .1 .0) (c .before .before .before .before .before .before .before .before .before .before .before .before .before .before .before .before .before .before .fill-slot .ensures .1 .1) (c .before .before .before .before .before .before .before .before .before .before .before .before .before .fill-moves .result) _ (c .before .before .before .before .before .before .before .before .before .before .before .before .before .fill-moves .ensures .0) (c .before .before .before .before .before .before .before .before .before .before .before .before .before .fill-moves .ensures .1 .0) (c .before .before .before .before .before .before .before .before .before .before .before .before .before .fill-moves .ensures .1 .1 .0) (c .before .before .before .before .before .before .before .past .result) (c .before .before .before .before .before .before .before .past .ensures),
+        c .before .before .before .before .before .before .before .before .before .before .before .before .before .fill-moves .ensures .1 .1 .1 ∙ ap (lostFrom (c .before .before .before .before .before .before .before .before .before .before .before .before .before .before .before .before .before .before .before .before .before .before .before .args .s .now)) (c .before .before .before .before .before .before .before .before .before .before .before .before .before .before .before .before .before .before .fill-slot .ensures .1 .1 ∙ ap (λ (k : ℕ). commentsAt (c .before .before .before .before .before .before .before .before .before .before .before .before .before .before .before .before .before .before .before .before .before .before .before .args .s .now) k .at) (c .before .before .before .before .before .before .before .before .before .before .before .before .before .before .before .before .before .before .before .before .skipped .ensures)),
+      ),
     )
 
 same-length-2 : tie.Need-same-length-2

@@ -5,7 +5,7 @@ use denote.Ref.{now}
 use native.Mathlib.Omega.{arith}
 use lib.Seq.{length-take-le}
 use borrow.Author.Needs.{needs}
-use Rattle.parser.specs.Read.{earlyOf, fillOf}
+use Rattle.parser.specs.Read.{earlyOf, fillOf, lostOf}
 use Rattle.parser.specs.declared.Early.the-variants.{Refused, Passed}
 use Rattle.parser.proofs.reads.fill.Statement.{statement}
 use Rattle.parser.proofs.reads.fill.Tie as tie
@@ -32,19 +32,22 @@ store-requires : tie.Need-store-requires
 store-requires c κs = c .before .before .before .before .before .survey .ensures .1 (c .before .before .enum-told .given .1) .found
 
 returns : tie.Need-returns
-unfolding fillOf
+unfolding fillOf lostOf
 returns c =
-    let q : earlyOf (now (c .before .before .before .before .before .before .before .before .args .text)) ≡ Refused (c .before .early .given .0 .0) = sym (c .before .before .before .before .survey .ensures .0) ∙ c .before .early .given .1 in
-    rw q (refl, refl)
+    let q : earlyOf (now (c .before .before .before .before .before .before .before .before .before .args .text)) ≡ Refused (c .before .before .early .given .0 .0) = sym (c .before .before .before .before .before .survey .ensures .0) ∙ c .before .before .early .given .1 in
+    rw q (c .refused .ensures .0, (refl, c .refused .ensures .1))
 
 same-length : tie.Need-same-length
 same-length c = search needs
 
 returns-2 : tie.Need-returns-2
-unfolding fillOf
+unfolding fillOf lostOf
 returns-2 c =
     let q : earlyOf (now (c .before .before .before .before .before .before .before .before .before .before .before .before .args .text)) ≡ Passed = sym (c .before .before .before .before .before .before .before .before .survey .ensures .0) ∙ c .before .before .before .before .before .enum-told .given .1 in
     rw q (c .before .before .store .ensures)
+
+refused-requires : tie.Need-refused-requires
+refused-requires c κs = search needs
 
 pub fill-spec : {M : Type 1} → statement M
 fill-spec =
@@ -53,6 +56,7 @@ fill-spec =
     slice-aggregate-survey
     survey-requires
     enum-known-early
+    refused-requires
     enum-told
     array-share-prefix-sorted
     slice-aggregate-store

@@ -29,14 +29,17 @@ same-length : tie.Need-same-length
 same-length c = search needs
 
 returns : tie.Need-returns
-returns c = let a = c .before .before .before .before .before .before .before .before .before .before .before .before .before .before in let h = c .before .before .before .before .before .before .before .before .before .fill-headers in let l = c .before .before .before .before .before .fill-lines in all-stored (a .args .s .now) (a .args .c) (a .args .headers .now) (a .pre .0) (a .args .w) (a .args .total) (a .args .out .now) (a .pre .1) (h .result) _ (h .ensures .0) (h .ensures .1) (l .result) (c .before .end .given .0 .0) (l .ensures .0) (l .ensures .1) (c .before .end .given .1)
+returns c = let a = c .before .before .before .before .before .before .before .before .before .before .before .before .before .before in let h = c .before .before .before .before .before .before .before .before .before .fill-headers in let l = c .before .before .before .before .before .fill-lines in all-stored (a .args .s .now) (a .args .c) (a .args .headers .now) (a .pre .0) (a .args .w) (a .args .total) (a .args .out .now) (a .pre .1) (h .result) _ (h .ensures .0) (h .ensures .1) (l .result) (c .before .end .given .0 .0) (c .before .end .given .0 .1 .0) (l .ensures .0) (l .ensures .1) (c .before .end .given .1)
 
 same-length-2 : tie.Need-same-length-2
 same-length-2 c = search needs
 
 returns-2 : tie.Need-returns-2
-returns-2 c = let a = c .before .before .before .before .before .before .before .before .before .before .before .before .before .before .before .before .before .before in let h = c .before .before .before .before .before .before .before .before .before .before .before .before .before .fill-headers in let l = c .before .before .before .before .before .before .before .before .before .fill-lines in let v = c .before .before .before .before .before .variation .given in let e : length (l .last .1 .1 .1 .0) ≡ length (a .args .out .now) = search needs in
-    none-stored (a .args .s .now) (a .args .c) (a .args .headers .now) (a .pre .0) (a .args .w) (a .args .total) (a .args .out .now) (a .pre .1) (h .result) _ (h .ensures .0) (h .ensures .1) (l .result) (v .0 .0) (v .0 .1 .0) (l .ensures .0) (v .1) (c .before .before .clear .ensures ∙ ap (λ (k : ℕ). replicate k 0) e)
+returns-2 c = let a = c .before .before .before .before .before .before .before .before .before .before .before .before .before .before .before .before .before .before .before in let h = c .before .before .before .before .before .before .before .before .before .before .before .before .before .before .fill-headers in let l = c .before .before .before .before .before .before .before .before .before .before .fill-lines in let v = c .before .before .before .before .before .before .variation .given in let e : length (l .last .1 .1 .1 .0) ≡ length (a .args .out .now) = search needs in
+    let x = none-stored (a .args .s .now) (a .args .c) (a .args .headers .now) (a .pre .0) (a .args .w) (a .args .total) (a .args .out .now) (a .pre .1) (h .result) _ (h .ensures .0) (h .ensures .1) (l .result) (v .0 .0) (v .0 .1 .0) (l .ensures .0) (v .1) (c .before .before .before .clear .ensures ∙ ap (λ (k : ℕ). replicate k 0) e) in (c .refused .ensures .0 ∙ x .0, (x .1 .0, c .refused .ensures .1 ∙ x .1 .1))
+
+refused-requires : tie.Need-refused-requires
+refused-requires c κs = search needs
 
 pub fill-parts-spec : {M : Type 1} → statement M
 fill-parts-spec =
@@ -47,6 +50,7 @@ fill-parts-spec =
     enum-known-end
     enum-known-variation
     clear-requires
+    refused-requires
     same-length
     returns
     same-length-2

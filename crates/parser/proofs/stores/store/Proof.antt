@@ -31,16 +31,20 @@ returns c =
     let a = c .before .before .before .before .before .before .before .before .before .before .before .before .before .before .before .before in
     let o = c .before .before .before .before .before .before .before .before .before .«open» .ensures in
     let l = c .before .before .fill-parts .ensures in
-    stored-so (a .args .s .now) (a .args .v .moves) (a .args .headers .now) (a .pre .ready) (a .args .out .now) (a .pre .sizes) (o .1) (sym (c .before .before .before .before .before .w .given .1) ∙ o .0) (l .0) (l .1)
+    stored-so (a .args .s .now) (a .args .v .moves) (a .args .headers .now) (a .pre .ready) (a .args .out .now) (a .pre .sizes) (o .1) (sym (c .before .before .before .before .before .w .given .1) ∙ o .0) (l .0) (l .1 .0) (l .1 .1)
 
 same-length-2 : tie.Need-same-length-2
 same-length-2 c = search needs
 
 returns-2 : tie.Need-returns-2
 returns-2 c =
-    let a = c .before .before .before .before .before .before .before .before .before .before .before .before in
-    let o = c .before .before .before .before .before .«open» .ensures in
-    refused-so (a .args .s .now) (a .args .v .moves) (a .args .headers .now) (a .pre .ready) (a .args .out .now) (a .pre .sizes) (o .1) (sym (c .before .a .given .1) ∙ o .0)
+    let a = c .before .before .before .before .before .before .before .before .before .before .before .before .before in
+    let o = c .before .before .before .before .before .before .«open» .ensures in
+    let x = refused-so (a .args .s .now) (a .args .v .moves) (a .args .headers .now) (a .pre .ready) (a .args .out .now) (a .pre .sizes) (o .1) (sym (c .before .before .a .given .1) ∙ o .0) in
+    (c .refused .ensures .0 ∙ x .0, (x .1 .0, c .refused .ensures .1 ∙ x .1 .1))
+
+refused-requires : tie.Need-refused-requires
+refused-requires c κs = search needs
 
 pub store-spec : {M : Type 1} → statement M
 store-spec =
@@ -50,6 +54,7 @@ store-spec =
     enum-known-w
     fill-parts-requires
     enum-known-a
+    refused-requires
     same-length
     returns
     same-length-2

@@ -1,0 +1,26 @@
+-- A time that was read is not lost.
+-- Assumes nothing.
+use Rattle.moves.specs.Lost.{lostAt}
+use borrow.Author.Needs.{needs}
+use Rattle.moves.proofs.lost.is_lost.Statement.{statement}
+use Rattle.moves.proofs.lost.is_lost.Tie as tie
+
+enum-told : tie.Need-enum-told
+enum-told c = search needs
+
+enum-told-2 : tie.Need-enum-told-2
+enum-told-2 c = search needs
+
+over-requires : tie.Need-over-requires
+over-requires c κs = search needs
+
+returns : tie.Need-returns
+unfolding lostAt
+returns c = rw (← c .before .before .before .pre, c .enum-told .given .1)
+
+returns-2 : tie.Need-returns-2
+unfolding lostAt
+returns-2 c = rw (← c .before .before .before .before .pre, c .before .enum-told2 .given .1, ← c .over .ensures)
+
+pub is-lost-spec : {M : Type 1} → statement M
+is-lost-spec = tie.close (tie.spec enum-told enum-told-2 over-requires returns returns-2)
