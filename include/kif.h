@@ -24,8 +24,8 @@ void kif_measure(const uint8_t *text, size_t text_len, uint64_t *number, uint64_
  *   1 to 4                as kif_measure;
  *   5, length, 0          where out is shorter than the length needed;
  *   6, variation, ply     where a variation, counted from 1, has no entry to hang on.
- * Success changes only the block's bytes, 6 sets the whole of out to zero, and the others change nothing in it. *lost is then how many of
- * the move lines taken have no time because a figure in it is over 255, as in (300:00/5:00:00); with a refusal it is 0. */
+ * Success changes only the block's bytes, 6 sets the whole of out to zero, and the others change nothing in it. With success
+ * *lost is how many of the move lines taken have no time because a figure in it is over 255, as in (300:00/5:00:00); with a refusal it is 0. */
 void kif_fill(const uint8_t *text, size_t text_len, uint8_t *out, size_t out_len, uint64_t *number, uint64_t *first, uint64_t *second, uint64_t *lost);
 
 /* Writes a block's text into the front of out, which must not overlap it: 0, the text's length and how many lines it leaves out; or,

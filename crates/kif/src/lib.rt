@@ -1,6 +1,5 @@
 // The C surface: the library's calls under fixed names. A slice is a pointer and a length, a lent number a pointer.
 ghost use mathlib.Core.Path.{_≡_};
-ghost use lib.ListN.{length};
 ghost use Rattle.block.specs.Decode.{headersIn, commentsIn, keyOffset, keyLength, valueOffset, valueLength, commentOffset, commentLength};
 ghost use Rattle.block.specs.Sound.{soundb};
 ghost use Rattle.block.specs.Look.{lookAnswer, Answered};
@@ -75,7 +74,7 @@ pub extern "C" fn kif_fill(
 )
     ensures { λ _. ⌜ Answered (fillOf (now (text .entry)) (now (out .entry)) .answer) (now (number .exit)) (now (first .exit)) (now (second .exit)) ⌝ }
     ensures { λ _. ⌜ now (out .exit) ≡ fillOf (now (text .entry)) (now (out .entry)) .buffer ⌝ }
-    ensures { λ _. ⌜ now (lost .exit) ≡ lostOf (now (text .entry)) (length (now (out .entry))) ⌝ }
+    ensures { λ _. ⌜ now (lost .exit) ≡ lostOf (now (text .entry)) (now (out .entry)) ⌝ }
 {
     let r = parser::fill(text, out);
     let a = r.answer;

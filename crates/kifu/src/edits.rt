@@ -113,8 +113,11 @@ pub(crate) fn put(name: &[u8], b: &[u8], line: u64, room: &mut [u8], out: &mut [
     put_file(name, b, line, &variation[..n], room, out)
 }
 
-// Says which times of that file were lost.
-pub(crate) fn tell_times(t: Times) {
+// Says how many times of that file were lost, where some were.
+pub(crate) fn tell_variation(t: Times) {
+    if t.lost == 0 {
+        return;
+    }
     let mut variation = io::buffer();
     let n = os::arg(4, &mut variation);
     times::tell(&variation[..n], t);

@@ -111,7 +111,7 @@ fn print_edited(word: Word, line: u64, name: &[u8], b: &[u8], out: &mut [u8]) ->
     if !print_text(name, lent::front(&edited, n), out) {
         return false;
     }
-    edits::tell_times(times);
+    edits::tell_variation(times);
     true
 }
 

@@ -10,7 +10,7 @@ pub struct Times {
     pub line: u64,
 }
 
-// The same of a line of play, with the place where the first begins and the place past the line of play.
+// How many a line of play lost, the place where the first begins, and the place past the line of play.
 struct Run {
     lost: u64,
     first: usize,

@@ -18,7 +18,7 @@ use Rattle.parser.specs.Parse.{parse, recordOf, needed}
 use Rattle.parser.specs.Read.{onHung, onEarly, earlyOf, measured, measureOf, filledWith, readStored, fillOf}
 use Rattle.parser.specs.declared.Early.{Early}
 use Rattle.parser.specs.declared.Early.the-variants.{Refused, Passed}
-use Rattle.laws.specs.Measures.{FilledOrLost, filled, lost, MeasuresHold}
+use Rattle.laws.specs.Measures.{FilledOrLoose, filled, loose, MeasuresHold}
 use Rattle.laws.proofs.Forming.{EarlySays, refuses, passes, early-says}
 
 module _ (s : List ℕ) where
@@ -34,15 +34,15 @@ module _ (s : List ℕ) where
     early : {a : Answer} {o : List ℕ} → 0 < figures a .number → figures a .number ≤ 3 → Measures a (refuse a o) o
     long : {o : List ℕ} → Measures (BlockTooLong n) (refuse (BlockTooLong n) o) o
     short : {o : List ℕ} → length o < n → Measures (Done n t) (refuse (BufferShort n) o) o
-    stored : {x : Outcome} {o : List ℕ} → n ≤ length o → FilledOrLost n t (x .answer) → Measures (Done n t) x o
+    stored : {x : Outcome} {o : List ℕ} → n ≤ length o → FilledOrLoose n t (x .answer) → Measures (Done n t) x o
 
-  filled-cases : (o : List ℕ) → FilledOrLost n t (filledWith (parse s) o .answer)
+  filled-cases : (o : List ℕ) → FilledOrLoose n t (filledWith (parse s) o .answer)
   unfolding filledWith
   filled-cases o = go (allHung (parse s .plays))
     where
-      go : (h : Hung) → FilledOrLost n t (onHung {A = Outcome} h (λ k ply. record { answer = NoEntry k ply; buffer = replicate (length o) 0 })
+      go : (h : Hung) → FilledOrLoose n t (onHung {A = Outcome} h (λ k ply. record { answer = NoEntry k ply; buffer = replicate (length o) 0 })
           (record { answer = Done t n; buffer = atFront (encode (recordOf (parse s))) o }) .answer)
-      go (first k ply) = lost k ply
+      go (first k ply) = loose k ply
       go all = filled
 
   passed-cases : (o : List ℕ) → Measures (measured n t) (readStored (parse s) o) o
@@ -65,12 +65,12 @@ module _ (s : List ℕ) where
   same-figures : {a b : Answer} → a ≡ b → (figures a .number ≡ figures b .number) × (figures a .first ≡ figures b .first) × (figures a .second ≡ figures b .second)
   same-figures e = (ap (λ (x : Answer). figures x .number) e, ap (λ (x : Answer). figures x .first) e, ap (λ (x : Answer). figures x .second) e)
 
-  fills : (k m : ℕ) {a : Answer} {x : Outcome} {o : List ℕ} → Measures a x o → a ≡ Done k m → k ≤ length o → FilledOrLost k m (x .answer)
+  fills : (k m : ℕ) {a : Answer} {x : Outcome} {o : List ℕ} → Measures a x o → a ≡ Done k m → k ≤ length o → FilledOrLoose k m (x .answer)
   unfolding figures
   fills k m (early h _) e r = absurd (omega (arith, same-figures e .0))
   fills k m long e r = absurd (omega (arith, same-figures e .0))
   fills k m (short l) e r = absurd (omega (arith, same-figures e .1))
-  fills k m (stored {x} _ f) e r = let (_, a, b) = same-figures e in subst (λ (i : ℕ). FilledOrLost k i (x .answer)) b (subst (λ (i : ℕ). FilledOrLost i t (x .answer)) a f)
+  fills k m (stored {x} _ f) e r = let (_, a, b) = same-figures e in subst (λ (i : ℕ). FilledOrLoose k i (x .answer)) b (subst (λ (i : ℕ). FilledOrLoose i t (x .answer)) a f)
 
   is-short : (k m : ℕ) {a : Answer} {x : Outcome} {o : List ℕ} → Measures a x o → a ≡ Done k m → length o < k → x ≡ refuse (BufferShort k) o
   unfolding figures
@@ -87,10 +87,10 @@ module _ (s : List ℕ) where
   is-refused (stored h f) r = absurd (omega arith)
 
   -- the other way
-  of-filled : (m k : ℕ) {x : Answer} → FilledOrLost n t x → x ≡ Done m k → Done n t ≡ Done k m
+  of-filled : (m k : ℕ) {x : Answer} → FilledOrLoose n t x → x ≡ Done m k → Done n t ≡ Done k m
   unfolding figures
   of-filled m k filled e = let (_, a, b) = same-figures e in ap₂ Done b a
-  of-filled m k (lost i ply) e = absurd (omega (arith, same-figures e .0))
+  of-filled m k (loose i ply) e = absurd (omega (arith, same-figures e .0))
 
   was-done : (m k : ℕ) {a : Answer} {x : Outcome} {o : List ℕ} → Measures a x o → x .answer ≡ Done m k → a ≡ Done k m
   unfolding figures
@@ -99,10 +99,10 @@ module _ (s : List ℕ) where
   was-done m k (short l) e = absurd (omega (arith, same-figures e .0))
   was-done m k (stored h f) e = of-filled m k f e
 
-  not-short : (k : ℕ) {x : Answer} → FilledOrLost n t x → x ≡ BufferShort k → ⊥
+  not-short : (k : ℕ) {x : Answer} → FilledOrLoose n t x → x ≡ BufferShort k → ⊥
   unfolding figures
   not-short k filled e = omega (arith, same-figures e .0)
-  not-short k (lost i ply) e = omega (arith, same-figures e .0)
+  not-short k (loose i ply) e = omega (arith, same-figures e .0)
 
   was-short : (k : ℕ) {a : Answer} {x : Outcome} {o : List ℕ} → Measures a x o → x .answer ≡ BufferShort k → (m : ℕ) × (a ≡ Done k m)
   unfolding figures
@@ -111,12 +111,12 @@ module _ (s : List ℕ) where
   was-short k (short l) e = (t, ap (λ (i : ℕ). Done i t) (same-figures e .1))
   was-short k (stored h f) e = absurd (not-short k f e)
 
-  was-lost : (i ply : ℕ) {a : Answer} {x : Outcome} {o : List ℕ} → Measures a x o → x .answer ≡ NoEntry i ply → (k : ℕ) × (m : ℕ) × (a ≡ Done k m) × (k ≤ length o)
+  was-loose : (i ply : ℕ) {a : Answer} {x : Outcome} {o : List ℕ} → Measures a x o → x .answer ≡ NoEntry i ply → (k : ℕ) × (m : ℕ) × (a ≡ Done k m) × (k ≤ length o)
   unfolding figures
-  was-lost i ply (early h l) e = absurd (omega (arith, same-figures e .0))
-  was-lost i ply long e = absurd (omega (arith, same-figures e .0))
-  was-lost i ply (short l) e = absurd (omega (arith, same-figures e .0))
-  was-lost i ply (stored h f) e = (n, t, refl, h)
+  was-loose i ply (early h l) e = absurd (omega (arith, same-figures e .0))
+  was-loose i ply long e = absurd (omega (arith, same-figures e .0))
+  was-loose i ply (short l) e = absurd (omega (arith, same-figures e .0))
+  was-loose i ply (stored h f) e = (n, t, refl, h)
 
 pub measures-hold : MeasuresHold
 measures-hold s =
@@ -126,5 +126,5 @@ measures-hold s =
       measured-refused = λ a e h o. subst (λ (b : Answer). fillOf s o ≡ refuse b o) e (is-refused s (cases s o) (subst (λ (b : Answer). 0 < figures b .number) (sym e) h));
       filled-measured = λ o m k e. was-done s m k (cases s o) e;
       short-measured = λ o k e. was-short s k (cases s o) e;
-      lost-measured = λ o i ply e. was-lost s i ply (cases s o) e;
+      loose-measured = λ o i ply e. was-loose s i ply (cases s o) e;
     }

@@ -22,7 +22,7 @@ use Rattle.block.specs.Sound.{soundb}
 use Rattle.block.specs.Look.{Answered, lookAnswer, lookPart}
 use Rattle.filling.specs.declared.Walk.{Walk}
 use Rattle.plays.specs.declared.Reached.{Reached}
-use Rattle.plays.specs.declared.Played.{Played}
+use Rattle.plays.specs.declared.FilledPlay.{FilledPlay}
 use Rattle.parser.specs.declared.FillAnswer.{FillAnswer}
 
 -- ---- equations
@@ -70,16 +70,16 @@ reached-one r s p q =
     (equation-one (p .1 .0) (q .1 .0), ap (λ (w : Walk). reached w (r .next)) walk ∙ ap (reached (s .walk)) next)
 
 -- the same with the times that were lost
-abbrev played : Walk → Cursor → ℕ → Played
-played w c n = record { walk = w; next = c; lost = n }
+abbrev filledPlay : Walk → Cursor → ℕ → FilledPlay
+filledPlay w c n = record { walk = w; next = c; lost = n }
 
-pub played-one : {w : Walk} {n k : ℕ} {o a b : List ℕ} (r s : Played) → (r .walk ≡ w) × ((a ≡ o) × ((r .next .at ≡ n) × (r .lost ≡ k)))
+pub filled-play-one : {w : Walk} {n k : ℕ} {o a b : List ℕ} (r s : FilledPlay) → (r .walk ≡ w) × ((a ≡ o) × ((r .next .at ≡ n) × (r .lost ≡ k)))
     → (s .walk ≡ w) × ((b ≡ o) × ((s .next .at ≡ n) × (s .lost ≡ k))) → (a ≡ b) × (r ≡ s)
-played-one r s p q =
+filled-play-one r s p q =
     let walk = equation-one (p .0) (q .0) in
     let next = cursor-one (r .next) (s .next) (p .1 .1 .0) (q .1 .1 .0) in
     let lost = equation-one (p .1 .1 .1) (q .1 .1 .1) in
-    (equation-one (p .1 .0) (q .1 .0), ap (λ (w : Walk). played w (r .next) (r .lost)) walk ∙ ap₂ (played (s .walk)) next lost)
+    (equation-one (p .1 .0) (q .1 .0), ap (λ (w : Walk). filledPlay w (r .next) (r .lost)) walk ∙ ap₂ (filledPlay (s .walk)) next lost)
 
 -- a text that was read: the answer, the buffer and the times that were lost
 abbrev fillAnswer : Answer → ℕ → FillAnswer

@@ -14,34 +14,37 @@ use Rattle.moves.specs.declared.TakenLine.{TakenLine}
 
 -- ---- words
 
+-- A figure over the largest allowed.
 abbrev pub isLarge : Number → Bool
 isLarge n = byNumber n (λ v c. false) false true
 
+-- There is a time.
 abbrev pub isTimed : Time → Bool
 isTimed (Timed now total) = true
 isTimed Untimed = false
 
+-- A move line, and whether its time is lost.
 abbrev pub takenLine : MoveLine → Bool → TakenLine
 takenLine l b = record { line = l; lost = b }
 
 -- ---- a clock
 
--- h:m:s comes to a figure over 255: a figure is come to where all before it could be read, and what stands behind it is not asked.
+-- h:m:s comes to a figure over 255 at a place: a figure is come to where all before it could be read, and what stands behind it is not asked.
 unfoldable pub hmsOver : List ℕ → ℕ → Bool
 hmsOver s at =
     byNumber (figureAt s at) (λ h c. byNumber (figureAt s (c .at)) (λ m d. isLarge (digitsAt 255 s (d .at))) false true) false true
 
--- m:s does.
+-- m:s comes to a figure over 255.
 unfoldable pub msOver : List ℕ → ℕ → Bool
 msOver s at = byNumber (figureAt s at) (λ m c. isLarge (digitsAt 255 s (c .at))) false true
 
--- One of the two forms does.
+-- One of a clock's two forms comes to one.
 unfoldable pub formsOver : List ℕ → ℕ → Bool
 formsOver s at = pick (hmsOver s at) true (msOver s at)
 
 -- ---- a time
 
--- In an opening bracket a form of now does, or, where now and the / behind it could be read, a form of the total.
+-- Behind an opening bracket a form of now comes to a figure over 255, or, where now and the / behind it could be read, a form of the total.
 unfoldable pub overAt : List ℕ → ℕ → Bool
 overAt s at =
     onPlace (tagAt (40 ∷ []) s at)
@@ -50,13 +53,13 @@ overAt s at =
     (onClocked (spacedAt s (c .at)) (λ now d. onPlace (tagAt (47 ∷ []) s (d .at)) (λ e. formsOver s (blanksAt s (e .at))) false) false))
     false
 
--- There is no time for this cause.
+-- No time is read at a place, and a figure over 255 was come to.
 unfoldable pub lostAt : List ℕ → ℕ → Bool
-lostAt s at = let r = overAt s at in pick (isTimed (timeAt s at .time)) false r
+lostAt s at = pick (isTimed (timeAt s at .time)) false (overAt s at)
 
 -- ---- a move line
 
--- From its special or move on: where the line is one, a time lost past its blanks.
+-- A move line from its special or move on: it is whole, and past the blanks a time is lost.
 abbrev pub playedLost : List ℕ → ℕ → Bool
 playedLost s at =
     onWhat (whatAt s at)

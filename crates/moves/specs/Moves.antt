@@ -44,7 +44,7 @@ use Rattle.moves.specs.declared.MoveLine.the-variants.{Numbered, NoLine}
 
 -- ---- words
 
--- Answers taken apart: what to do with their values, and what stands for the other case.
+-- Answers taken apart: what to do with their values, and what stands for all other cases.
 abbrev pub onAim : {A : Type 0} → Aim → (Target → Cursor → A) → A → A
 onAim (To t c) f d = f t c
 onAim NoAim f d = d
@@ -90,7 +90,7 @@ moveToAt s at = onPlace (tagAt sameWord s at) (λ c. onPlace (tagAt wideSpace s 
 unfoldable pub promoteAt : List ℕ → ℕ → Mark
 promoteAt s at = onPlace (tagAt promotes s at) (λ c. mark 2 c) (onPlace (tagAt declines s at) (λ c. mark 1 c) (mark 0 (cursor at)))
 
--- In brackets the tens and the ones of a number of at most 255; a number too large is told apart.
+-- In brackets the tens and the ones of a number of at most 255; a number too large is told, whatever follows it.
 unfoldable pub originAt : List ℕ → ℕ → Source
 originAt s at =
     onPlace (tagAt (40 ∷ []) s at)
@@ -132,7 +132,7 @@ whatAt s at = onWhat (endingAt s at) (λ e c. Is e c) (moveAt s at)
 abbrev pub colon : List ℕ
 colon = 58 ∷ []
 
--- A number up to 255 and the colon after it. A number too large is none, and is told apart: `onNumber` joins the two, `byNumber` does not.
+-- A number up to 255 and the colon after it; a number too large is told, whatever follows it.
 unfoldable pub figureAt : List ℕ → ℕ → Number
 figureAt s at = byNumber (digitsAt 255 s at) (λ n c. onPlace (tagAt colon s (c .at)) (λ e. Value n e) NoDigit) NoDigit TooLarge
 

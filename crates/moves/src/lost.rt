@@ -60,7 +60,7 @@ pub(crate) fn is_lost(time: Time, c: Cursor, s: &[u8]) -> bool
     ensures { λ r. ⌜ r ≡ lostAt (now (s .entry)) (c .at) ⌝ }
 {
     match time {
-        Time::Timed(_, _) => false,
         Time::Untimed => over(c, s),
+        Time::Timed(_, _) => false,
     }
 }

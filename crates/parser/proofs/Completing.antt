@@ -6,15 +6,16 @@ use mathlib.Core.Path.{_≡_, refl, sym, ap, ap₂, _∙_, subst}
 use mathlib.Core.Bool.{Bool, true, false}
 use mathlib.Core.List.{List, _++_}
 use lib.ListN.{length, drop, replicate}
-use lib.Dec.{ltb}
+use lib.Dec.{eqb, ltb}
 use Rattle.lists.specs.Pick.{pick}
 use Rattle.lent.specs.inner.Regions.{puts}
+use Rattle.text.specs.Utf8.{wellFormedBytes}
 use Rattle.text.specs.declared.Cursor.{Cursor}
-use Rattle.jkf.specs.Answers.{Outcome}
+use Rattle.jkf.specs.Answers.{Outcome, figures, refuse}
 use Rattle.jkf.specs.Attaching.{Hung, all, first, Play, attach, allHung}
 use Rattle.jkf.specs.declared.Position.{Position}
 use Rattle.jkf.specs.declared.Answer.{Answer}
-use Rattle.jkf.specs.declared.Answer.the-variants.{Done, BlockTooLong, BufferShort, NoEntry}
+use Rattle.jkf.specs.declared.Answer.the-variants.{Done, TextTooLong, NotUtf8, HandLine, BlockTooLong, BufferShort, NoEntry}
 use Rattle.jkf.specs.Model.{Header, Line}
 use Rattle.block.specs.PositionBytes.{positionBytes}
 use Rattle.block.specs.Encode.{entriesOf, commentsOf, encodeFlat, encode}
@@ -29,14 +30,18 @@ use Rattle.filling.proofs.Wholes.{front-size, front-rest, opened-lines, opened-
 use Rattle.plays.specs.Plays.{playsAt}
 use Rattle.plays.specs.Losses.{playsLost}
 use Rattle.kakinoki.specs.Starts.{startRead}
+use Rattle.kakinoki.specs.declared.Fault.{Fault}
+use Rattle.kakinoki.specs.declared.Fault.the-variants.{NoFault, At}
+use Rattle.parser.specs.declared.Early.{Early}
+use Rattle.parser.specs.declared.Early.the-variants.{Refused as RefusedEarly, Passed}
 use Rattle.parser.specs.inner.Headers.{headersAt}
 use Rattle.parser.specs.inner.Lines.{hanging}
 use Rattle.parser.specs.Parse.{Parsed, parse, needed, recordOf}
-use Rattle.parser.specs.Read.{filledWith, readStored, measured, hungLost, storedLost}
-use Rattle.parser.specs.inner.Stores.{Prepared, parsedSizes, Opened, Surveyed}
+use Rattle.parser.specs.Read.{onFault, onHung, onEarly, earlyOf, faultless, filledWith, readStored, fillOf, lostOf, measured}
+use Rattle.parser.specs.inner.Stores.{Prepared, parsedSizes, Opened, Surveyed, hungLost, storedLost}
 use Rattle.parser.specs.declared.Survey.{Survey}
 use Rattle.parser.specs.declared.Hanging.{Hanging}
-use Rattle.parser.specs.declared.Hanging.the-variants.{AllHung, Lost}
+use Rattle.parser.specs.declared.Hanging.the-variants.{AllHung, Loose}
 use Rattle.parser.proofs.Opening.{start-length}
 use Rattle.parser.proofs.Needing.{needed-is}
 use Rattle.parser.proofs.Storing.{headers-are, needed-length}
@@ -47,28 +52,28 @@ hanging-all all at lost c n e = (refl, ap place e, ap number e)
   where
     place : Hanging → ℕ
     place (AllHung d k) = d .at
-    place (Lost k ply) = 0
+    place (Loose k ply) = 0
 
     number : Hanging → ℕ
     number (AllHung d k) = k
-    number (Lost k ply) = 0
+    number (Loose k ply) = 0
 hanging-all (first k ply) at lost c n e = let z : _≡_ {A = ℕ} 0 1 = ap one e in absurd (omega arith)
   where
     one : Hanging → ℕ
     one (AllHung d k) = 0
-    one (Lost k ply) = 1
+    one (Loose k ply) = 1
 
-hanging-lost : (h : Hung) (at lost k ply : ℕ) → Lost k ply ≡ hanging h at lost → h ≡ first k ply
-hanging-lost all at lost k ply e = let z : _≡_ {A = ℕ} 0 1 = ap one e in absurd (omega arith)
+hanging-loose : (h : Hung) (at lost k ply : ℕ) → Loose k ply ≡ hanging h at lost → h ≡ first k ply
+hanging-loose all at lost k ply e = let z : _≡_ {A = ℕ} 0 1 = ap one e in absurd (omega arith)
   where
     one : Hanging → ℕ
     one (AllHung d k) = 1
-    one (Lost k ply) = 0
-hanging-lost (first j q) at lost k ply e = sym (ap back e)
+    one (Loose k ply) = 0
+hanging-loose (first j q) at lost k ply e = sym (ap back e)
   where
     back : Hanging → Hung
     back (AllHung d k) = all
-    back (Lost k ply) = first k ply
+    back (Loose k ply) = first k ply
 
 -- the answer and the buffer of a record that hangs, and of one that does not
 hung-filled : (r : Parsed) (o : List ℕ) → allHung (r .plays) ≡ all
@@ -158,9 +163,9 @@ module _ (s : List ℕ) {p : Position} (c : Cursor) (hs : List ℕ) (f : Prepare
           )
 
       pub none-stored : (h : Hanging) (k ply : ℕ) {o₃ : List ℕ} → h ≡ hanging (allHung (playsAt s (c .at) .state)) (playsAt s (c .at) .at) (playsLost s (c .at))
-          → h ≡ Lost k ply → o₃ ≡ replicate (length o) 0 → (NoEntry k ply ≡ filledWith (parse s) o .answer) × ((o₃ ≡ filledWith (parse s) o .buffer) × (0 ≡ hungLost s))
+          → h ≡ Loose k ply → o₃ ≡ replicate (length o) 0 → (NoEntry k ply ≡ filledWith (parse s) o .answer) × ((o₃ ≡ filledWith (parse s) o .buffer) × (0 ≡ hungLost s))
       none-stored h k ply {o₃} e q b =
-          let x = ap allHung (sym plays-there) ∙ hanging-lost (allHung (playsAt s (c .at) .state)) (playsAt s (c .at) .at) (playsLost s (c .at)) k ply (sym q ∙ e) in
+          let x = ap allHung (sym plays-there) ∙ hanging-loose (allHung (playsAt s (c .at) .state)) (playsAt s (c .at) .at) (playsLost s (c .at)) k ply (sym q ∙ e) in
           let l = lost-filled (parse s) o k ply x in
           (sym (l .0), (b ∙ sym (l .1), sym (none-lost s k ply x)))
 
@@ -205,6 +210,51 @@ module _ (s : List ℕ) {p : Position} (c : Cursor) (hs : List ℕ) (f : Prepare
           let room : needed (parse s) ≤ length o = omega (arith, needed-length f, q .room) in
           let u = unrefused (needed (parse s)) o (filledWith (parse s) o) short room in
           (x ∙ ap (λ (g : Outcome). g .answer) (same ∙ sym u), (y ∙ ap (λ (g : Outcome). g .buffer) (same ∙ sym u), l ∙ sym (fits (λ b. 0) (hungLost s) short room)))
+
+-- ---- lost
+
+-- refusal after refusal, the times that are lost are those beside the answer
+module _ (s o : List ℕ) where
+  abbrev beside : Answer → ℕ
+  beside a = pick (eqb (figures a .number) 0) (playsLost s (startRead s .next .at)) 0
+
+  hung-told : hungLost s ≡ beside (filledWith (parse s) o .answer)
+  unfolding hungLost filledWith figures
+  hung-told = go (allHung (parse s .plays))
+    where
+      go : (h : Hung) → onHung h (λ k ply. 0) (playsLost s (startRead s .next .at))
+          ≡ beside (onHung {A = Outcome} h (λ k ply. record { answer = NoEntry k ply; buffer = replicate (length o) 0 }) (record { answer = Done (parse s .taken) (needed (parse s)); buffer = atFront (encode (recordOf (parse s))) o }) .answer)
+      go all = refl
+      go (first k ply) = refl
+
+  stored-told : storedLost s (length o) ≡ beside (readStored (parse s) o .answer)
+  unfolding storedLost readStored figures
+  stored-told = go (ltb 65535 (needed (parse s))) (ltb (length o) (needed (parse s)))
+    where
+      go : (a b : Bool) → pick a 0 (pick b 0 (hungLost s))
+          ≡ beside (pick a (refuse (BlockTooLong (needed (parse s))) o) (pick b (refuse (BufferShort (needed (parse s))) o) (filledWith (parse s) o)) .answer)
+      go true b = refl
+      go false true = refl
+      go false false = hung-told
+
+  abbrev early : Bool → Bool → Fault → Early
+  early a b f = pick a (RefusedEarly (TextTooLong (length s))) (pick b (RefusedEarly (NotUtf8 (wellFormedBytes s))) (onFault f (λ at. RefusedEarly (HandLine at)) Passed))
+
+  lost-told : onEarly (earlyOf s) (λ a. 0) (storedLost s (length o)) ≡ lostOf s o
+  unfolding lostOf fillOf earlyOf faultless figures
+  lost-told = go (ltb 65535 (length s)) (ltb (wellFormedBytes s) (length s)) (startRead s .fault)
+    where
+      go : (a b : Bool) (f : Fault) → onEarly (early a b f) (λ a. 0) (storedLost s (length o)) ≡ beside (onEarly {A = Outcome} (early a b f) (λ a. refuse a o) (readStored (parse s) o) .answer)
+      go true b f = refl
+      go false true f = refl
+      go false false (At at) = refl
+      go false false NoFault = stored-told
+
+  pub early-lost : {a : Answer} → earlyOf s ≡ RefusedEarly a → 0 ≡ lostOf s o
+  early-lost e = sym (ap (λ (x : Early). onEarly x (λ a. 0) (storedLost s (length o))) e) ∙ lost-told
+
+  pub passed-lost : earlyOf s ≡ Passed → storedLost s (length o) ≡ lostOf s o
+  passed-lost e = sym (ap (λ (x : Early). onEarly x (λ a. 0) (storedLost s (length o))) e) ∙ lost-told
 
 -- ---- measured
 

@@ -25,7 +25,7 @@ use Rattle.filling.proofs.Growing.{line}
 use Rattle.filling.proofs.Lines.{lineAt, take-more, lined-none, room-for, room-for-none, entries-fit, next-hangs, row-lined, all-lined}
 use Rattle.plays.specs.Plays.{noted, entriesAt, plyAt, skippedAt, skipsAt, variationsAt, slotAt, pastMain, mainAt, playsAt}
 use Rattle.plays.specs.Losses.{lostFrom, variationsLost, playsLost}
-use Rattle.plays.specs.declared.Played.{Played}
+use Rattle.plays.specs.declared.FilledPlay.{FilledPlay}
 use Rattle.parser.specs.inner.Lines.{mainLine}
 use Rattle.parser.proofs.Variations.{variation-past, variations-more, variations-none, lost-more, lost-none}
 use Rattle.parser.proofs.Mains.{entered-by}
@@ -166,7 +166,7 @@ module _ (s : List ℕ) (at : ℕ) (w : Walk) (o₀ : List ℕ) (f : LinesFit (a
             subst (λ (p : Play). EntriesFit (p .entries) v o) (play-here some) (entries-fit ps w o₀ f k (i .few) (i .done) (more-left some))
         go (no h) = subst (λ (l : List Noted). EntriesFit l v o) (sym (nothing es (omega arith))) (room-for-none ps w o₀ f k (i .few) (i .done))
 
-    module _ (c : Cursor) (p : c .at ≡ place) (x : Played) (o₁ : List ℕ) (a : x .walk ≡ putEntries (entriesAt s (c .at) .state) v o .walk)
+    module _ (c : Cursor) (p : c .at ≡ place) (x : FilledPlay) (o₁ : List ℕ) (a : x .walk ≡ putEntries (entriesAt s (c .at) .state) v o .walk)
         (b : o₁ ≡ putEntries (entriesAt s (c .at) .state) v o .buffer) (q : x .next .at ≡ entriesAt s (c .at) .at) where
       entered : Entered es v (x .walk) o o₁
       entered =

@@ -18,7 +18,7 @@ use Rattle.filling.proofs.Hooking.{first-hangs, row-put}
 use Rattle.filling.proofs.Growing.{noted-put, entries-front, entries-rest, entries-then, entries-put, line-fit, line-put}
 use Rattle.plays.specs.Plays.{noted, commentsAt, entriesAt, skippedAt, slotAt, pastMain, mainAt}
 use Rattle.plays.specs.declared.Reached.{Reached}
-use Rattle.plays.specs.declared.Played.{Played}
+use Rattle.plays.specs.declared.FilledPlay.{FilledPlay}
 use Rattle.parser.specs.inner.Lines.{mainLine}
 use Rattle.parser.proofs.Variations.{main-past}
 
@@ -50,7 +50,7 @@ module _ (s : List ℕ) (at : ℕ) (w : Walk) (o : List ℕ) (f : LineFits (main
     past-slot : u .next .at ≡ place
     past-slot = e ∙ ap (λ (k : ℕ). commentsAt s k .at) p
 
-    module _ (x : Played) (o₂ : List ℕ) (g : x .walk ≡ putEntries (entriesAt s (u .next .at) .state) (u .walk) o₁ .walk)
+    module _ (x : FilledPlay) (o₂ : List ℕ) (g : x .walk ≡ putEntries (entriesAt s (u .next .at) .state) (u .walk) o₁ .walk)
         (h : o₂ ≡ putEntries (entriesAt s (u .next .at) .state) (u .walk) o₁ .buffer) (i : x .next .at ≡ entriesAt s (u .next .at) .at) where
       entered : Entered (entriesAt s place .state) (u .walk) (x .walk) o₁ o₂
       entered =

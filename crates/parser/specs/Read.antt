@@ -3,15 +3,15 @@
 use Prim.Native.Nat.{ℕ}
 use mathlib.Core.List.{List}
 use lib.ListN.{length, replicate}
-use lib.Dec.{ltb}
+use lib.Dec.{eqb, ltb}
 use Rattle.lists.specs.Pick.{pick}
 use Rattle.text.specs.Utf8.{wellFormedBytes}
 use Rattle.jkf.specs.Attaching.{Hung, all, first, allHung}
-use Rattle.jkf.specs.Answers.{Outcome, refuse}
+use Rattle.jkf.specs.Answers.{Outcome, figures, refuse}
 use Rattle.jkf.specs.declared.Answer.{Answer}
 use Rattle.jkf.specs.declared.Answer.the-variants.{Done, TextTooLong, NotUtf8, HandLine, BlockTooLong, NoEntry}
 use Rattle.block.specs.Encode.{encode}
-use Rattle.filling.specs.Filling.{ifFits, unlessRefused, atFront}
+use Rattle.filling.specs.Filling.{unlessRefused, atFront}
 use Rattle.plays.specs.Losses.{playsLost}
 use Rattle.kakinoki.specs.Starts.{startRead}
 use Rattle.kakinoki.specs.declared.Fault.{Fault}
@@ -77,14 +77,6 @@ fillOf s o = let r = readStored (parse s) o in onEarly (earlyOf s) (λ a. refuse
 
 -- ---- times that were lost                                                                            (02, request (iv))
 
--- Where every line hangs, those of all of them.
-unfoldable pub hungLost : List ℕ → ℕ
-hungLost s = onHung (allHung (parse s .plays)) (λ k ply. 0) (playsLost s (startRead s .next .at))
-
--- Where the block fits into a buffer of this length.
-unfoldable pub storedLost : List ℕ → ℕ → ℕ
-storedLost s room = ifFits (needed (parse s)) room (λ a. 0) (hungLost s)
-
--- How many move lines of a text lost a time, told beside the answer; 0 beside a refusal.
-unfoldable pub lostOf : List ℕ → ℕ → ℕ
-lostOf s room = let r = storedLost s room in onEarly (earlyOf s) (λ a. 0) r
+-- How many of the move lines taken lost a time, told beside the answer; 0 beside a refusal.
+unfoldable pub lostOf : List ℕ → List ℕ → ℕ
+lostOf s o = let n = playsLost s (startRead s .next .at) in pick (eqb (figures (fillOf s o .answer) .number) 0) n 0

@@ -3,7 +3,7 @@ use crate::Hanging;
 use crate::counts::past;
 use filling::Hooked;
 use filling::Walk;
-use plays::Played;
+use plays::FilledPlay;
 use text::Cursor;
 ghost use mathlib.Core.Path.{_≡_};
 ghost use mathlib.Core.List.{[], _∷_};
@@ -15,7 +15,7 @@ ghost use Rattle.plays.specs.Losses.{lostFrom, playsLost};
 ghost use Rattle.parser.specs.inner.Lines.{mainLine, hanging};
 
 // The main line: the slot with its comments, the moves, and the row, which hangs on nothing.   (the Rust's main_moves)
-fn fill_main(s: &[u8], c: Cursor, w: Walk, out: &mut [u8]) -> Played
+fn fill_main(s: &[u8], c: Cursor, w: Walk, out: &mut [u8]) -> FilledPlay
     requires { ⌜ LineFits (mainLine (now s) (c .at)) w (now out) ⌝ }
     ensures { λ r. ⌜ Lined (mainLine (now (s .entry)) (c .at) ∷ []) w (r .walk) (now (out .entry)) (now (out .exit)) ⌝ }
     ensures { λ r. ⌜ r .next .at ≡ pastMain (now (s .entry)) (slotAt (now (s .entry)) (c .at) .at) ⌝ }
@@ -28,13 +28,13 @@ fn fill_main(s: &[u8], c: Cursor, w: Walk, out: &mut [u8]) -> Played
     let next = past(slot.next, v.entries - u.entries, line.next, s);
     let lost = line.lost;
     let Hooked::Put(walk) = filling::hang_line(out, w.lines, 0, w, v) else {
-        return Played {
+        return FilledPlay {
             walk: v,
             next,
             lost,
         };
     };
-    Played { walk, next, lost }
+    FilledPlay { walk, next, lost }
 }
 
 // All lines, and how many of their times were lost; stops at the first variation that has no entry to hang on.
@@ -58,7 +58,7 @@ pub(crate) fn fill_lines(s: &[u8], c: Cursor, w: Walk, out: &mut [u8]) -> Hangin
         }
         let start = plays::ply(at, s);
         let Hooked::Put(u) = filling::hang_line(out, table, start, walk, v) else {
-            return Hanging::Lost(k, start);
+            return Hanging::Loose(k, start);
         };
         walk = u;
         next = plays::skipped(line.next, s);

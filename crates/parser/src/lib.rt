@@ -25,7 +25,7 @@ pub struct Extents {
 // That every variation hangs, with the place past the last and how many times were lost; or the first that does not, and its ply.
 pub enum Hanging {
     AllHung(Cursor, usize),
-    Lost(u64, u64),
+    Loose(u64, u64),
 }
 
 // Whether a text is refused before its block is measured.

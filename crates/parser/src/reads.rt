@@ -8,7 +8,6 @@ use filling::Opening;
 use filling::Sizes;
 use jkf::Answer;
 ghost use mathlib.Core.Path.{_≡_};
-ghost use lib.ListN.{length};
 ghost use Rattle.parser.specs.Read.{measured, measureOf, fillOf, lostOf};
 ghost use Rattle.filling.specs.Filling.{lengthOf};
 
@@ -39,7 +38,7 @@ pub fn measure(text: &[u8]) -> Answer
 pub fn fill(text: &[u8], out: &mut [u8]) -> FillAnswer
     ensures { λ r. ⌜ r .answer ≡ fillOf (now (text .entry)) (now (out .entry)) .answer ⌝ }
     ensures { λ r. ⌜ now (out .exit) ≡ fillOf (now (text .entry)) (now (out .entry)) .buffer ⌝ }
-    ensures { λ r. ⌜ r .lost ≡ lostOf (now (text .entry)) (length (now (out .entry))) ⌝ }
+    ensures { λ r. ⌜ r .lost ≡ lostOf (now (text .entry)) (now (out .entry)) ⌝ }
 {
     let mut sorted = [0u16; 13107];
     let v = survey(text, &mut sorted);

@@ -11,10 +11,10 @@ use text::Cursor;
 ghost use mathlib.Core.Path.{_≡_};
 ghost use lib.ListN.{length, replicate};
 ghost use Rattle.parser.specs.Parse.{parse};
-ghost use Rattle.parser.specs.Read.{readStored, filledWith, hungLost, storedLost};
-ghost use Rattle.parser.specs.inner.Stores.{Prepared, Surveyed, Opened};
+ghost use Rattle.parser.specs.Read.{readStored, filledWith};
+ghost use Rattle.parser.specs.inner.Stores.{Prepared, Surveyed, Opened, hungLost, storedLost};
 
-// A refusal, with which no time is lost.
+// A refusal, beside which no lost time is told.
 pub(crate) fn refused(a: Answer) -> FillAnswer
     ensures { λ r. ⌜ (r .answer ≡ a) × (r .lost ≡ 0) ⌝ }
 {
@@ -50,7 +50,7 @@ fn fill_parts(
             answer: Answer::Done(end.at as u64, total),
             lost: lost as u64,
         },
-        Hanging::Lost(variation, ply) => {
+        Hanging::Loose(variation, ply) => {
             clear(out);
             refused(Answer::NoEntry(variation, ply))
         }

@@ -9,9 +9,11 @@ use Rattle.lists.specs.Repeat.{Step, more, stop, onStep, manyFrom}
 use Rattle.moves.specs.Lost.{lineLost}
 use Rattle.plays.specs.Plays.{lineItem, skipsAt, variationItem, slotAt, pastMain}
 
+-- 1 for yes, 0 for no.
 abbrev pub one : Bool → ℕ
 one b = pick b 1 0
 
+-- All numbers of a list together.
 unfoldable pub sumOf : List ℕ → ℕ
 sumOf [] = 0
 sumOf (n ∷ l) = n + sumOf l
@@ -24,10 +26,11 @@ lossItem s at = lineItem (λ n e. one (lineLost s at)) s at
 unfoldable pub lostFrom : List ℕ → ℕ → ℕ
 lostFrom s at = sumOf (manyFrom (lossItem s) (length s) at .state)
 
--- Over the variations.
+-- A variation counts by its line of play, past the skip lines in front of it.
 unfoldable pub variationLoss : List ℕ → ℕ → Step ℕ
 variationLoss s at = onStep (variationItem s at) (λ next v. more next (lostFrom s (skipsAt s at))) stop
 
+-- Over the variations from a place on.
 unfoldable pub variationsLost : List ℕ → ℕ → ℕ
 variationsLost s at = sumOf (manyFrom (variationLoss s) (length s) at .state)
 

@@ -1,5 +1,5 @@
 // A line of play, filled into a block.
-use crate::Played;
+use crate::FilledPlay;
 use crate::Reached;
 use filling::Walk;
 use jkf::Entry;
@@ -67,7 +67,7 @@ fn one(b: bool) -> usize
 }
 
 // A line of play from a place on, and how many of its times were lost.   (the Rust's moves_with_index; 02, request (iv))
-pub fn fill_moves(s: &[u8], c: Cursor, w: Walk, out: &mut [u8]) -> Played
+pub fn fill_moves(s: &[u8], c: Cursor, w: Walk, out: &mut [u8]) -> FilledPlay
     ensures { λ r. ⌜ r .walk ≡ putEntries (entriesAt (now (s .entry)) (c .at) .state) w (now (out .entry)) .walk ⌝ }
     ensures { λ r. ⌜ now (out .exit) ≡ putEntries (entriesAt (now (s .entry)) (c .at) .state) w (now (out .entry)) .buffer ⌝ }
     ensures { λ r. ⌜ r .next .at ≡ entriesAt (now (s .entry)) (c .at) .at ⌝ }
@@ -80,7 +80,7 @@ pub fn fill_moves(s: &[u8], c: Cursor, w: Walk, out: &mut [u8]) -> Played
         let taken = moves::taken_line(next, s);
         let line = taken.line;
         let MoveLine::Numbered(_, e, past) = line else {
-            return Played { walk, next, lost };
+            return FilledPlay { walk, next, lost };
         };
         let entry = fill_noted(s, e, past, walk, out);
         walk = entry.walk;

@@ -35,7 +35,7 @@ pub struct Reached {
 }
 
 // The same with a line of play, and how many of its move lines lost a time to a figure too large.
-pub struct Played {
+pub struct FilledPlay {
     pub walk: Walk,
     pub next: Cursor,
     pub lost: usize,

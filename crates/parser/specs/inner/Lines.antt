@@ -11,7 +11,7 @@ use Rattle.plays.specs.Plays.{slotAt, pastMain, mainAt, playsAt}
 use Rattle.plays.specs.inner.Entries.{playEntries}
 use Rattle.parser.specs.declared.Extents.{Extents}
 use Rattle.parser.specs.declared.Hanging.{Hanging}
-use Rattle.parser.specs.declared.Hanging.the-variants.{AllHung, Lost}
+use Rattle.parser.specs.declared.Hanging.the-variants.{AllHung, Loose}
 
 -- Lines of play, counted.
 abbrev pub extents : List Play → ℕ → Extents
@@ -37,5 +37,5 @@ mainLine s at = record { start = 0; parent = 0; entries = mainAt s at .entries }
 
 -- Whether every variation hangs, and then the place past the last and how many times were lost.
 abbrev pub hanging : Hung → ℕ → ℕ → Hanging
-hanging (first k ply) at lost = Lost k ply
+hanging (first k ply) at lost = Loose k ply
 hanging all at lost = AllHung (cursor at) lost

@@ -4,14 +4,17 @@ use Prim.Native.Nat.{ℕ, _≤_}
 use mathlib.Core.Path.{_≡_}
 use mathlib.Core.List.{List}
 use lib.ListN.{length, take, replicate}
-use Rattle.jkf.specs.Attaching.{attach}
+use Rattle.jkf.specs.Attaching.{attach, allHung}
 use Rattle.jkf.specs.declared.Position.{Position}
+use Rattle.filling.specs.Filling.{ifFits}
 use Rattle.filling.specs.inner.Parts.{sizesOf, Opens}
 use Rattle.filling.specs.declared.Sizes.{Sizes}
 use Rattle.filling.specs.declared.Walk.{Walk}
 use Rattle.sorted.specs.Sorted.{kept}
+use Rattle.plays.specs.Losses.{playsLost}
 use Rattle.kakinoki.specs.Starts.{startRead, headerPlaces}
-use Rattle.parser.specs.Parse.{Parsed, parse}
+use Rattle.parser.specs.Parse.{Parsed, parse, needed}
+use Rattle.parser.specs.Read.{onHung}
 use Rattle.parser.specs.declared.Survey.{Survey}
 
 -- Room for the places of as many header lines as 65,535 bytes can hold.
@@ -44,3 +47,10 @@ pub record Sorted (s : List ℕ) (v : Survey) (o : List ℕ) : Type 0 where
 -- The block of what a text says is begun, whatever was in the buffer before.
 abbrev pub Opened : Parsed → Walk → ℕ → List ℕ → Type 0
 Opened p w n o = (before : List ℕ) × Opens 1 (parsedSizes p) (p .position) w n before o
+
+-- The times that are lost where every line hangs; and where the block fits into a buffer of this length.
+unfoldable pub hungLost : List ℕ → ℕ
+hungLost s = onHung (allHung (parse s .plays)) (λ k ply. 0) (playsLost s (startRead s .next .at))
+
+unfoldable pub storedLost : List ℕ → ℕ → ℕ
+storedLost s room = ifFits (needed (parse s)) room (λ a. 0) (hungLost s)

@@ -5,8 +5,9 @@ use denote.Ref.{now}
 use native.Mathlib.Omega.{arith}
 use lib.Seq.{length-take-le}
 use borrow.Author.Needs.{needs}
-use Rattle.parser.specs.Read.{earlyOf, fillOf, lostOf}
+use Rattle.parser.specs.Read.{earlyOf, fillOf}
 use Rattle.parser.specs.declared.Early.the-variants.{Refused, Passed}
+use Rattle.parser.proofs.Completing.{early-lost, passed-lost}
 use Rattle.parser.proofs.reads.fill.Statement.{statement}
 use Rattle.parser.proofs.reads.fill.Tie as tie
 
@@ -32,19 +33,22 @@ store-requires : tie.Need-store-requires
 store-requires c κs = c .before .before .before .before .before .survey .ensures .1 (c .before .before .enum-told .given .1) .found
 
 returns : tie.Need-returns
-unfolding fillOf lostOf
+unfolding fillOf
 returns c =
     let q : earlyOf (now (c .before .before .before .before .before .before .before .before .before .args .text)) ≡ Refused (c .before .before .early .given .0 .0) = sym (c .before .before .before .before .before .survey .ensures .0) ∙ c .before .before .early .given .1 in
-    rw q (c .refused .ensures .0, (refl, c .refused .ensures .1))
+    let a = c .before .before .before .before .before .before .before .before .before .args in
+    rw q (c .refused .ensures .0, (refl, c .refused .ensures .1 ∙ early-lost (a .text .now) (a .out .now) q))
 
 same-length : tie.Need-same-length
 same-length c = search needs
 
 returns-2 : tie.Need-returns-2
-unfolding fillOf lostOf
+unfolding fillOf
 returns-2 c =
     let q : earlyOf (now (c .before .before .before .before .before .before .before .before .before .before .before .before .args .text)) ≡ Passed = sym (c .before .before .before .before .before .before .before .before .survey .ensures .0) ∙ c .before .before .before .before .before .enum-told .given .1 in
-    rw q (c .before .before .store .ensures)
+    let a = c .before .before .before .before .before .before .before .before .before .before .before .before .args in
+    let e = c .before .before .store .ensures in
+    rw q (e .0, (e .1 .0, e .1 .1 ∙ passed-lost (a .text .now) (a .out .now) q))
 
 refused-requires : tie.Need-refused-requires
 refused-requires c κs = search needs
