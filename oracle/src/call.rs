@@ -5,9 +5,11 @@ use crate::judge::{self, Outcome};
 use crate::pairs;
 use crate::pairs::Asked;
 use crate::sound::sound;
+use crate::stop;
 use std::fmt;
 
-/// An edit's `from_text` tells whether its block came of reading a text, and of edits after that, if any.
+/// An edit's `from_text` tells whether its block came of reading a text, and of edits after that, if any. A pair is two put-ins into
+/// one block, in either order. A spot is asked for behind whole characters.
 #[derive(Clone, PartialEq, Eq)]
 pub enum Call {
     Measure { text: Vec<u8> },
@@ -15,16 +17,18 @@ pub enum Call {
     Write { block: Vec<u8> },
     PutIn { block: Vec<u8>, line: u64, text: Vec<u8>, from_text: bool },
     Cut { block: Vec<u8>, line: u64, from_text: bool },
-    /// Two put-ins into one block, in either order.
     Pair { block: Vec<u8>, one: Asked, other: Asked },
     Comment { block: Vec<u8>, k: u64 },
     Key { block: Vec<u8>, k: u64 },
     Value { block: Vec<u8>, k: u64 },
     Sound { block: Vec<u8> },
+    Stop { text: Vec<u8> },
+    Spot { text: Vec<u8>, at: u64 },
 }
 
 impl Call {
-    /// What the judge says. A look-up gives its part by offset and length, `sound` its answer in place of a number.
+    /// What the judge says. A look-up gives its part by offset and length, `sound` its answer in place of a number, a spot
+    /// its line and column behind a 0.
     pub fn judged(&self) -> Outcome {
         match self {
             Call::Measure { text } => judge::measure(text),
@@ -37,6 +41,11 @@ impl Call {
             Call::Key { block, k } => Outcome::Answered(judge::key(block, *k).0),
             Call::Value { block, k } => Outcome::Answered(judge::value(block, *k).0),
             Call::Sound { block } => Outcome::Answered(judge::answer(sound(block).into(), 0, 0)),
+            Call::Stop { text } => Outcome::Answered(judge::long_answer(stop::stop(text))),
+            Call::Spot { text, at } => {
+                let (line, column) = stop::spot(text, *at);
+                Outcome::Answered(judge::answer(0, line, column))
+            }
         }
     }
 
@@ -55,10 +64,10 @@ impl Call {
         }
     }
 
-    /// The text that the call is given, if any.
+    /// The text that the call is given, if any that can be made shorter.
     pub fn text_mut(&mut self) -> Option<&mut Vec<u8>> {
         match self {
-            Call::Measure { text } | Call::Fill { text } | Call::PutIn { text, .. } => Some(text),
+            Call::Measure { text } | Call::Fill { text } | Call::PutIn { text, .. } | Call::Stop { text } => Some(text),
             _ => None,
         }
     }
@@ -79,6 +88,8 @@ impl fmt::Display for Call {
             Call::Key { block, k } => write!(f, "key {} {k}", Hex(block)),
             Call::Value { block, k } => write!(f, "value {} {k}", Hex(block)),
             Call::Sound { block } => write!(f, "sound {}", Hex(block)),
+            Call::Stop { text } => write!(f, "stop {}", Quoted(text)),
+            Call::Spot { text, at } => write!(f, "spot {} {at}", Quoted(text)),
         }
     }
 }

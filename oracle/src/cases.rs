@@ -23,6 +23,45 @@ pub fn numbered_text(seed: u64) -> Call {
     Call::Fill { text: if r.one_in(200) { written_to_the_limit(r) } else { texts::numbered(r) } }
 }
 
+/// Where reading stops in the text that a call is to read.
+fn stop_of(call: Call) -> Call {
+    match call {
+        Call::Fill { text } => Call::Stop { text },
+        other => other,
+    }
+}
+
+pub fn short_stop(seed: u64) -> Call {
+    stop_of(short_text(seed))
+}
+
+pub fn any_stop(seed: u64) -> Call {
+    Call::Stop { text: stopping_text(&mut Rng::new(seed)) }
+}
+
+pub fn numbered_stop(seed: u64) -> Call {
+    stop_of(numbered_text(seed))
+}
+
+/// As many texts made to stop as of any sort.
+fn stopping_text(r: &mut Rng) -> Vec<u8> {
+    if r.one_in(2) {
+        texts::stopping(r)
+    } else {
+        texts::text(r)
+    }
+}
+
+/// A place of a text, its end among them, before which whole characters stand.
+pub fn a_spot(seed: u64) -> Call {
+    let r = &mut Rng::new(seed);
+    let text = stopping_text(r);
+    let well_formed = text.utf8_chunks().next().map_or("", |chunk| chunk.valid());
+    let places: Vec<_> = well_formed.char_indices().map(|(at, _)| at).chain([well_formed.len()]).collect();
+    let at = if r.one_in(8) { well_formed.len() } else { places[r.below(places.len())] } as u64;
+    Call::Spot { text, at }
+}
+
 /// A text with so long a comment that what is written of it is as long as a text may be, or has up to two bytes fewer
 /// or more. With nine moves or more its block stays within the limit.
 fn written_to_the_limit(r: &mut Rng) -> Vec<u8> {

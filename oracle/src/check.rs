@@ -4,17 +4,20 @@ use crate::attach;
 use crate::call::Call;
 use crate::cases;
 use crate::edits::{EDITS, PAIRS};
-use crate::judge::{self, Outcome};
+use crate::judge::{self, Outcome, LONGEST};
 use crate::known;
 use crate::left::{colours_follow, left};
 use crate::pairs;
+use crate::reached;
 use crate::record::{decode, encode, Record, LIMIT};
 use crate::runner::{caught, run, Kind};
 use crate::short::SHORT;
 use crate::small::SMALL;
 use crate::sound::sound;
+use crate::stop::{spot, stop};
+use std::str;
 
-const KINDS: [Kind; 17] = [
+const KINDS: [Kind; 21] = [
     Kind { name: "short texts", share: 17, all: Some(SHORT), make: cases::short_text, test: reading },
     Kind { name: "texts", share: 20, all: None, make: cases::any_text, test: reading },
     Kind { name: "bytes", share: 13, all: None, make: cases::altered_block, test: soundness },
@@ -32,6 +35,10 @@ const KINDS: [Kind; 17] = [
     Kind { name: "values", share: 2, all: None, make: cases::a_value, test: looking_up },
     Kind { name: "numbered", share: 4, all: None, make: cases::numbered_text, test: reading },
     Kind { name: "edits again", share: 4, all: None, make: cases::to_edit_again, test: editing_again },
+    Kind { name: "short stops", share: 17, all: Some(SHORT), make: cases::short_stop, test: stopping },
+    Kind { name: "stops", share: 20, all: None, make: cases::any_stop, test: stopping },
+    Kind { name: "numbered stops", share: 4, all: None, make: cases::numbered_stop, test: stopping },
+    Kind { name: "spots", share: 2, all: None, make: cases::a_spot, test: spotting },
 ];
 
 /// Whether all known answers and all generated cases hold.
@@ -77,6 +84,38 @@ fn measured(measured: Outcome, filled: &Outcome) {
             assert_eq!((told.number, told.first, told.second), (0, answer.second, answer.first))
         }
     }
+}
+
+/// A stop is refused as filling is, or names the bytes that filling takes, only that refusal 4 is not given; and it is confirmed.
+fn stopping(call: &Call) -> u64 {
+    let Call::Stop { text } = call else { unreachable!() };
+    let [number, first, second, place, ..] = stop(text);
+    let filled = judge::fill(text).answer_in(LONGEST);
+    match (number, filled.number) {
+        (0 | 6, 4) => {}
+        (0, 0) => assert_eq!(first, filled.first),
+        _ => assert_eq!((number, first, second), (filled.number, filled.first, filled.second)),
+    }
+    if number == 0 {
+        assert!(first <= place && (second != 8 || place == text.len() as u64));
+        reached::confirm(str::from_utf8(text).unwrap(), place as usize, second);
+    }
+    number
+}
+
+/// The same by bytes: a character has one that continues none.
+fn spotting(call: &Call) -> u64 {
+    let Call::Spot { text, at } = call else { unreachable!() };
+    let (mut line, mut column) = (1, 1);
+    for byte in &text[..*at as usize] {
+        (line, column) = match byte {
+            b'\n' => (line + 1, 1),
+            0x80..=0xbf => (line, column),
+            _ => (line, column + 1),
+        };
+    }
+    assert_eq!(spot(text, *at), (line, column));
+    0
 }
 
 /// Both definitions of soundness agree, and a sound block is its record's encoding.

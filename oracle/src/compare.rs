@@ -54,6 +54,14 @@ const KINDS: &[Kind] = &[
     Kind { name: "numbered", share: 10, all: None, make: cases::numbered_text, test: compared },
     #[cfg(all(feature = "kif_put_in", feature = "kif_cut"))]
     Kind { name: "edits again", share: 10, all: None, make: cases::to_edit_again, test: compared },
+    #[cfg(feature = "kif_stop")]
+    Kind { name: "short stops", share: 34, all: Some(crate::short::SHORT), make: cases::short_stop, test: compared },
+    #[cfg(feature = "kif_stop")]
+    Kind { name: "stops", share: 20, all: None, make: cases::any_stop, test: compared },
+    #[cfg(feature = "kif_stop")]
+    Kind { name: "numbered stops", share: 5, all: None, make: cases::numbered_stop, test: compared },
+    #[cfg(feature = "kif_spot")]
+    Kind { name: "spots", share: 2, all: None, make: cases::a_spot, test: compared },
 ];
 
 /// Whether the port answers every case as the judge does.
@@ -120,7 +128,7 @@ fn difference(call: &Call, outcome: &Outcome, lent: &mut Lent, length: usize) ->
     at.map(|at| format!("buffer {length}: byte {at} is not as the judge leaves it"))
 }
 
-/// The lengths at which an answer could turn; look-ups and `sound` are lent no buffer.
+/// The lengths at which an answer could turn; look-ups, `sound`, stops and spots are lent no buffer.
 fn lengths(call: &Call, outcome: &Outcome) -> Vec<usize> {
     let needed = outcome.needed().unwrap_or(0);
     match call {

@@ -16,13 +16,15 @@ use std::str;
 pub const LONGEST: usize = 200_000;
 static ZEROS: [u8; LONGEST] = [0; LONGEST];
 
-/// A number of 01's table, 0 on success, and the two figures; of filling also how many move lines lost a time (02, iv).
+/// A number of 01's table, 0 on success, and the two figures; of filling also how many move lines lost a time (02, iv), and of a
+/// stop the figures from the third to the sixth (02, ii).
 #[derive(Clone, Copy, Debug, PartialEq, Eq)]
 pub struct Answer {
     pub number: u64,
     pub first: u64,
     pub second: u64,
     pub lost: u64,
+    pub more: [u64; 4],
 }
 
 /// What a call comes to before the lent buffer's length is looked at.
@@ -71,50 +73,62 @@ impl Outcome {
     }
 }
 
-/// An answer that tells of no lost time: a refusal's, and that of any call but filling.
+/// An answer that tells of no lost time and has two figures: a refusal's, and that of any call but filling and stopping.
 pub fn answer(number: u64, first: u64, second: u64) -> Answer {
-    Answer { number, first, second, lost: 0 }
+    Answer { number, first, second, lost: 0, more: [0; 4] }
+}
+
+/// An answer with six figures: a stop's.
+pub fn long_answer([number, first, second, more @ ..]: [u64; 7]) -> Answer {
+    Answer { more, ..answer(number, first, second) }
 }
 
 fn refused(number: u64, first: u64, second: u64) -> Outcome {
     Outcome::Answered(answer(number, first, second))
 }
 
-/// A text that refusals 1 to 4 let pass: its record, whose parents are still to be put in; these, or the first variation that has
-/// no entry to hang on and its ply; its lines as they stand there; and how many bytes are taken.
-struct Taken<'a> {
-    record: Record,
-    parents: Result<Vec<usize>, (u64, u64)>,
-    plays: Vec<&'a str>,
-    bytes: usize,
+/// A text that refusals 1 to 3 let pass: its record, whose parents are still to be put in; these, or the first variation that has
+/// no entry to hang on and its ply; its lines as they stand there; how many bytes its head has, and how many are taken.
+pub struct Taken<'a> {
+    pub record: Record,
+    pub parents: Result<Vec<usize>, (u64, u64)>,
+    pub plays: Vec<&'a str>,
+    pub head: usize,
+    pub bytes: usize,
 }
 
-fn taken(text: &[u8]) -> Result<Taken<'_>, Answer> {
+/// What is taken of a text, or refusals 1 to 3.
+pub fn taken(text: &[u8]) -> Result<Taken<'_>, Answer> {
     if text.len() > LIMIT {
         return Err(answer(1, text.len() as u64, 0));
     }
     let text = str::from_utf8(text).map_err(|error| answer(2, error.valid_up_to() as u64, 0))?;
-    let (rest, head) = read_head(text).map_err(|error| answer(3, hand_line(text, error), 0))?;
-    let (rest, read) = read_lines(rest).expect("no line at all is a main line without moves");
+    let (past_head, head) = read_head(text).map_err(|error| answer(3, hand_line(text, error), 0))?;
+    let (rest, read) = read_lines(past_head).expect("no line at all is a main line without moves");
     let (plays, lines): (_, Vec<Play>) =
         read.into_iter().map(|(play, (start, moves))| (play, (start as u64, moves))).unzip();
     let record = translate::record(&head, &lines);
     let parents = attach::parents(&record.shape());
     confirm_attaching(text, rest, head, lines, parents.as_deref().ok());
-    match record.length() {
+    Ok(Taken { record, parents, plays, head: text.len() - past_head.len(), bytes: text.len() - rest.len() })
+}
+
+/// The same, or refusals 1 to 4.
+fn storable(text: &[u8]) -> Result<Taken<'_>, Answer> {
+    taken(text).and_then(|taken| match taken.record.length() {
         needed if needed > LIMIT => Err(answer(4, needed as u64, 0)),
-        _ => Ok(Taken { record, parents, plays, bytes: text.len() - rest.len() }),
-    }
+        _ => Ok(taken),
+    })
 }
 
 /// The length needed and the bytes taken, or refusals 1 to 4 (02, vii).
 pub fn measure(text: &[u8]) -> Outcome {
-    let measured = taken(text).map(|taken| answer(0, taken.record.length() as u64, taken.bytes as u64));
+    let measured = storable(text).map(|taken| answer(0, taken.record.length() as u64, taken.bytes as u64));
     Outcome::Answered(measured.unwrap_or_else(|refusal| refusal))
 }
 
 pub fn fill(text: &[u8]) -> Outcome {
-    let Taken { mut record, parents, plays, bytes } = match taken(text) {
+    let Taken { mut record, parents, plays, bytes, .. } = match storable(text) {
         Ok(taken) => taken,
         Err(refusal) => return Outcome::Answered(refusal),
     };

@@ -4,6 +4,8 @@ use crate::judge::{self, Outcome};
 use crate::left::left;
 use crate::listing::listing;
 use crate::record::{decode, encode, Diagram, Record, What, LIMIT};
+use crate::stop::{spot, stop};
+use crate::stops;
 use crate::times;
 
 const WORKED_EXAMPLE: &str = "\
@@ -25,7 +27,7 @@ line 1 start 2 moves 1 parent 0
 ";
 
 /// Each group by name; a group panics at the first answer that is not the known one.
-pub const GROUPS: [(&str, fn()); 10] = [
+pub const GROUPS: [(&str, fn()); 13] = [
     ("worked example", worked_example),
     ("positions", positions),
     ("put-ins and cuts", put_ins_and_cuts),
@@ -36,6 +38,9 @@ pub const GROUPS: [(&str, fn()); 10] = [
     ("what is left", what_is_left),
     ("times", times_of_lines),
     ("lost times", lost_times),
+    ("stops", stops_of_texts),
+    ("stops at the limits", stops_at_the_limits),
+    ("spots", spots),
 ];
 
 fn worked_example() {
@@ -296,4 +301,32 @@ fn lost_times() {
     assert_eq!([203, 204].map(|room| lost_in(&format!("{line}x\n2投了\n"), room)), [(5, 0), (6, 0)]);
     assert_eq!(lost_in(&format!("手数\n{}", "1同歩打(300)\n".repeat(3_269)), LIMIT), (4, 0));
     assert_eq!(lost_in(&format!("先手の持駒：x\n{line}"), LIMIT), (3, 0));
+}
+
+fn stops_of_texts() {
+    for (text, answer) in stops::cases() {
+        assert_eq!(stop(&text), answer, "{:?}", String::from_utf8_lossy(&text));
+    }
+}
+
+/// Refusals 1 and 2 come first; 6 and the place show though the block be too long.
+fn stops_at_the_limits() {
+    assert_eq!(stop(&[0xff; LIMIT + 1]), [1, LIMIT as u64 + 1, 0, 0, 0, 0, 0]);
+    assert_eq!(stop(&["先手の持駒：x\n".as_bytes(), b"\xff"].concat()), [2, 20, 0, 0, 0, 0, 0]);
+    let long = format!("手数\n{}", "1同歩打\n".repeat(3_269));
+    let end = long.len() as u64;
+    assert_eq!(read(&long).0, 4);
+    assert_eq!(stop(long.as_bytes()), [0, end, 8, end, 0, 0, 0]);
+    assert_eq!(stop(format!("{long}x\n9999同歩打\n").as_bytes()), [6, 1, 9_999, 0, 0, 3_269, end + 2]);
+}
+
+/// Characters count, not bytes; a CR is one, and only an LF ends a line.
+fn spots() {
+    let text = "手合割：平手\n手数----指手--\n   1 ７六歩(77)\n   2 反則勝ち\n";
+    let known = [(0, (1, 1)), (3, (1, 2)), (18, (1, 7)), (19, (2, 1)), (57, (4, 1)), (62, (4, 6)), (75, (5, 1))];
+    for (at, answer) in known {
+        assert_eq!(spot(text.as_bytes(), at), answer, "{at}");
+    }
+    assert_eq!(spot(b"a\r\n\n\rb\xff", 6), (3, 3));
+    assert_eq!(spot(b"", 0), (1, 1));
 }

@@ -26,6 +26,7 @@ mod original;
 mod pairs;
 #[cfg(feature = "linked")]
 mod port;
+mod reached;
 mod record;
 mod recorder;
 mod rng;
@@ -33,6 +34,8 @@ mod runner;
 mod short;
 mod small;
 mod sound;
+mod stop;
+mod stops;
 mod text;
 mod texts;
 mod times;

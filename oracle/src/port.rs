@@ -59,20 +59,32 @@ extern "C" {
     fn kif_value(block: In, block_len: usize, k: u64, number: Figure, first: Figure, second: Figure);
     #[cfg(feature = "kif_sound")]
     fn kif_sound(block: In, block_len: usize) -> u8;
+    #[cfg(feature = "kif_stop")]
+    fn kif_stop(
+        text: In,
+        text_len: usize,
+        number: Figure,
+        first: Figure,
+        second: Figure,
+        third: Figure,
+        fourth: Figure,
+        fifth: Figure,
+        sixth: Figure,
+    );
+    #[cfg(feature = "kif_spot")]
+    fn kif_spot(text: In, text_len: usize, at: u64, line: Figure, column: Figure);
 }
 
-/// What the port answers with this buffer lent.
+/// What the port answers with this buffer lent, if the call is lent one.
 // SAFETY, of every call below: each pointer goes with the length of the slice that it comes from.
 pub fn answer(call: &Call, out: &mut [u8]) -> Answer {
     let (at, room) = (out.as_mut_ptr(), out.len());
     match call {
-        #[cfg(feature = "kif_measure")]
-        Call::Measure { text } => lend(|n, a, b| unsafe { kif_measure(text.as_ptr(), text.len(), n, a, b) }),
         #[cfg(feature = "kif_fill")]
         Call::Fill { text } => {
             let fill = |[n, a, b, l]: [Figure; 4]| unsafe { kif_fill(text.as_ptr(), text.len(), at, room, n, a, b, l) };
             let [number, first, second, lost] = numbers(fill);
-            Answer { number, first, second, lost }
+            Answer { lost, ..judge::answer(number, first, second) }
         }
         #[cfg(feature = "kif_write")]
         Call::Write { block } => lend(|n, a, b| unsafe { kif_write(block.as_ptr(), block.len(), at, room, n, a, b) }),
@@ -84,6 +96,15 @@ pub fn answer(call: &Call, out: &mut [u8]) -> Answer {
         Call::Cut { block, line, .. } => {
             lend(|n, a, b| unsafe { kif_cut(block.as_ptr(), block.len(), *line, at, room, n, a, b) })
         }
+        _ => told(call),
+    }
+}
+
+/// What it answers to a call that is lent no buffer.
+fn told(call: &Call) -> Answer {
+    match call {
+        #[cfg(feature = "kif_measure")]
+        Call::Measure { text } => lend(|n, a, b| unsafe { kif_measure(text.as_ptr(), text.len(), n, a, b) }),
         #[cfg(feature = "kif_comment")]
         Call::Comment { block, k } => lend(|n, a, b| unsafe { kif_comment(block.as_ptr(), block.len(), *k, n, a, b) }),
         #[cfg(feature = "kif_key")]
@@ -92,6 +113,15 @@ pub fn answer(call: &Call, out: &mut [u8]) -> Answer {
         Call::Value { block, k } => lend(|n, a, b| unsafe { kif_value(block.as_ptr(), block.len(), *k, n, a, b) }),
         #[cfg(feature = "kif_sound")]
         Call::Sound { block } => judge::answer(unsafe { kif_sound(block.as_ptr(), block.len()) }.into(), 0, 0),
+        #[cfg(feature = "kif_stop")]
+        Call::Stop { text } => judge::long_answer(numbers(|[n, a, b, c, d, e, f]| unsafe {
+            kif_stop(text.as_ptr(), text.len(), n, a, b, c, d, e, f)
+        })),
+        #[cfg(feature = "kif_spot")]
+        Call::Spot { text, at } => {
+            let [line, column] = numbers(|[l, c]| unsafe { kif_spot(text.as_ptr(), text.len(), *at, l, c) });
+            judge::answer(0, line, column)
+        }
         _ => unreachable!("the library does not export this call"),
     }
 }
@@ -102,10 +132,10 @@ fn lend(call: impl FnOnce(Figure, Figure, Figure)) -> Answer {
     judge::answer(number, first, second)
 }
 
-/// Lends so many numbers, at most four, to a call, between others that it must leave alone.
+/// Lends so many numbers, at most seven, to a call, between others that it must leave alone.
 fn numbers<const N: usize>(call: impl FnOnce([Figure; N])) -> [u64; N] {
     const UNTOUCHED: u64 = 0xa5a5_a5a5_a5a5_a5a5;
-    let mut row = [UNTOUCHED; 6];
+    let mut row = [UNTOUCHED; 9];
     // All of one pointer, by which any number of the row could be changed for all that the compiler knows.
     let start = row.as_mut_ptr();
     call(array::from_fn(|k| start.wrapping_add(1 + k)));

@@ -10,6 +10,7 @@ mod reads;
 mod remarks;
 mod slices;
 mod spellings;
+mod stops;
 mod writes;
 
 use crate::judge::Outcome;
@@ -50,11 +51,15 @@ const RECORDERS: [Recorder; 19] = [
     (b'o', "cuts: buffer's length, line, block's length, block; as of writes", edits::cuts),
 ];
 
+/// Stops, which go in last once the program that replays the sample knows them.
+const STOPS: Recorder = (b'q', "stops: text; number, six figures", stops::stops);
+const WITH_STOPS: bool = false;
+
 /// Writes the sample to this file, and beside it how it was made.
 pub fn record(file: &str) -> io::Result<()> {
     let mut sample = Sample { kind: 0, bytes: vec![], count: 0, r: Rng::new(SEED) };
     let mut about = format!("Made by: oracle/run record FILE (its seed is {SEED}).\nKind, records, request; answer:\n");
-    for (kind, what, recorder) in RECORDERS {
+    for (kind, what, recorder) in RECORDERS.into_iter().chain(WITH_STOPS.then_some(STOPS)) {
         let before = sample.count;
         sample.kind = kind;
         recorder(&mut sample);

@@ -4,12 +4,12 @@ use crate::record::LIMIT;
 use crate::rng::Rng;
 use crate::times;
 
-const KINDS: [&str; 19] = [
+pub const KINDS: [&str; 19] = [
     "歩", "香", "桂", "銀", "金", "角", "飛", "玉", "王", "と", "杏", "成香", "圭", "成桂", "全", "成銀", "馬", "龍",
     "竜",
 ];
 const HAND_KINDS: [&str; 7] = ["飛", "角", "金", "銀", "桂", "香", "歩"];
-const SPECIALS: [&str; 8] = ["投了", "中断", "千日手", "切れ負け", "反則負け", "持将棋", "入玉勝ち", "詰み"];
+pub const SPECIALS: [&str; 8] = ["投了", "中断", "千日手", "切れ負け", "反則負け", "持将棋", "入玉勝ち", "詰み"];
 const OTHER_SPECIALS: [&str; 5] = ["不詰", "待った", "引き分け", "反則", "千日"];
 const PRESETS: [&str; 17] = [
     "平手", "香落ち", "右香落ち", "角落ち", "飛車落ち", "飛香落ち", "二枚落ち", "三枚落ち", "四枚落ち", "五枚落ち",
@@ -25,8 +25,8 @@ const KEYS: [&str; 20] = [
 ];
 const WORDS: [&str; 15] =
     ["", "x", "名人", "&x", "*", "：", "#", "a：b", "　", "\t", "\0", "🀄𠮷", "(0:1/0:2)", "(300)", "手"];
-const FILES: [&str; 9] = ["１", "２", "３", "４", "５", "６", "７", "８", "９"];
-const RANKS: [&str; 9] = ["一", "二", "三", "四", "五", "六", "七", "八", "九"];
+pub const FILES: [&str; 9] = ["１", "２", "３", "４", "５", "６", "７", "８", "９"];
+pub const RANKS: [&str; 9] = ["一", "二", "三", "四", "五", "六", "七", "八", "九"];
 const SKIP_LINES: [&str; 12] = [
     "手数----指手---------消費時間--", "手数--", "", "変化：2手", "まで2手で先手の勝ち", "#c", "&b", "|x",
     "\t1 同歩打(300)", "：", "+", "先手番",
@@ -36,6 +36,23 @@ const LARGE_FIGURES: [&str; 8] =
 /// Of what times are made, and what comes near it.
 const TIME_SPLINTERS: [&str; 16] =
     ["(", ")", "/", "/", ":", ":", " ", "\t", "0", "1", "59", "255", "256", "300", ".", "３"];
+/// What may stand for each part of a move line, in their order: first as the rules have it, then as they may not.
+const STOPS: [&[&str]; 8] = [
+    &["\t", "\t", "\t ", "   ", "", "*", "&", "▲", "\n"],
+    &["1", "2", "9", "007", "18446744073709551615", "18446744073709551616", "99999999999999999999", "", "１"],
+    &[" ", " ", "", "\t", "　", "."],
+    &[
+        "７六", "３四", "同", "同　", "同 ", "７", "７6", "76", "７十", "投了", "千日手", "千日", "反則", "反則勝ち",
+        "入玉", "切れ負", "詰", "",
+    ],
+    &["歩", "歩", "成香", "と", "成", "步", ""],
+    &["", "", "成", "不成", "不", "生", "右"],
+    &[
+        "(77)", "打", "", "(", "()", "(77", "(255)", "(256)", "(256", "(７７)", "（77）", "(18446744073709551616)",
+        " (77)",
+    ],
+    &["\n", "\r\n", "", "", "\r", "\r\r\n", "\rx\n", " (0:1/0:2)", "x", " "],
+];
 const HEAD_LINE: &str = "  ９ ８ ７ ６ ５ ４ ３ ２ １";
 const EDGE_LINE: &str = "+---------------------------+";
 /// What breaks a rule when it stands in the wrong place.
@@ -61,6 +78,23 @@ pub fn text(r: &mut Rng) -> Vec<u8> {
 pub fn numbered(r: &mut Rng) -> Vec<u8> {
     let mut maker = Maker { strays: usize::MAX, ..Maker::new(r) };
     maker.whole();
+    maker.text.into_bytes()
+}
+
+/// A text in which reading mostly stops: some lines of a good one, then one that is spoiled or cut short, then mostly nothing.
+pub fn stopping(r: &mut Rng) -> Vec<u8> {
+    let mut maker = Maker { strays: usize::MAX, ..Maker::new(r) };
+    maker.whole();
+    maker.keep_lines();
+    match maker.r.below(4) {
+        0 => (0..1 + maker.r.below(2)).for_each(|_| maker.skip_line()),
+        1 => maker.line("*c"),
+        _ => {}
+    }
+    maker.spoiled_line();
+    if maker.r.one_in(4) {
+        maker.moves(1, 1);
+    }
     maker.text.into_bytes()
 }
 
@@ -419,6 +453,27 @@ impl<'a> Maker<'a> {
             }
             self.end_line();
             self.comments();
+        }
+    }
+
+    /// Leaves out some of the last lines.
+    fn keep_lines(&mut self) {
+        let ends: Vec<_> = self.text.match_indices('\n').map(|(at, _)| at + 1).collect();
+        let kept = self.r.below(ends.len() + 1);
+        self.text.truncate(ends.get(kept).copied().unwrap_or(self.text.len()));
+    }
+
+    /// A move line with up to two parts that may not be as the rules have them; in half of the cases cut short.
+    fn spoiled_line(&mut self) {
+        let spoiled = [0; 2].map(|_| self.r.below(STOPS.len()));
+        let start = self.text.len();
+        self.add(STOPS[0]);
+        for (part, words) in STOPS.iter().enumerate().skip(1) {
+            self.add(if spoiled.contains(&part) { words } else { &words[..1] });
+        }
+        if self.r.one_in(2) {
+            let places: Vec<_> = self.text[start..].char_indices().map(|(at, _)| start + at).collect();
+            self.text.truncate(places[self.r.below(places.len())]);
         }
     }
 
