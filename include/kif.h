@@ -1,5 +1,5 @@
 /* Prunicheta's calls for C. A slice is a pointer and a length; a lent number is a pointer to it.
- * Every call takes every input. A refused call says so in *number (1 to 13) and in two figures; 0 is success. 14 was a refusal of
+ * Every call takes every input. A refused call says so in *number (1 to 13) and in its figures; 0 is success. 14 was a refusal of
  * kif_put_in that is never met, and is not used again. */
 #ifndef KIF_H
 #define KIF_H
@@ -27,6 +27,21 @@ void kif_measure(const uint8_t *text, size_t text_len, uint64_t *number, uint64_
  * Success changes only the block's bytes, 6 sets the whole of out to zero, and the others change nothing in it. With success
  * *lost is how many of the move lines taken have no time because a figure in it is over 255, as in (300:00/5:00:00); with a refusal it is 0. */
 void kif_fill(const uint8_t *text, size_t text_len, uint8_t *out, size_t out_len, uint64_t *number, uint64_t *first, uint64_t *second, uint64_t *lost);
+
+/* Where reading a text stops, and why. Nothing is stored, so that 4 and 5 are never given. The number is 0 and the figures are the first byte
+ * not taken, the reason, and the place that the rule reached that failed there, and three zeros; or, in this order,
+ *   1 to 3                as kif_measure, and four zeros more;
+ *   6                     where a variation has no entry to hang on: its number from 1, its ply, the line that it would hang on, the first
+ *                         and the last ply of that line, and the first byte of the variation's first move line.
+ * Reasons: 1 no number; 2 number too large; 3 no place; 4 no kind; 5 no origin; 6 no line break; 7 a comment out of place; 8 end of text. Of
+ * rules that all fail there the one that got further tells, else the one that is tried first. Where all is taken, the first byte not taken
+ * and the place reached are the length, and the reason is 8. */
+void kif_stop(const uint8_t *text, size_t text_len, uint64_t *number, uint64_t *first, uint64_t *second, uint64_t *third, uint64_t *fourth, uint64_t *fifth, uint64_t *sixth);
+
+/* The line of a place, and its character in that line, both counted from 1: LFs end lines, and characters are counted by the bytes that are not 0x80 to
+ * 0xBF.
+ * A place past the end is the end. */
+void kif_spot(const uint8_t *text, size_t text_len, uint64_t at, uint64_t *line, uint64_t *column);
 
 /* Writes a block's text into the front of out, which must not overlap it: 0, the text's length and how many lines it leaves out; or,
  * in this order,

@@ -29,7 +29,7 @@ const READS: u8 = b'r';
 /// A kind's letter, what it is, and its recorder.
 type Recorder = (u8, &'static str, fn(&mut Sample));
 
-const RECORDERS: [Recorder; 19] = [
+const RECORDERS: [Recorder; 20] = [
     (b'u', "UTF-8: bytes; count of well-formed ones from the start", leaves::utf8),
     (b't', "blanks, padding, tail, break: which, place, text; found, place after", leaves::steps),
     (b'd', "digits: largest, place, text; 0 none 1 value 2 too large, value, place after", leaves::digits),
@@ -49,17 +49,14 @@ const RECORDERS: [Recorder; 19] = [
     (b'b', "writes: buffer's length, slice; number, two figures, the buffer (165 in each byte before)", writes::writes),
     (b'p', "put-ins: buffer's length, line, block's length, block, text; as of writes", edits::put_ins),
     (b'o', "cuts: buffer's length, line, block's length, block; as of writes", edits::cuts),
+    (b'q', "stops: text; number, six figures", stops::stops),
 ];
-
-/// Stops, which go in last once the program that replays the sample knows them.
-const STOPS: Recorder = (b'q', "stops: text; number, six figures", stops::stops);
-const WITH_STOPS: bool = false;
 
 /// Writes the sample to this file, and beside it how it was made.
 pub fn record(file: &str) -> io::Result<()> {
     let mut sample = Sample { kind: 0, bytes: vec![], count: 0, r: Rng::new(SEED) };
     let mut about = format!("Made by: oracle/run record FILE (its seed is {SEED}).\nKind, records, request; answer:\n");
-    for (kind, what, recorder) in RECORDERS.into_iter().chain(WITH_STOPS.then_some(STOPS)) {
+    for (kind, what, recorder) in RECORDERS {
         let before = sample.count;
         sample.kind = kind;
         recorder(&mut sample);

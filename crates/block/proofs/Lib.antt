@@ -19,3 +19,4 @@ pub mod LineTables
 pub mod TablePasses
 pub mod LookUps
 pub mod Attached
+pub mod Tabled

@@ -5,23 +5,24 @@ use native.Mathlib.Omega.{arith}
 use mathlib.Core.Path.{_≡_, refl, sym, ap, ap₂, _∙_, subst}
 use mathlib.Core.List.{List, [], _∷_, _++_, append-nil}
 use native.Mathlib.Decide.{decLt}
-use lib.ListN.{length, take, drop, getD, take-append-drop, List·getD-append, length-append}
+use lib.ListN.{length, take, drop, getD, take-append-drop, length-append}
 use lib.Seq.{getD-take, getD-drop, take-suc, length-take-le}
 use Rattle.lent.specs.Bytes.{le16}
 use Rattle.lent.specs.Stored.{put}
 use Rattle.lent.specs.inner.Regions.{join, first as next, puts, Room}
-use Rattle.lent.proofs.Regions.{room-front, filled-length, then-fill, then-room, as-texts, filled-at, join-nil, put-none, put-eq, length-put, room-at}
+use Rattle.lent.proofs.Regions.{room-front, filled-length, then-fill, then-room, as-texts, filled-at, join-nil, put-none, length-put, room-at}
 use Rattle.jkf.specs.Attaching.{near, hangs, all, hungFrom, Play, playOf, starts, counts, parentIn, attach}
-use Rattle.jkf.specs.Following.{startAt, countAt, parentAt, hangsBy, Linked}
+use Rattle.jkf.specs.Following.{startAt, countAt, parentAt}
 use Rattle.jkf.specs.declared.Hang.the-variants.{On}
-use Rattle.jkf.proofs.Nears.{near-same, near-before, hangs-followed, Hangs, hangs-on}
-use Rattle.jkf.proofs.Hangings.{hangs-before, hung-front}
+use Rattle.jkf.proofs.Nears.{near-before, Hangs, hangs-on}
+use Rattle.jkf.proofs.Hangings.{hung-front}
 use Rattle.jkf.specs.Model.{Noted, Line}
 use Rattle.block.specs.Formed.{lineOf}
 use Rattle.block.specs.Encode.{table, concat, lineRow, lineStep, entriesOf, commentsOf, commentText}
 use Rattle.block.proofs.Tabling.{table-length, concat-append}
 use Rattle.block.proofs.RowPlaces.{line-wide}
 use Rattle.block.proofs.LineTables.{start-back, count-back, parent-back}
+use Rattle.block.proofs.Tabled.{put-low, Tabled, tabled-hangs}
 use Rattle.block.proofs.Attached.{all-hang, start-bound, attach-length, attach-entries, attach-line, parent-first, parent-later}
 use Rattle.filling.specs.Filling.{Grown, putLine, hangingOf}
 use Rattle.filling.specs.inner.Parts.{entryTexts, lineTexts, entryEnds, lineEnds, EntriesFit, Entered, LinesFit, LineFits, Lined}
@@ -60,17 +61,12 @@ module _ (ys : List Line) {xs : List Line} {w v : Walk} {o o₁ : List ℕ} (k :
 
 -- ---- what stands before the regions that are filled stays
 
-put-low : (o t : List ℕ) (p i : ℕ) → p + length t ≤ length o → i < p → getD (put o p t) i 0 ≡ getD o i 0
-put-low o t p i h k =
-    ap (λ (l : List ℕ). getD l i 0) (put-eq o p t h) ∙ List·getD-append (take p o) (t ++ drop (p + length t) o) 0 i (omega (arith, length-take-le p o (omega arith)))
-    ∙ getD-take p o i 0 k
-
 puts-low : (o ps : List ℕ) (ts : List (List ℕ)) (i : ℕ) → Room (length o) ps ts → i < next (length o) ps → getD (puts o ps ts) i 0 ≡ getD o i 0
 puts-low o [] ts i r h = refl
 puts-low o (p ∷ ps) [] i r h = refl
 puts-low o (p ∷ ps) (t ∷ ts) i r h =
     let n = length-put o p t in
-    puts-low (put o p t) ps ts i (rw n (r .1)) (rw n (omega (arith, r .0))) ∙ put-low o t p i (room-at (length o) (p ∷ ps) (t ∷ ts) 0 r (omega arith)) h
+    puts-low (put o p t) ps ts i (rw n (r .1)) (rw n (omega (arith, r .0))) ∙ put-low o t p (room-at (length o) (p ∷ ps) (t ∷ ts) 0 r (omega arith)) i h
 
 -- the rows of lines, after so many entries
 abbrev pub lineTable : ℕ → List Line → List ℕ
@@ -229,21 +225,19 @@ module _ (ps : List Play) (w : Walk) (o₀ : List ℕ) (f : LinesFit (attach ps)
         count-read : (j : ℕ) → j < k → countAt seen j ≡ counts ps j
         count-read j h = two-back (8 * j + 4) (omega arith) ∙ count-back (w .entries) (take k ls) j (omega (arith, long)) (rw (line-early j h) (early j h .1)) ∙ ap (λ (x : Line). length (x .entries)) (line-early j h)
 
-        -- all lines before hang, so each has the parent that is found for it
-        linked : Linked seen k
-        linked = record { parents = parents }
+        parent-read : (j : ℕ) → j < k → parentAt seen j ≡ parentIn ps j
+        parent-read j h =
+            two-back (8 * j + 6) (omega arith) ∙ parent-back (w .entries) (take k ls) j (omega (arith, long)) (rw (line-early j h) (parent-small (decLt 0 j)))
+            ∙ ap (λ (x : Line). x .parent) (line-early j h)
           where
-            parents : (j : ℕ) → 0 < j → j < k → parentAt seen j ≡ near (startAt seen) (startAt seen j) j
-            parents j z h =
-                let e = parent-later ps j (all-hang (starts ps) (counts ps) (k - 1) (hung) j z (omega arith)) in
-                let b : parentIn ps j < 65536 = omega (arith, e, near-before (starts ps) (starts ps j) j z, few, f .lines, attach-length ps) in
-                two-back (8 * j + 6) (omega arith) ∙ parent-back (w .entries) (take k ls) j (omega (arith, long)) (rw (line-early j h) b) ∙ ap (λ (x : Line). x .parent) (line-early j h)
-                ∙ e ∙ ap (λ (n : ℕ). near (starts ps) n j) (sym (start-read j h)) ∙ sym (near-same (startAt seen) (starts ps) (startAt seen j) j (λ m l. start-read m (omega arith)))
+            parent-small : Dec (0 < j) → parentIn ps j < 65536
+            parent-small (yes z) =
+                let e = parent-later ps j (all-hang (starts ps) (counts ps) (k - 1) hung j z (omega arith)) in
+                omega (arith, e, near-before (starts ps) (starts ps j) j z, few, f .lines, attach-length ps)
+            parent-small (no z) = let y : j ≡ 0 = omega arith in omega (arith, ap (parentIn ps) y, parent-first ps)
 
-        -- a line with this start hangs as it does in the list
-        hang-read : (start : ℕ) → 0 < k → hangsBy (drop (w .lines) o₁) start k ≡ hangs (starts ps) (counts ps) start k
-        hang-read start some =
-            hangs-followed linked start ∙ hangs-before (startAt seen) (starts ps) (countAt seen) (counts ps) start start k refl some start-read count-read
+        rows-tabled : Tabled ps k seen
+        rows-tabled = record { start = start-read; count = count-read; parent = parent-read }
 
         -- as many rows stand before line k
         row-number : k ≡ (x .lines - w .lines) / 8
@@ -251,7 +245,7 @@ module _ (ps : List Play) (w : Walk) (o₀ : List ℕ) (f : LinesFit (attach ps)
 
         -- so the next line hangs as it does in the list
         pub next-hangs : (start : ℕ) → 0 < k → hangingOf (w .lines) start x o₁ ≡ hangs (starts ps) (counts ps) start k
-        next-hangs start some = sym (later-hangs (w .lines) start x o₁ row-number (λ q. omega arith)) ∙ hang-read start some
+        next-hangs start some = sym (later-hangs (w .lines) start x o₁ row-number (λ q. omega arith)) ∙ tabled-hangs ps rows-tabled hung start some
 
         -- and so line k is hooked on its parent, if it hangs; line 0 has none
         pub hooks : (0 < k → Hangs (starts ps) (counts ps) k) → (e : ℕ) × (hangingOf (w .lines) (starts ps k) x o₁ ≡ On (parentIn ps k) e)

@@ -32,6 +32,10 @@ pub data Hung : Type 0 where
   all : Hung
   first : ℕ → ℕ → Hung
 
+abbrev pub onHung : {A : Type 0} → Hung → (ℕ → ℕ → A) → A → A
+onHung (first k ply) f d = f k ply
+onHung all f d = d
+
 unfoldable pub hungFrom : (ℕ → ℕ) → (ℕ → ℕ) → ℕ → ℕ → Hung
 hungFrom start count k zero = all
 hungFrom start count k (suc n) =

@@ -13,3 +13,4 @@ pub mod Stored
 pub mod Starting
 pub mod Diagrams
 pub mod Heads
+pub mod Bounds

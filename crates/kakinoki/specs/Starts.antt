@@ -15,12 +15,19 @@ use Rattle.kakinoki.specs.declared.Named.{Named}
 use Rattle.kakinoki.specs.declared.Named.the-variants.{Is, Unsaid}
 use Rattle.kakinoki.specs.declared.Told.{Told}
 use Rattle.kakinoki.specs.declared.Board.{Board}
+use Rattle.kakinoki.specs.declared.Fault.{Fault}
+use Rattle.kakinoki.specs.declared.Fault.the-variants.{NoFault, At}
 use Rattle.kakinoki.specs.declared.Start.{Start}
 
 -- What is named, or else a number.
 abbrev pub named : Named → ℕ → ℕ
 named (Is n) d = n
 named Unsaid d = d
+
+-- A fault taken apart.
+abbrev pub onFault : {A : Type 0} → Fault → (ℕ → A) → A → A
+onFault (At at) f d = f at
+onFault NoFault f d = d
 
 -- The first that is named.
 abbrev pub either : Named → Named → Named

@@ -4,6 +4,8 @@ ghost use Rattle.block.specs.Decode.{headersIn, commentsIn, keyOffset, keyLengt
 ghost use Rattle.block.specs.Sound.{soundb};
 ghost use Rattle.block.specs.Look.{lookAnswer, Answered};
 ghost use Rattle.parser.specs.Read.{measureOf, fillOf, lostOf};
+ghost use mathlib.Core.List.{[], _∷_};
+ghost use Rattle.stops.specs.Stopping.{stopOf, stopFigures, spotAt};
 ghost use Rattle.converter.specs.Writing.{writeOf};
 ghost use Rattle.edit.specs.Outcomes.{putInOf, cutOf};
 
@@ -83,6 +85,41 @@ pub extern "C" fn kif_fill(
     *first = f.first;
     *second = f.second;
     *lost = r.lost;
+}
+
+// Where reading a text stops, and why.
+#[no_mangle]
+pub extern "C" fn kif_stop(
+    text: &[u8],
+    number: &mut u64,
+    first: &mut u64,
+    second: &mut u64,
+    third: &mut u64,
+    fourth: &mut u64,
+    fifth: &mut u64,
+    sixth: &mut u64,
+)
+    ensures { λ _. ⌜ now (number .exit) ∷ now (first .exit) ∷ now (second .exit) ∷ now (third .exit) ∷ now (fourth .exit) ∷ now (fifth .exit) ∷ now (sixth .exit) ∷ [] ≡ stopFigures (stopOf (now (text .entry))) ⌝ }
+{
+    let f = stops::stop_figures(stops::stop(text));
+    *number = f[0];
+    *first = f[1];
+    *second = f[2];
+    *third = f[3];
+    *fourth = f[4];
+    *fifth = f[5];
+    *sixth = f[6];
+}
+
+// The line and the column of a place of a text.
+#[no_mangle]
+pub extern "C" fn kif_spot(text: &[u8], at: u64, line: &mut u64, column: &mut u64)
+    ensures { λ _. ⌜ now (line .exit) ≡ spotAt (now (text .entry)) at .line ⌝ }
+    ensures { λ _. ⌜ now (column .exit) ≡ spotAt (now (text .entry)) at .column ⌝ }
+{
+    let x = stops::line_column(text, at as usize);
+    *line = x.line;
+    *column = x.column;
 }
 
 // Writes a block's text into the front of a lent buffer.

@@ -4,8 +4,10 @@ use crate::notes;
 use crate::refusals;
 use crate::times;
 use crate::times::Times;
+use crate::wheres;
 use jkf::Figures;
 use libc::STDERR_FILENO;
+use moves::Failed;
 use moves::MoveLine;
 use text::Cursor;
 
@@ -50,7 +52,7 @@ fn tell_stray(name: &[u8], text: &[u8]) -> bool {
         return false;
     };
     notes::say_name(b"kifu: refused: ", name);
-    let line = notes::line_at(text, x.next.at);
+    let line = stops::line_column(text, x.next.at).line;
     notes::say_two(
         STDERR_FILENO,
         b"line ",
@@ -63,11 +65,57 @@ fn tell_stray(name: &[u8], text: &[u8]) -> bool {
     io::write_all(STDERR_FILENO, b" (refusal 11)\n")
 }
 
+// Why a line of play goes no further than a place; at the start of a text only a move is sought, and at its end nothing.
+fn fails(end: Cursor, text: &[u8]) -> Failed {
+    if end.at == 0 {
+        return moves::move_line_fails(end, text);
+    }
+    if text.len() <= end.at {
+        return Failed::Silent;
+    }
+    moves::further_of(
+        moves::comment_fails(end, text),
+        moves::move_line_fails(end, text),
+    )
+}
+
+// Says where a text is no line of play any more, and why; and whether there is such a place.
+fn tell_reason(name: &[u8], text: &[u8]) -> bool {
+    let end = plays::count_moves(Cursor { at: 0 }, text).next;
+    let Failed::At(at, reason) = fails(end, text) else {
+        return false;
+    };
+    notes::say_name(b"kifu: refused: ", name);
+    wheres::say_reached(STDERR_FILENO, text, end.at, reason, at);
+    io::write_all(STDERR_FILENO, b" (refusal 11)\n")
+}
+
+// Says that a text is too long or not UTF-8; and whether it is.
+fn tell_unread(name: &[u8], text: &[u8]) -> bool {
+    if 65535 < text.len() {
+        refusals::tell_at(name, text, 1, text.len() as u64, 11);
+        return true;
+    }
+    let n = text::well_formed(text);
+    if text.len() <= n {
+        return false;
+    }
+    refusals::tell_at(name, text, 2, n as u64, 11);
+    true
+}
+
 // Why a text is not one variation.
 fn tell_text(name: &[u8], text: &[u8], f: Figures) {
-    if !tell_stray(name, text) {
-        refusals::tell(name, f);
+    if tell_unread(name, text) {
+        return;
     }
+    if tell_stray(name, text) {
+        return;
+    }
+    if tell_reason(name, text) {
+        return;
+    }
+    refusals::tell(name, f);
 }
 
 // With the variation of a text. Refusal 11 is about that text's file, all others about the block's.

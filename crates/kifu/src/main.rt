@@ -5,12 +5,15 @@ mod edits;
 mod files;
 mod losses;
 mod notes;
+mod reasons;
 mod refusals;
 mod times;
+mod wheres;
 mod words;
 
 use libc::STDOUT_FILENO;
 use notes::say_two;
+use stops::StopAnswer;
 use words::Word;
 
 // Says so where standard output did not take all, and hands that on.
@@ -19,11 +22,6 @@ fn told(is_written: bool) -> bool {
         os::fail(b"kifu: refused: standard output");
     }
     is_written
-}
-
-// How many bytes of a text of this length were left.
-fn left(len: u64, taken: u64) -> u64 {
-    if taken <= len { len - taken } else { 0 }
 }
 
 // Prints a block as a text, and says what is lost by that.
@@ -41,13 +39,13 @@ fn print_text(name: &[u8], b: &[u8], out: &mut [u8]) -> bool {
 }
 
 // Prints what was taken of a text and what it holds.
-fn print_check(taken: u64, left: u64, b: &[u8]) -> bool {
+fn print_counts(taken: u64, text: &[u8], b: &[u8]) -> bool {
     say_two(
         STDOUT_FILENO,
         b"bytes taken: ",
         taken,
         b", left: ",
-        left,
+        wheres::left(text, taken as usize),
         b"\n",
     );
     say_two(
@@ -58,6 +56,14 @@ fn print_check(taken: u64, left: u64, b: &[u8]) -> bool {
         block::moves_in(b) as u64,
         b"\n",
     )
+}
+
+// The same, and where reading stopped if it missed something.
+fn print_check(taken: u64, text: &[u8], b: &[u8]) -> bool {
+    if !print_counts(taken, text, b) {
+        return false;
+    }
+    wheres::print_left(text)
 }
 
 // Prints bytes taken and block length.
@@ -120,14 +126,14 @@ fn answer(
     word: Word,
     line: u64,
     name: &[u8],
-    left: u64,
+    text: &[u8],
     taken: u64,
     b: &[u8],
     out: &mut [u8],
 ) -> bool {
     match word {
         Word::List => told(print_listing(taken, b, out)),
-        Word::Check => told(print_check(taken, left, b)),
+        Word::Check => told(print_check(taken, text, b)),
         Word::Block => keep(taken, b),
         Word::Put => print_edited(word, line, name, b, out),
         Word::Cut => print_edited(word, line, name, b, out),
@@ -136,10 +142,10 @@ fn answer(
 }
 
 // What reading left is in the answer to `check`, and else it is a note.
-fn tell_left(word: Word, name: &[u8], left: u64) {
+fn tell_left(word: Word, name: &[u8], text: &[u8]) {
     match word {
         Word::Check => (),
-        _ => notes::tell(name, b"bytes at the end that were not read: ", left),
+        _ => wheres::tell_left(name, text),
     }
 }
 
@@ -158,15 +164,24 @@ fn read(word: Word, line: u64, name: &[u8], text: &[u8], out: &mut [u8]) {
     let a = r.answer;
     let f = jkf::figures_of(a);
     if f.number != 0 {
-        refusals::tell(name, f);
+        refusals::tell_text(name, text, f);
         return;
     }
-    let left = left(text.len() as u64, f.first);
     let b = lent::front(&block, f.second as usize);
-    if answer(word, line, name, left, f.first, b, out) {
-        tell_left(word, name, left);
+    if answer(word, line, name, text, f.first, b, out) {
+        tell_left(word, name, text);
         tell_times(word, name, text, r.lost);
     }
+}
+
+// Prints where reading of a text stopped, or says why the text is refused.
+fn print_where(name: &[u8], text: &[u8]) {
+    let stop = stops::stop(text);
+    let StopAnswer::Stopped(taken, reason, at) = stop else {
+        refusals::tell_stop(name, text, stop);
+        return;
+    };
+    told(wheres::print(text, taken as usize, reason, at as usize));
 }
 
 // What is asked of a file: of one byte more than a text or a block may have, so that a longer one is refused and not cut. What is printed has
@@ -177,6 +192,10 @@ fn obey(word: Word, line: u64, name: &[u8]) {
         return;
     };
     let bytes = lent::front(&input, n);
+    if let Word::Where = word {
+        print_where(name, bytes);
+        return;
+    }
     let mut out = [0u8; 220000];
     if let Word::Text = word {
         print_text(name, bytes, &mut out);

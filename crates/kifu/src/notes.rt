@@ -1,6 +1,16 @@
 // Words with figures in them, and the notes that are made of them.
 use libc::STDERR_FILENO;
 
+// How far a figure is above another; 0 where it is not.
+pub(crate) fn above(x: u64, y: u64) -> u64 {
+    if y <= x { x - y } else { 0 }
+}
+
+// The words that go with a figure: these with 1, and those with any other.
+pub(crate) fn agreeing<'a>(x: u64, one: &'a [u8], more: &'a [u8]) -> &'a [u8] {
+    if x == 1 { one } else { more }
+}
+
 // Words with a figure; and whether they were written.
 pub(crate) fn say(fd: i32, before: &[u8], x: u64, after: &[u8]) -> bool {
     io::write_all(fd, before);
@@ -36,20 +46,4 @@ pub(crate) fn tell(name: &[u8], what: &[u8], n: u64) {
     }
     say_name(b"kifu: note: ", name);
     say(STDERR_FILENO, what, n, b"\n");
-}
-
-// The number of the line that a place stands in, from 1.
-pub(crate) fn line_at(text: &[u8], at: usize) -> u64 {
-    let mut line = 1;
-    let mut i = 0;
-    while i < text.len() {
-        if i == at {
-            return line;
-        }
-        if text[i] == b'\n' {
-            line += 1;
-        }
-        i += 1;
-    }
-    line
 }

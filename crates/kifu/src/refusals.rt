@@ -2,6 +2,8 @@
 use crate::notes;
 use jkf::Figures;
 use libc::STDERR_FILENO;
+use stops::Astray;
+use stops::StopAnswer;
 
 // The kinds that can be held, in the order of the hands: rows of 8 bytes.
 fn say_kind(kind: u64) -> bool {
@@ -65,7 +67,7 @@ fn say(t: &[u8], x: u64, y: u64) -> bool {
     say_end(&t[at + 1..], y)
 }
 
-// The sentences by their numbers: rows of 98 bytes. That of refusal 8 names a side and a kind.
+// The sentences by their numbers: rows of 98 bytes. That of refusal 8 names a side and a kind, and that of refusal 6 has more figures.
 fn say_refusal(number: u64, x: u64, y: u64) -> bool {
     if number == 8 {
         return say_hand(x, y);
@@ -79,11 +81,11 @@ fn say_refusal(number: u64, x: u64, y: u64) -> bool {
         shown::table_text(
             b"\x00                                                                                                 \
               \x2fthe text has # bytes or more; 65535 is the most                                                  \
-              \x2dthe text is not UTF-8 after its first # bytes                                                    \
-              \x26the hand line at byte # cannot be read                                                           \
+              \x51the text is not UTF-8 after its first # bytes, in line #; perhaps it is Shift_JIS                \
+              \x2fthe hand line at byte #, line #, cannot be read                                                  \
               \x2fthe block would have # bytes; 65535 is the most                                                  \
               \x2cthe result has # bytes, and there is no room                                                     \
-              \x47variation # starts at ply #, where nothing stands that it could hang on                          \
+              \x00                                                                                                 \
               \x19this is not a sound block                                                                        \
               \x00                                                                                                 \
               \x61line #, entry # cannot be written: its square is off the board, or its time has no room beside it\
@@ -98,9 +100,96 @@ fn say_refusal(number: u64, x: u64, y: u64) -> bool {
     )
 }
 
-// Says in a line why a file was refused.
-pub(crate) fn tell(name: &[u8], f: Figures) {
+// Says in a line why a file was refused, in the words of one refusal and with the number of another.
+fn tell_as(name: &[u8], f: Figures, number: u64) {
     notes::say_name(b"kifu: refused: ", name);
     say_refusal(f.number, f.first, f.second);
-    notes::say(STDERR_FILENO, b" (refusal ", f.number, b")\n");
+    notes::say(STDERR_FILENO, b" (refusal ", number, b")\n");
+}
+
+// Says in a line why a file was refused.
+pub(crate) fn tell(name: &[u8], f: Figures) {
+    tell_as(name, f, f.number);
+}
+
+// Whether this is line 0, and it has no move.
+fn is_bare(line: u64, last: u64) -> bool {
+    if line != 0 {
+        return false;
+    }
+    last == 0
+}
+
+// The sentence of refusal 6, of a variation that begins in this line of the text.
+fn say_astray(a: Astray, line: u64) -> bool {
+    notes::say_two(
+        STDERR_FILENO,
+        b"variation ",
+        a.variation,
+        b" (line ",
+        line,
+        b" of the text) starts at ply ",
+    );
+    io::print_decimal(STDERR_FILENO, a.ply);
+    if is_bare(a.parent, a.last) {
+        return io::write_all(
+            STDERR_FILENO,
+            b", but no move was read before it (perhaps an empty line, a # line or a BOM stands before \xe6\x89\x8b\xe6\x95\xb0, or a move has no number)",
+        );
+    }
+    notes::say_two(
+        STDERR_FILENO,
+        b", but line of play ",
+        a.parent,
+        b", on which it would hang, has plies ",
+        a.first,
+        b" to ",
+    );
+    notes::say(STDERR_FILENO, b"", a.last, b" only")
+}
+
+// Says in a line that a variation hangs nowhere.
+fn tell_astray(name: &[u8], a: Astray, line: u64) {
+    notes::say_name(b"kifu: refused: ", name);
+    say_astray(a, line);
+    io::write_all(STDERR_FILENO, b" (refusal 6)\n");
+}
+
+// Says in a line why a text was refused, by a place in it, whose line is the second figure; in the words of one refusal and with the number of
+// another.
+pub(crate) fn tell_at(name: &[u8], text: &[u8], words: u64, at: u64, number: u64) {
+    let line = stops::line_column(text, at as usize).line;
+    tell_as(
+        name,
+        Figures {
+            number: words,
+            first: at,
+            second: line,
+        },
+        number,
+    );
+}
+
+// Says why reading stopped with a refusal.
+pub(crate) fn tell_stop(name: &[u8], text: &[u8], stop: StopAnswer) {
+    match stop {
+        StopAnswer::TextTooLong(n) => tell_at(name, text, 1, n, 1),
+        StopAnswer::NotUtf8(n) => tell_at(name, text, 2, n, 2),
+        StopAnswer::HandLine(at) => tell_at(name, text, 3, at, 3),
+        StopAnswer::NoEntry(a) => tell_astray(
+            name,
+            a,
+            stops::line_column(text, a.at as usize).line,
+        ),
+        StopAnswer::Stopped(_, _, _) => (),
+    }
+}
+
+// Says why reading into a block was refused. That the block would be too long is all that `stop`, which fills none, cannot tell.
+pub(crate) fn tell_text(name: &[u8], text: &[u8], f: Figures) {
+    if f.number == 4 {
+        tell(name, f);
+        return;
+    }
+    tell_stop(name, text, stops::stop(text));
 }

@@ -54,7 +54,7 @@ pub(crate) fn of_variation(text: &[u8]) -> Times {
     let r = run_from(Cursor { at: 0 }, text);
     Times {
         lost: r.lost,
-        line: notes::line_at(text, r.first),
+        line: stops::line_column(text, r.first).line,
     }
 }
 
@@ -82,7 +82,7 @@ pub(crate) fn of_text(text: &[u8], lost: u64) -> Times {
     }
     Times {
         lost,
-        line: notes::line_at(text, first_in(text)),
+        line: stops::line_column(text, first_in(text)).line,
     }
 }
 

@@ -11,6 +11,7 @@ pub enum Word {
     Block,
     Text,
     Check,
+    Where,
     Put,
     Cut,
     Help,
@@ -53,6 +54,9 @@ pub(crate) fn word_of(w: &[u8]) -> Word {
     }
     if check::same(w, b"check") {
         return Word::Check;
+    }
+    if check::same(w, b"where") {
+        return Word::Where;
     }
     later_word_of(w)
 }
@@ -106,9 +110,10 @@ fn use_of(word: Word) -> usize {
         Word::Block => 204,
         Word::Text => 306,
         Word::Check => 408,
-        Word::Put => 510,
-        Word::Cut => 612,
-        _ => 714,
+        Word::Where => 510,
+        Word::Put => 612,
+        Word::Cut => 714,
+        _ => 816,
     }
 }
 
@@ -122,6 +127,7 @@ fn print_usage(fd: i32, word: Word) -> bool {
               \x46kifu block FILE OUT           the file's block, into the new file OUT\n                               \
               \x4dkifu text BLOCK               a block's file as KIF text, to standard output\n                        \
               \x50kifu check FILE               how much of the file was taken, and what it holds\n                     \
+              \x49kifu where FILE               where reading of the file stopped, and why\n                            \
               \x5ckifu put FILE LINE VARIATION  the file with a variation put into a line, to standard output\n         \
               \x65kifu cut FILE LINE            the file without a line and all that hangs from it, to standard output\n\
               \x2akifu help                     these lines\n                                                           ",
@@ -147,7 +153,7 @@ pub(crate) fn tell_unknown(w: &[u8]) {
     }
     io::write_all(
         STDERR_FILENO,
-        b"; the words are list, tidy, block, text, check, put, cut and help\n",
+        b"; the words are list, tidy, block, text, check, where, put, cut and help\n",
     );
 }
 
@@ -158,6 +164,7 @@ pub(crate) fn print_help() -> bool {
     print_usage(STDOUT_FILENO, Word::Block);
     print_usage(STDOUT_FILENO, Word::Text);
     print_usage(STDOUT_FILENO, Word::Check);
+    print_usage(STDOUT_FILENO, Word::Where);
     print_usage(STDOUT_FILENO, Word::Put);
     print_usage(STDOUT_FILENO, Word::Cut);
     print_usage(STDOUT_FILENO, Word::Help)

@@ -14,21 +14,21 @@ use Rattle.lists.proofs.Laws.{by-pick}
 use Rattle.text.specs.Text.{widthStep, pastAll}
 use Rattle.text.specs.Utf8.{charWidth, wellFormedBytes}
 use Rattle.text.proofs.Widths.{char-within}
-use Rattle.jkf.specs.Attaching.{Hung, all, first, attach, allHung}
+use Rattle.jkf.specs.Attaching.{Hung, onHung, all, first, attach, allHung}
 use Rattle.jkf.specs.declared.Answer.{Answer}
 use Rattle.jkf.specs.declared.Answer.the-variants.{Done, TextTooLong, NotUtf8, HandLine, BlockTooLong, BufferShort, NoEntry}
 use Rattle.jkf.specs.Answers.{figures, Outcome, refuse}
 use Rattle.block.specs.Encode.{encode, headBytes, entriesOf, commentsOf, headerText}
 use Rattle.block.specs.Formed.{Formed}
 use Rattle.moves.proofs.Smalls.{Bytes, each, bytes-at, bytes-join, bytes-one, bytes-16, zeros}
-use Rattle.kakinoki.specs.Starts.{startRead}
+use Rattle.kakinoki.specs.Starts.{onFault, startRead}
 use Rattle.kakinoki.specs.declared.Fault.{Fault}
 use Rattle.kakinoki.specs.declared.Fault.the-variants.{NoFault, At}
 use Rattle.kakinoki.proofs.Reach.{repeat-keeps}
 use Rattle.plays.specs.Plays.{playsAt}
 use Rattle.filling.specs.Filling.{atFront}
 use Rattle.parser.specs.Parse.{headersOf, parse, recordOf, needed}
-use Rattle.parser.specs.Read.{onFault, onHung, onEarly, filledWith, readStored, earlyOf, faultless, fillOf}
+use Rattle.parser.specs.Read.{onEarly, filledWith, readStored, earlyOf, faultless, fillOf}
 use Rattle.parser.specs.declared.Early.{Early}
 use Rattle.parser.specs.declared.Early.the-variants.{Refused, Passed}
 use Rattle.plays.proofs.Items.{on-more, no-more}

@@ -15,6 +15,7 @@ pub mod Heading
 pub mod Forming
 pub mod Reading
 pub mod Measures
+pub mod Stops
 pub mod Firsts
 pub mod Relining
 pub mod Fewer

@@ -11,11 +11,11 @@ use Rattle.lists.proofs.Laws.{by-pick}
 use Rattle.jkf.specs.declared.Answer.{Answer}
 use Rattle.jkf.specs.declared.Answer.the-variants.{Done, BlockTooLong, BufferShort, NoEntry}
 use Rattle.jkf.specs.Answers.{figures, Outcome, refuse}
-use Rattle.jkf.specs.Attaching.{Hung, first, all, allHung}
+use Rattle.jkf.specs.Attaching.{Hung, onHung, first, all, allHung}
 use Rattle.block.specs.Encode.{encode}
 use Rattle.filling.specs.Filling.{atFront}
 use Rattle.parser.specs.Parse.{parse, recordOf, needed}
-use Rattle.parser.specs.Read.{onHung, onEarly, earlyOf, measured, measureOf, filledWith, readStored, fillOf}
+use Rattle.parser.specs.Read.{onEarly, earlyOf, measured, measureOf, filledWith, readStored, fillOf}
 use Rattle.parser.specs.declared.Early.{Early}
 use Rattle.parser.specs.declared.Early.the-variants.{Refused, Passed}
 use Rattle.laws.specs.Measures.{FilledOrLoose, filled, loose, MeasuresHold}

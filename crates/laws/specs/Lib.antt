@@ -1,6 +1,7 @@
 pub mod Blocks
 pub mod Searches
 pub mod Measures
+pub mod Stops
 pub mod Edits
 pub mod Orders
 pub mod Whole

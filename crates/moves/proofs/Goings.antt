@@ -2,8 +2,9 @@
 -- Assumes nothing.
 use Prim.Native.Nat.{ℕ, _+_, _≤_, _<_}
 use native.Mathlib.Omega.{arith}
-use mathlib.Core.Path.{_≡_, ap}
+use mathlib.Core.Path.{_≡_, sym}
 use mathlib.Core.List.{List, [], _∷_}
+use mathlib.Core.Bool.{false}
 use lib.ListN.{length}
 use lib.Dec.{eqb}
 use Rattle.lists.proofs.Laws.{by-pick}
@@ -12,7 +13,7 @@ use Rattle.text.specs.Utf8.{charWidth, characterAt}
 use Rattle.text.specs.declared.Cursor.{Cursor}
 use Rattle.text.specs.declared.Place.{Place}
 use Rattle.text.specs.declared.Place.the-variants.{Past, Absent}
-use Rattle.text.proofs.Laws.{no-past, After, tail-from, break-after, line-end-after, tag-after, place-back}
+use Rattle.text.proofs.Laws.{no-past, past-at, After, tail-from, break-after, line-end-after, tag-after, place-back}
 use Rattle.text.proofs.Answers.{by-past}
 use Rattle.jkf.specs.declared.Entry.{Entry}
 use Rattle.moves.specs.Moves.{moveLineAt, remarkFrom, keptAt, commentLineAt, beginsNoSkip, skipLineAt}
@@ -27,22 +28,29 @@ move-goes s at n e c q = line-is (move-line-fits s at) q .end
 
 -- ---- skip lines
 
-character-from : (s : List ℕ) (at : ℕ) (c : Cursor) → characterAt s at ≡ Past c → at ≤ c .at
+-- past a character, as wide as it is
+pub character-is : (s : List ℕ) (at : ℕ) (c : Cursor) → characterAt s at ≡ Past c → c .at ≡ at + charWidth s at
 unfolding characterAt
-character-from s at c =
-    by-pick (λ (r : Place). r ≡ Past c → at ≤ c .at) (eqb (charWidth s at) 0) Absent (Past (cursor (at + charWidth s at)))
-    (λ t q. no-past c q) (λ t q. let h = ap (λ (r : Place). onPlace r (λ d. d .at) 0) q in omega arith)
+character-is s at c =
+    by-pick (λ (r : Place). r ≡ Past c → c .at ≡ at + charWidth s at) (eqb (charWidth s at) 0) Absent (Past (cursor (at + charWidth s at)))
+    (λ t q. no-past c q) (λ t q. sym (past-at q))
+
+-- a skip line is a character that begins one, and a line after it
+pub skip-back : (s : List ℕ) (at : ℕ) {c : Cursor} → skipLineAt s at ≡ Past c
+    → (beginsNoSkip s at ≡ false) × (d : Cursor) × (characterAt s at ≡ Past d) × (lineEndAt s (d .at) ≡ Past c)
+unfolding skipLineAt
+skip-back s at {c} =
+    by-pick (λ (r : Place). r ≡ Past c → (beginsNoSkip s at ≡ false) × (d : Cursor) × (characterAt s at ≡ Past d) × (lineEndAt s (d .at) ≡ Past c)) (beginsNoSkip s at) Absent
+    (onPlace (characterAt s at) (λ d. lineEndAt s (d .at)) Absent) (λ t q. no-past c q)
+    (λ t q. let (d, k, l) = place-back (characterAt s at) (λ d. lineEndAt s (d .at)) c q in (t, d, k, l))
 
 pub skip-goes : (s : List ℕ) (at : ℕ) (c : Cursor) → skipLineAt s at ≡ Past c → After at (length s) c
-unfolding skipLineAt
-skip-goes s at c =
-    by-pick (λ (r : Place). r ≡ Past c → After at (length s) c) (beginsNoSkip s at) Absent (onPlace (characterAt s at) (λ d. lineEndAt s (d .at)) Absent)
-    (λ t q. no-past c q)
-    (λ t q. let (d, p, r) = place-back (characterAt s at) (λ d. lineEndAt s (d .at)) c q in
-    let h = character-from s at d p in
+skip-goes s at c q =
+    let (_, d, p, r) = skip-back s at q in
+    let h = character-is s at d p in
     let a = line-end-after s (d .at) c r in
     let k = a .past in
-    record { past = omega arith; within = a .within })
+    record { past = omega arith; within = a .within }
 
 -- ---- comments
 

@@ -8,3 +8,7 @@ pub mod Worded
 pub mod Clocking
 pub mod Usually
 pub mod Losing
+pub mod Overs
+pub mod Failures
+pub mod FailedLines
+pub mod Widths

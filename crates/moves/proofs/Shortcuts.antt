@@ -135,10 +135,10 @@ clock-is s at = go (figureAt s at)
 
 module _ (s : List ℕ) where
   -- from one place to another only text is passed
-  abbrev Along : ℕ → ℕ → Type 0
+  abbrev pub Along : ℕ → ℕ → Type 0
   Along a b = textAt s a ≡ textAt s b
 
-  span-along : (f : ℕ → Bool) → ((b : ℕ) → f b ≡ true → isText b ≡ true) → (k at : ℕ) → length s ≤ at + k → Along at (spanAt f s at)
+  pub span-along : (f : ℕ → Bool) → ((b : ℕ) → f b ≡ true → isText b ≡ true) → (k at : ℕ) → length s ≤ at + k → Along at (spanAt f s at)
   span-along f t zero at h = ap (textAt s) (sym (span-end f s at (omega arith)))
   span-along f t (suc k) at h = go (ltb at (length s)) refl (f (getD s at 0)) refl (span-along f t k (at + 1) (omega arith))
     where
@@ -153,10 +153,10 @@ module _ (s : List ℕ) where
   digit-text : (b : ℕ) → isDigit b ≡ true → isText b ≡ true
   digit-text b t = let h = digit-bounds b t in rw (ne-eqb b 10 (λ e. omega arith), ne-eqb b 13 (λ e. omega arith))
 
-  blanks-along : (at : ℕ) → Along at (blanksAt s at)
+  pub blanks-along : (at : ℕ) → Along at (blanksAt s at)
   blanks-along at = span-along isBlank blank-text (length s) at (omega arith)
 
-  digits-along : (largest at : ℕ) → OnNumber (λ n c. Along at (c .at)) (digitsAt largest s at)
+  pub digits-along : (largest at : ℕ) → OnNumber (λ n c. Along at (c .at)) (digitsAt largest s at)
   unfolding digitsAt
   digits-along largest at =
       let n : ℕ = numberAt s at 0 in

@@ -2,6 +2,7 @@
 mod clocks;
 mod lost;
 mod played;
+mod reasons;
 mod remarks;
 
 use clocks::time;
@@ -12,6 +13,10 @@ use jkf::Origin;
 use jkf::Target;
 use jkf::Time;
 use played::what;
+pub use reasons::comment_fails;
+pub use reasons::further_of;
+pub use reasons::move_line_fails;
+pub use reasons::skip_line_fails;
 pub use remarks::begins_comment;
 pub use remarks::comment_line;
 pub use remarks::skip_line;
@@ -80,6 +85,24 @@ pub enum MoveLine {
 pub struct TakenLine {
     pub line: MoveLine,
     pub lost: bool,
+}
+
+// Why a rule fails.   (02, request (ii))
+pub enum Reason {
+    NoNumber,
+    TooLarge,
+    NoPlace,
+    NoKind,
+    NoOrigin,
+    NoBreak,
+    CommentHere,
+    EndOfText,
+}
+
+// Where a rule fails and why; silent where it reads, and of a line that begins as none of its own.
+pub enum Failed {
+    Silent,
+    At(usize, Reason),
 }
 
 // An entry with its colour and its time.

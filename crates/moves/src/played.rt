@@ -35,7 +35,7 @@ fn square(c: Cursor, s: &[u8]) -> Aim
 }
 
 // 同 with one U+3000 or none, or a file and a rank.   (the Rust's move_to)
-fn move_to(c: Cursor, s: &[u8]) -> Aim
+pub(crate) fn move_to(c: Cursor, s: &[u8]) -> Aim
     ensures { λ r. ⌜ r ≡ moveToAt (now (s .entry)) (c .at) ⌝ }
 {
     let Place::Past(past) = c.tag(s, b"\xe5\x90\x8c") else {
@@ -48,7 +48,7 @@ fn move_to(c: Cursor, s: &[u8]) -> Aim
 }
 
 // 成 or 不成 or neither.
-fn promote(c: Cursor, s: &[u8]) -> Mark
+pub(crate) fn promote(c: Cursor, s: &[u8]) -> Mark
     ensures { λ r. ⌜ r ≡ promoteAt (now (s .entry)) (c .at) ⌝ }
 {
     let Place::Past(end) = c.tag(s, b"\xe6\x88\x90") else {

@@ -50,7 +50,7 @@ pub fn comment_line(c: Cursor, s: &[u8]) -> Remark
 }
 
 // A space, a digit, *, ▲ or △: what begins no skip line.
-fn begins_no_skip(s: &[u8], at: usize) -> bool
+pub(crate) fn begins_no_skip(s: &[u8], at: usize) -> bool
     ensures { λ r. ⌜ r ≡ beginsNoSkip (now (s .entry)) at ⌝ }
 {
     let b = lent::peek(s, at);

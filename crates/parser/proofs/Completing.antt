@@ -12,7 +12,7 @@ use Rattle.lent.specs.inner.Regions.{puts}
 use Rattle.text.specs.Utf8.{wellFormedBytes}
 use Rattle.text.specs.declared.Cursor.{Cursor}
 use Rattle.jkf.specs.Answers.{Outcome, figures, refuse}
-use Rattle.jkf.specs.Attaching.{Hung, all, first, Play, attach, allHung}
+use Rattle.jkf.specs.Attaching.{Hung, onHung, all, first, Play, attach, allHung}
 use Rattle.jkf.specs.declared.Position.{Position}
 use Rattle.jkf.specs.declared.Answer.{Answer}
 use Rattle.jkf.specs.declared.Answer.the-variants.{Done, TextTooLong, NotUtf8, HandLine, BlockTooLong, BufferShort, NoEntry}
@@ -29,7 +29,7 @@ use Rattle.filling.proofs.Putting.{is-begun, is-refused, fits, opens, refuses, 
 use Rattle.filling.proofs.Wholes.{front-size, front-rest, opened-lines, opened-block}
 use Rattle.plays.specs.Plays.{playsAt}
 use Rattle.plays.specs.Losses.{playsLost}
-use Rattle.kakinoki.specs.Starts.{startRead}
+use Rattle.kakinoki.specs.Starts.{onFault, startRead}
 use Rattle.kakinoki.specs.declared.Fault.{Fault}
 use Rattle.kakinoki.specs.declared.Fault.the-variants.{NoFault, At}
 use Rattle.parser.specs.declared.Early.{Early}
@@ -37,7 +37,7 @@ use Rattle.parser.specs.declared.Early.the-variants.{Refused as RefusedE
 use Rattle.parser.specs.inner.Headers.{headersAt}
 use Rattle.parser.specs.inner.Lines.{hanging}
 use Rattle.parser.specs.Parse.{Parsed, parse, needed, recordOf}
-use Rattle.parser.specs.Read.{onFault, onHung, onEarly, earlyOf, faultless, filledWith, readStored, fillOf, lostOf, measured}
+use Rattle.parser.specs.Read.{onEarly, earlyOf, faultless, filledWith, readStored, fillOf, lostOf, measured}
 use Rattle.parser.specs.inner.Stores.{Prepared, parsedSizes, Opened, Surveyed, hungLost, storedLost}
 use Rattle.parser.specs.declared.Survey.{Survey}
 use Rattle.parser.specs.declared.Hanging.{Hanging}

@@ -1,4 +1,3 @@
-pub mod Variations
 pub mod Sizing
 pub mod Mains
 pub mod Headed

@@ -1,20 +1,18 @@
 -- Filling in the lines one after another: those before line k are in the buffer, all of them hang, and the rest is still to be read.
 -- Assumes nothing.
-use Prim.Native.Nat.{ℕ, suc, _+_, _-_, _≤_, _<_}
+use Prim.Native.Nat.{ℕ, _+_, _-_, _≤_, _<_}
 use native.Mathlib.Omega.{arith}
 use mathlib.Core.Path.{_≡_, refl, sym, ap, ap₂, _∙_, subst}
 use mathlib.Core.List.{List, [], _∷_, _++_}
 use native.Mathlib.Decide.{decLt}
-use lib.ListN.{length, take, drop, getD, length-drop}
-use lib.Seq.{getD-drop, drop-drop, take-all}
-use Rattle.lists.specs.Repeat.{Ended}
-use Rattle.lent.specs.inner.Regions.{first as next, puts, Filled}
+use lib.ListN.{length, take}
+use lib.Seq.{take-all}
+use Rattle.lent.specs.inner.Regions.{puts, Filled}
 use Rattle.lent.proofs.Regions.{filled-length, put-none}
 use Rattle.text.specs.declared.Cursor.{Cursor}
-use Rattle.jkf.specs.Attaching.{hangs, onHang, all, first, hungFrom, Play, play, playOf, starts, counts, parentIn, attach, allHung}
+use Rattle.jkf.specs.Attaching.{hangs, onHang, all, first, Play, playOf, starts, counts, parentIn, attach, allHung}
 use Rattle.jkf.specs.declared.Hang.{Hang}
 use Rattle.jkf.specs.declared.Hang.the-variants.{On, Nowhere}
-use Rattle.jkf.proofs.Hangings.{hung-more, hung-lost}
 use Rattle.jkf.specs.Model.{Noted, Line}
 use Rattle.block.specs.Encode.{table, concat}
 use Rattle.block.proofs.Attached.{attach-length, parent-first}
@@ -23,22 +21,19 @@ use Rattle.filling.specs.inner.Parts.{entryTexts, lineTexts, entryEnds, lineEnd
 use Rattle.filling.specs.declared.Walk.{Walk}
 use Rattle.filling.proofs.Growing.{line}
 use Rattle.filling.proofs.Lines.{lineAt, take-more, lined-none, room-for, room-for-none, entries-fit, next-hangs, row-lined, all-lined}
-use Rattle.plays.specs.Plays.{noted, entriesAt, plyAt, skippedAt, skipsAt, variationsAt, slotAt, pastMain, mainAt, playsAt}
+use Rattle.plays.specs.Plays.{entriesAt, plyAt, skippedAt, skipsAt, slotAt, pastMain, mainAt, playsAt}
 use Rattle.plays.specs.Losses.{lostFrom, variationsLost, playsLost}
 use Rattle.plays.specs.declared.FilledPlay.{FilledPlay}
 use Rattle.parser.specs.inner.Lines.{mainLine}
-use Rattle.parser.proofs.Variations.{variation-past, variations-more, variations-none, lost-more, lost-none}
+use Rattle.plays.proofs.Variations.{variation-past, lost-more, lost-none}
+use Rattle.plays.proofs.Passing.{Passed, some-plays, passed-main, all-passed, all-hung, all-taken, more-left, play-here, start-here, next-loose, next-passed}
 use Rattle.parser.proofs.Mains.{entered-by}
 
 -- ---- lines before line k
 
 pub record Lining (s : List ℕ) (at k : ℕ) (w v : Walk) (to : ℕ) (o₀ o : List ℕ) : Type 0 where
-  pub some : 1 ≤ k
-  pub few : k ≤ length (playsAt s at .state)
+  pub passed : Passed s at k to
   pub done : Lined (take k (attach (playsAt s at .state))) w v o₀ o
-  pub rest : drop k (playsAt s at .state) ≡ variationsAt s to .state
-  pub end : playsAt s at .at ≡ variationsAt s to .at
-  pub hung : hungFrom (starts (playsAt s at .state)) (counts (playsAt s at .state)) 1 (k - 1) ≡ all
 
 -- the parent of a line that hangs
 parent-of : (ps : List Play) (k p e : ℕ) → hangs (starts ps) (counts ps) (starts ps k) k ≡ On p e → parentIn ps k ≡ p
@@ -73,33 +68,17 @@ module _ (s : List ℕ) (at : ℕ) (w : Walk) (o₀ : List ℕ) (f : LinesFit (a
       started : mainAt s at .start ≡ 0
       started = unfold mainAt in refl
 
-  some-plays : 0 < length ps
-  unfolding playsAt
-  some-plays = omega arith
-
   origin : starts ps 0 ≡ 0
   origin = ap (λ (x : Line). x .start) main-is
 
   pub main-fits : LineFits (mainLine s at) w o₀
-  main-fits = subst (λ (x : Line). LineFits x w o₀) main-is (room-for ps w o₀ f 0 some-plays (lined-none w o₀))
+  main-fits = subst (λ (x : Line). LineFits x w o₀) main-is (room-for ps w o₀ f 0 (some-plays s at) (lined-none w o₀))
 
   pub lining-start : {v : Walk} {to : ℕ} {o : List ℕ} → Lined (mainLine s at ∷ []) w v o₀ o → to ≡ pastMain s (slotAt s at .at) → Lining s at 1 w v to o₀ o
-  lining-start {v} {to} {o} d e = record { some = omega arith; few = some-plays; done = done-one; rest = rest-one; end = end-one; hung = none-hung }
+  lining-start {v} {to} {o} d e = record { passed = passed-main s at e; done = subst (λ (l : List Line). Lined l w v o₀ o) (sym one) d }
     where
       one : take 1 ls ≡ mainLine s at ∷ []
-      one = take-more ps 0 some-plays ∙ ap (λ (x : Line). take 0 ls ++ (x ∷ [])) main-is
-
-      done-one : Lined (take 1 ls) w v o₀ o
-      done-one = subst (λ (l : List Line). Lined l w v o₀ o) (sym one) d
-
-      rest-one : drop 1 ps ≡ variationsAt s to .state
-      rest-one = unfold playsAt in (ap (λ (n : ℕ). variationsAt s n .state) (sym e))
-
-      end-one : playsAt s at .at ≡ variationsAt s to .at
-      end-one = unfold playsAt in (ap (λ (n : ℕ). variationsAt s n .at) (sym e))
-
-      none-hung : hungFrom (starts ps) (counts ps) 1 0 ≡ all
-      none-hung = unfold hungFrom in refl
+      one = take-more ps 0 (some-plays s at) ∙ ap (λ (x : Line). take 0 ls ++ (x ∷ [])) main-is
 
   -- ---- a variation
 
@@ -110,46 +89,22 @@ module _ (s : List ℕ) (at : ℕ) (w : Walk) (o₀ : List ℕ) (f : LinesFit (a
     abbrev es : List Noted
     es = entriesAt s place .state
 
+    abbrev up : Passed s at k to
+    up = i .passed
+
     -- there is none
-    module _ (e : length es ≡ 0) where
-      all-done : k ≡ length ps
-      all-done =
-          let r = i .rest ∙ ap (λ (x : Ended (List Play)). x .state) (variations-none s to e) in
-          omega (arith, ap length r, length-drop k ps, i .few)
-
-      all-hung : allHung ps ≡ all
-      unfolding allHung
-      all-hung = let z : length ps - 1 ≡ k - 1 = omega (arith, all-done) in ap (hungFrom (starts ps) (counts ps) 1) z ∙ i .hung
-
-      all-taken : playsAt s at .at ≡ to
-      all-taken = i .end ∙ ap (λ (x : Ended (List Play)). x .at) (variations-none s to e)
-
-      all-filled : o ≡ puts o₀ (lineEnds w) (lineTexts 0 0 (w .bytes) ls)
-      all-filled =
-          let t : take k ls ≡ ls = take-all k ls (omega (arith, all-done, attach-length ps)) in
-          all-lined ps w o₀ f (subst (λ (l : List Line). Lined l w v o₀ o) t (i .done))
+    all-filled : length es ≡ 0 → o ≡ puts o₀ (lineEnds w) (lineTexts 0 0 (w .bytes) ls)
+    all-filled e =
+        let t : take k ls ≡ ls = take-all k ls (omega (arith, all-passed s at k to up e, attach-length ps)) in
+        all-lined ps w o₀ f (subst (λ (l : List Line). Lined l w v o₀ o) t (i .done))
 
     -- there is one
     module _ (some : length es ≡ 0 → ⊥) where
-      more-is : drop k ps ≡ play (plyAt s place) es ∷ variationsAt s (skippedAt s (entriesAt s place .at)) .state
-      more-is = i .rest ∙ ap (λ (x : Ended (List Play)). x .state) (variations-more s to some)
-
-      more-left : k < length ps
-      more-left = omega (arith, ap length more-is, length-drop k ps)
-
-      play-here : playOf ps k ≡ play (plyAt s place) es
-      play-here =
-          let z : k ≡ k + 0 = omega arith in
-          ap (λ (j : ℕ). getD ps j (play 0 [])) z ∙ sym (getD-drop k ps 0 (play 0 [])) ∙ ap (λ (l : List Play). getD l 0 (play 0 [])) more-is
-
       line-here : lineAt ps k ≡ line (plyAt s place) (parentIn ps k) es
-      line-here = ap (λ (p : Play). line (p .start) (parentIn ps k) (p .entries)) play-here
+      line-here = ap (λ (p : Play). line (p .start) (parentIn ps k) (p .entries)) (play-here s at k to up some)
 
       line-fits : LineFits (line (plyAt s place) (parentIn ps k) es) v o
-      line-fits = subst (λ (x : Line). LineFits x v o) line-here (room-for ps w o₀ f k more-left (i .done))
-
-      start-here : starts ps k ≡ plyAt s place
-      start-here = ap (λ (p : Play). p .start) play-here
+      line-fits = subst (λ (x : Line). LineFits x v o) line-here (room-for ps w o₀ f k (more-left s at k to up some) (i .done))
 
     -- ---- the entries at the next place
 
@@ -163,8 +118,8 @@ module _ (s : List ℕ) (at : ℕ) (w : Walk) (o₀ : List ℕ) (f : LinesFit (a
         go : Dec (0 < length es) → EntriesFit es v o
         go (yes h) =
             let some : length es ≡ 0 → ⊥ = λ e. omega arith in
-            subst (λ (p : Play). EntriesFit (p .entries) v o) (play-here some) (entries-fit ps w o₀ f k (i .few) (i .done) (more-left some))
-        go (no h) = subst (λ (l : List Noted). EntriesFit l v o) (sym (nothing es (omega arith))) (room-for-none ps w o₀ f k (i .few) (i .done))
+            subst (λ (p : Play). EntriesFit (p .entries) v o) (play-here s at k to up some) (entries-fit ps w o₀ f k (up .few) (i .done) (more-left s at k to up some))
+        go (no h) = subst (λ (l : List Noted). EntriesFit l v o) (sym (nothing es (omega arith))) (room-for-none ps w o₀ f k (up .few) (i .done))
 
     module _ (c : Cursor) (p : c .at ≡ place) (x : FilledPlay) (o₁ : List ℕ) (a : x .walk ≡ putEntries (entriesAt s (c .at) .state) v o .walk)
         (b : o₁ ≡ putEntries (entriesAt s (c .at) .state) v o .buffer) (q : x .next .at ≡ entriesAt s (c .at) .at) where
@@ -182,7 +137,7 @@ module _ (s : List ℕ) (at : ℕ) (w : Walk) (o₀ : List ℕ) (f : LinesFit (a
       pub next-none : x .walk .entries ≡ v .entries → (allHung ps ≡ all) × (playsAt s at .at ≡ to) × (o₁ ≡ puts o₀ (lineEnds w) (lineTexts 0 0 (w .bytes) ls))
       next-none e =
           let z : length es ≡ 0 = omega (arith, entered .entries) in
-          (all-hung z, all-taken z, unfilled-by es v (x .walk) (nothing es z) (entered .filled) ∙ all-filled z)
+          (all-hung s at k to up z, all-taken s at k to up z, unfilled-by es v (x .walk) (nothing es z) (entered .filled) ∙ all-filled z)
 
       pub none-lost : x .walk .entries ≡ v .entries → variationsLost s to ≡ 0
       none-lost e = lost-none s to (omega (arith, entered .entries, e))
@@ -200,8 +155,8 @@ module _ (s : List ℕ) (at : ℕ) (w : Walk) (o₀ : List ℕ) (f : LinesFit (a
         hang-is : (h : Hang) (start : ℕ) → start ≡ plyAt s (c .at) → hangingOf (w .lines) start (x .walk) o₁ ≡ h → hangs (starts ps) (counts ps) (starts ps k) k ≡ h
         hang-is h start e y =
             let z : start ≡ plyAt s place = e ∙ ap (plyAt s) p in
-            ap (λ (n : ℕ). hangs (starts ps) (counts ps) n k) (start-here some-here ∙ sym z)
-            ∙ sym (next-hangs ps w o₀ f k (i .few) (i .done) origin (i .hung) es entered entries-room start (i .some))
+            ap (λ (n : ℕ). hangs (starts ps) (counts ps) n k) (start-here s at k to up some-here ∙ sym z)
+            ∙ sym (next-hangs ps w o₀ f k (up .few) (i .done) origin (up .hung) es entered entries-room start (up .some))
             ∙ y
 
         -- the walk goes on
@@ -213,21 +168,15 @@ module _ (s : List ℕ) (at : ℕ) (w : Walk) (o₀ : List ℕ) (f : LinesFit (a
 
         -- there are more lines
         pub next-row : k < length ps
-        next-row = more-left some-here
+        next-row = more-left s at k to up some-here
 
         module _ (h : Hang) (start : ℕ) (z : start ≡ plyAt s (c .at)) (y : hangingOf (w .lines) start (x .walk) o₁ ≡ h) where
           start-is : starts ps k ≡ start
-          start-is = start-here some-here ∙ ap (plyAt s) (sym p) ∙ sym z
+          start-is = start-here s at k to up some-here ∙ ap (plyAt s) (sym p) ∙ sym z
 
           -- it hangs on nothing
           pub next-lost : h ≡ Nowhere → allHung ps ≡ first k start
-          unfolding allHung
-          next-lost e =
-              let n : length ps - 1 ≡ k - 1 + suc (length ps - 1 - k) = omega (arith, more-left some-here, i .some) in
-              let b : 1 + (k - 1) ≡ k = omega (arith, i .some) in
-              ap (hungFrom (starts ps) (counts ps) 1) n
-              ∙ hung-lost (starts ps) (counts ps) (k - 1) 1 (length ps - 1 - k) (i .hung) (ap (λ (j : ℕ). hangs (starts ps) (counts ps) (starts ps j) j) b ∙ hang-is h start z y ∙ e)
-              ∙ ap (λ (j : ℕ). first j (starts ps j)) b ∙ ap (first k) start-is
+          next-lost e = next-loose s at k to up some-here (hang-is h start z y ∙ e) ∙ ap (first k) (ap (plyAt s) (sym p) ∙ sym z)
 
           -- it hangs, and its row is filled in
           module _ (parent e : ℕ) (on : h ≡ On parent e) {u : Walk} {o₂ : List ℕ} (row : u ≡ putLine start (v .entries) (x .walk .entries - v .entries) parent (x .walk) o₁ .walk)
@@ -237,22 +186,10 @@ module _ (s : List ℕ) (at : ℕ) (w : Walk) (o₀ : List ℕ) (f : LinesFit (a
 
             pub next-more : (q₂ : Cursor) → q₂ .at ≡ skippedAt s (x .next .at) → Lining s at (k + 1) w u (q₂ .at) o₀ o₂
             next-more q₂ n =
-                let own : Entered (playOf ps k .entries) v (x .walk) o o₁ = subst (λ (p : Play). Entered (p .entries) v (x .walk) o o₁) (sym (play-here some-here)) entered in
+                let own : Entered (playOf ps k .entries) v (x .walk) o o₁ = subst (λ (p : Play). Entered (p .entries) v (x .walk) o o₁) (sym (play-here s at k to up some-here)) entered in
                 let all-of : Lined (take (k + 1) ls) w u o₀ o₂ =
-                row-lined ps w o₀ f k (i .few) (i .done) (more-left some-here) own (sym start-is) (sym (parent-of ps k parent e hang)) row rest-of in
-                let onward : q₂ .at ≡ skippedAt s (entriesAt s place .at) = n ∙ ap (skippedAt s) past in
-                let k₁ : k + 1 - 1 ≡ k - 1 + 1 = omega (arith, i .some) in
-                let b : 1 + (k - 1) ≡ k = omega (arith, i .some) in
-                record {
-                  some = omega arith;
-                  few = omega (arith, more-left some-here);
-                  done = all-of;
-                  rest = sym (drop-drop 1 k ps) ∙ ap (drop 1) (more-is some-here) ∙ ap (λ (j : ℕ). variationsAt s j .state) (sym onward);
-                  end = i .end ∙ ap (λ (g : Ended (List Play)). g .at) (variations-more s to some-here) ∙ ap (λ (j : ℕ). variationsAt s j .at) (sym onward);
-                  hung =
-                      ap (hungFrom (starts ps) (counts ps) 1) k₁
-                      ∙ hung-more (starts ps) (counts ps) (k - 1) 1 parent e (i .hung) (ap (λ (j : ℕ). hangs (starts ps) (counts ps) (starts ps j) j) b ∙ hang);
-                }
+                row-lined ps w o₀ f k (up .few) (i .done) (more-left s at k to up some-here) own (sym start-is) (sym (parent-of ps k parent e hang)) row rest-of in
+                record { passed = next-passed s at k to up some-here hang (n ∙ ap (skippedAt s) past); done = all-of }
 
 -- what was lost up to the last line is lost in all
 pub fill-lost : (s : List ℕ) (at next : ℕ) {next₀ lost₀ lost : ℕ} → next₀ ≡ pastMain s (slotAt s at .at) → lost₀ ≡ lostFrom s (slotAt s at .at)

@@ -20,7 +20,7 @@ use Rattle.plays.specs.Plays.{noted, commentsAt, entriesAt, skippedAt, slotAt, 
 use Rattle.plays.specs.declared.Reached.{Reached}
 use Rattle.plays.specs.declared.FilledPlay.{FilledPlay}
 use Rattle.parser.specs.inner.Lines.{mainLine}
-use Rattle.parser.proofs.Variations.{main-past}
+use Rattle.plays.proofs.Variations.{main-past}
 
 -- entries that are put, told by an equal walk and an equal buffer
 pub entered-by : {es : List Noted} {w v : Walk} {o o₁ : List ℕ} → EntriesFit es w o → v ≡ putEntries es w o .walk → o₁ ≡ putEntries es w o .buffer → Entered es w v o o₁

@@ -24,7 +24,7 @@ use Rattle.plays.specs.declared.Extent.{Extent}
 use Rattle.parser.specs.declared.Extents.{Extents}
 use Rattle.plays.proofs.Items.{comments-within, skips-from, skips-within, skipped-from, skipped-within}
 use Rattle.plays.proofs.Weights.{comments-short}
-use Rattle.parser.proofs.Variations.{variations-more, variations-none, variations-short, variations-few, variations-within, main-past, main-short, line-there, line-within}
+use Rattle.plays.proofs.Variations.{variations-more, variations-none, variations-short, variations-few, variations-within, main-past, main-short, line-there, line-within}
 
 -- comments of entries, and their bytes, one run after another
 -- ---- the main line

@@ -1,17 +1,11 @@
--- What is known before a block is stored: where the moves begin, which lines are header lines, and how long the block is.
+-- What is known before a block is stored: which lines are header lines, and how long the block is.
 -- Assumes nothing.
 use Prim.Native.Nat.{ℕ, suc, _+_, _*_, _≤_, _<_}
 use native.Mathlib.Omega.{arith}
 use mathlib.Core.Path.{_≡_, refl, sym, ap, _∙_, subst}
 use mathlib.Core.List.{List, [], _∷_, _++_, append-nil}
-use mathlib.Core.Bool.{true, false, false≢true}
+use mathlib.Core.Bool.{true, false}
 use lib.ListN.{length, getD, drop, replicate, length-map, length-replicate, drop-of-length-le}
-use Rattle.lists.proofs.Laws.{by-pick}
-use Rattle.text.specs.Text.{tagAt, breakAt}
-use Rattle.text.specs.declared.Cursor.{Cursor}
-use Rattle.text.specs.declared.Place.the-variants.{Past}
-use Rattle.text.proofs.Laws.{break-after, place-back}
-use Rattle.text.proofs.Answers.{by-past}
 use Rattle.jkf.specs.declared.Position.{Position}
 use Rattle.jkf.specs.Model.{Header, Noted}
 use Rattle.jkf.specs.Attaching.{attach}
@@ -26,12 +20,9 @@ use Rattle.sorted.specs.Sorted.{byKey, enterAll, kept}
 use Rattle.sorted.proofs.Merges.{enter-map}
 use Rattle.sorted.proofs.Kept.{kept-all, kept-length}
 use Rattle.kakinoki.specs.Informations.{onKeyValue, headerAt}
-use Rattle.kakinoki.specs.Boards.{noCells, noBoard, rowsFrom, ruledAt, boardAt}
-use Rattle.spell.specs.Words.{filesTag, ruleTag}
-use Rattle.kakinoki.specs.Starts.{firstBlock, diagram, secondPlace, headerPlaces, startRead}
-use Rattle.kakinoki.specs.declared.Board.{Board}
+use Rattle.kakinoki.specs.Starts.{headerPlaces, startRead}
 use Rattle.kakinoki.specs.declared.KeyValue.{KeyValue}
-use Rattle.kakinoki.proofs.Places.{block-within}
+use Rattle.kakinoki.proofs.Bounds.{moves-within}
 use Rattle.kakinoki.proofs.Heads.{headers-said, header-begins, headers-few}
 use Rattle.plays.specs.Plays.{playsAt}
 use Rattle.parser.specs.inner.Headers.{isHeaderLine, HeaderLines, headersAt}
@@ -43,34 +34,6 @@ use Rattle.parser.proofs.Alls.{all-at, index-all}
 use Rattle.parser.proofs.Sizing.{sizes-small}
 use Rattle.parser.proofs.Headed.{entry-short}
 use Rattle.block.proofs.Attached.{attach-length, attach-entries}
-
--- ---- where the moves begin
-
-ruled-within : (t s : List ℕ) (at : ℕ) (c : Cursor) → ruledAt t s at ≡ Past c → c .at ≤ length s
-ruled-within t s at c e =
-    let (d, p, q) = place-back (tagAt t s at) (λ d. breakAt s (d .at)) c e in
-    break-after s (d .at) c q .within
-
-board-within : (s : List ℕ) (at : ℕ) → boardAt s at .there ≡ true → boardAt s at .next .at ≤ length s
-unfolding boardAt
-board-within s at =
-    by-past Q none (ruledAt filesTag s at)
-    (λ c _. by-past Q none (ruledAt ruleTag s (c .at))
-    (λ d _. by-pick Q (rowsFrom s 0 9 (d .at) noCells .there) _ noBoard
-    (λ _. by-past Q none (ruledAt ruleTag s (rowsFrom s 0 9 (d .at) noCells .next .at)) (λ e q t. ruled-within ruleTag s (rowsFrom s 0 9 (d .at) noCells .next .at) e q)) (λ _. none)))
-  where
-    Q : Board → Type 0
-    Q b = b .there ≡ true → b .next .at ≤ length s
-
-    none : Q noBoard
-    none t = absurd (false≢true t)
-
-pub moves-within : (s : List ℕ) → startRead s .next .at ≤ length s
-unfolding startRead
-moves-within s =
-    let a : firstBlock s .at ≤ length s = omega (arith, block-within s 0) in
-    let b : secondPlace s ≤ length s = by-pick (λ (n : ℕ). n ≤ length s) (diagram s .there) (diagram s .next .at) (firstBlock s .at) (λ t. board-within s (firstBlock s .at) t) (λ t. a) in
-    omega (arith, b, block-within s (secondPlace s))
 
 -- ---- header lines
 

@@ -6,29 +6,19 @@ use lib.ListN.{length, replicate}
 use lib.Dec.{eqb, ltb}
 use Rattle.lists.specs.Pick.{pick}
 use Rattle.text.specs.Utf8.{wellFormedBytes}
-use Rattle.jkf.specs.Attaching.{Hung, all, first, allHung}
+use Rattle.jkf.specs.Attaching.{onHung, allHung}
 use Rattle.jkf.specs.Answers.{Outcome, figures, refuse}
 use Rattle.jkf.specs.declared.Answer.{Answer}
 use Rattle.jkf.specs.declared.Answer.the-variants.{Done, TextTooLong, NotUtf8, HandLine, BlockTooLong, NoEntry}
 use Rattle.block.specs.Encode.{encode}
 use Rattle.filling.specs.Filling.{unlessRefused, atFront}
 use Rattle.plays.specs.Losses.{playsLost}
-use Rattle.kakinoki.specs.Starts.{startRead}
-use Rattle.kakinoki.specs.declared.Fault.{Fault}
-use Rattle.kakinoki.specs.declared.Fault.the-variants.{NoFault, At}
+use Rattle.kakinoki.specs.Starts.{onFault, startRead}
 use Rattle.parser.specs.Parse.{Parsed, parse, needed, recordOf}
 use Rattle.parser.specs.declared.Early.{Early}
 use Rattle.parser.specs.declared.Early.the-variants.{Refused, Passed}
 
 -- ---- words
-
-abbrev pub onFault : {A : Type 0} → Fault → (ℕ → A) → A → A
-onFault (At at) f d = f at
-onFault NoFault f d = d
-
-abbrev pub onHung : {A : Type 0} → Hung → (ℕ → ℕ → A) → A → A
-onHung (first k ply) f d = f k ply
-onHung all f d = d
 
 abbrev pub onEarly : {A : Type 0} → Early → (Answer → A) → A → A
 onEarly (Refused a) f d = f a

@@ -4,21 +4,7 @@ use text::Cursor;
 ghost use mathlib.Core.Path.{_≡_};
 ghost use Prim.Native.Nat.{_≤_};
 ghost use lib.ListN.{length};
-ghost use lib.Dec.{eqb};
-ghost use Rattle.lists.specs.Pick.{pick};
-ghost use Rattle.plays.specs.Plays.{skippedAt};
 ghost use Rattle.parser.specs.inner.Lines.{mainExtents, extentsAt};
-
-// Past a line of play of so many entries, which ends at a place, and past the skip line that may stand behind it; the place before it where it
-// has no entry.
-pub(crate) fn past(before: Cursor, entries: usize, end: Cursor, s: &[u8]) -> Cursor
-    ensures { λ r. ⌜ r .at ≡ pick (eqb entries 0) (before .at) (skippedAt (now (s .entry)) (end .at)) ⌝ }
-{
-    if entries == 0 {
-        return before;
-    }
-    plays::skipped(end, s)
-}
 
 // The main line, counted with its slot.
 fn count_main(c: Cursor, s: &[u8]) -> Extents
@@ -32,7 +18,7 @@ fn count_main(c: Cursor, s: &[u8]) -> Extents
         entries: 1 + line.entries,
         comments: slot.count + line.comments,
         bytes: slot.bytes + line.bytes,
-        next: past(slot.next, line.entries, line.next, s),
+        next: plays::past(slot.next, line.entries, line.next, s),
     }
 }
 

@@ -1,6 +1,5 @@
 // All lines of play of a text, filled in, each variation hung where the attaching rule says.   (the Rust's merge_forks)
 use crate::Hanging;
-use crate::counts::past;
 use filling::Hooked;
 use filling::Walk;
 use plays::FilledPlay;
@@ -25,7 +24,7 @@ fn fill_main(s: &[u8], c: Cursor, w: Walk, out: &mut [u8]) -> FilledPlay
     let u = slot.walk;
     let line = plays::fill_moves(s, slot.next, u, out);
     let v = line.walk;
-    let next = past(slot.next, v.entries - u.entries, line.next, s);
+    let next = plays::past(slot.next, v.entries - u.entries, line.next, s);
     let lost = line.lost;
     let Hooked::Put(walk) = filling::hang_line(out, w.lines, 0, w, v) else {
         return FilledPlay {

@@ -4,3 +4,5 @@ pub mod Counting
 pub mod Filled
 pub mod Losing
 pub mod Sequences
+pub mod Variations
+pub mod Passing

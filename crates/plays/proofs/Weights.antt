@@ -1,6 +1,6 @@
 -- What is read takes at least as many bytes of the text as it counts: so no count overflows.
 -- Assumes nothing.
-use Prim.Native.Nat.{ℕ, zero, suc, _+_, _-_, _≤_}
+use Prim.Native.Nat.{ℕ, zero, suc, _+_, _-_, _*_, _≤_}
 use native.Mathlib.Omega.{arith}
 use mathlib.Core.Path.{_≡_, refl, sym, ap}
 use mathlib.Core.List.{List, [], _∷_}
@@ -17,8 +17,9 @@ use Rattle.moves.specs.declared.Remark.the-variants.{Stands, NoRemark}
 use Rattle.moves.specs.declared.MoveLine.{MoveLine}
 use Rattle.moves.specs.declared.MoveLine.the-variants.{Numbered, NoLine}
 use Rattle.moves.proofs.Goings.{move-goes, remark-goes}
+use Rattle.moves.proofs.Widths.{move-line-wide}
 use Rattle.plays.specs.Plays.{noted, commentItem, commentsAt, entryItem, entriesAt}
-use Rattle.plays.proofs.Items.{on-both, no-more, textOf, entry-goes}
+use Rattle.plays.proofs.Items.{on-both, no-more, textOf, comments-from, entry-goes}
 
 -- ---- of a list, one by one
 
@@ -80,6 +81,11 @@ entries-weight [] = refl
 entries-weight (e ∷ es) =
     omega (arith, entries-weight es, length-append (e .comments) (commentsOf es), ap length (concat-append (λ c. c) (e .comments) (commentsOf es)), length-append (commentText (e .comments)) (commentText (commentsOf es)))
 
+eights : (es : List Noted) → weight (λ e. 8) es ≡ 8 * length es
+unfolding weight
+eights [] = refl
+eights (e ∷ es) = omega (arith, eights es)
+
 module _ (s : List ℕ) where
   abbrev some : ℕ → ℕ → List Noted
   some k at = manyFrom (entryItem s) k at .state
@@ -108,3 +114,17 @@ module _ (s : List ℕ) where
   -- and all this is no more than the text has
   pub entries-room : (k at : ℕ) → length (some k at) + (length (commentsOf (some k at)) + length (commentText (commentsOf (some k at)))) ≤ length s
   entries-room k at = omega (arith, entries-weigh k at, many-within (entryItem s) (length s) (entry-goes s) k at)
+
+  -- an entry has eight bytes at least
+  entry-wide : (at next : ℕ) (x : Noted) → entryItem s at ≡ more next x → at + 8 ≤ next
+  unfolding entryItem
+  entry-wide at next x = go (moveLineAt s at) refl
+    where
+      go : (r : MoveLine) → moveLineAt s at ≡ r
+          → onMoveLine r (λ n e c. more (commentsAt s (c .at) .at) (noted e (commentsAt s (c .at) .state))) stop ≡ more next x → at + 8 ≤ next
+      go (Numbered n e c) q w = omega (arith, on-both w .0, move-line-wide s at q, comments-from s (c .at))
+      go NoLine q e = no-more e
+
+  pub entries-wide : (at : ℕ) → at + 8 * length (entriesAt s at .state) ≤ entriesAt s at .at
+  unfolding entriesAt
+  entries-wide at = omega (arith, many-weighs (entryItem s) (λ e. 8) entry-wide (length s) at, eights (manyFrom (entryItem s) (length s) at .state))

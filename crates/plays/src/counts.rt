@@ -8,6 +8,7 @@ use text::Place;
 ghost use mathlib.Core.Path.{_≡_};
 ghost use Prim.Native.Nat.{_+_};
 ghost use lib.Dec.{eqb};
+ghost use Rattle.lists.specs.Pick.{pick};
 ghost use Rattle.plays.specs.Plays.{plyAt, sequenceAt, skippedAt, skipsAt};
 ghost use Rattle.plays.specs.Counted.{remarksAt, extentOf, extentAt};
 ghost use Rattle.plays.specs.inner.Extending.{Roomy, extended};
@@ -120,6 +121,17 @@ pub fn skipped(c: Cursor, s: &[u8]) -> Cursor
         return c;
     };
     past
+}
+
+// Past a line of play of so many entries, which ends at a place, and past the skip line that may stand behind it; the place before it where it
+// has no entry.
+pub fn past(before: Cursor, entries: usize, end: Cursor, s: &[u8]) -> Cursor
+    ensures { λ r. ⌜ r .at ≡ pick (eqb entries 0) (before .at) (skippedAt (now (s .entry)) (end .at)) ⌝ }
+{
+    if entries == 0 {
+        return before;
+    }
+    skipped(end, s)
 }
 
 // Past as many skip lines as there are.

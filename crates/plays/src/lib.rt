@@ -5,6 +5,7 @@ mod fills;
 pub use counts::count_comments;
 pub use counts::count_moves;
 pub use counts::count_sequence;
+pub use counts::past;
 pub use counts::ply;
 pub use counts::skipped;
 pub use counts::skips;

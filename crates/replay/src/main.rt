@@ -14,8 +14,8 @@ ghost use lib.ListN.{length};
 
 // How many records of each kind there were, and in how many the answers agreed. The last place is for unknown kinds.
 pub struct Tally {
-    pub asked: [u64; 20],
-    pub agreed: [u64; 20],
+    pub asked: [u64; 21],
+    pub agreed: [u64; 21],
 }
 
 // Whether to go on, and the tally so far.
@@ -26,7 +26,7 @@ pub struct Turn {
 
 impl Tally {
     fn counted(mut self, kind: usize, agrees: bool) -> Tally {
-        if 19 < kind {
+        if 20 < kind {
             return self;
         }
         self.asked[kind] = std::num::wrapping_add_u64(self.asked[kind], 1);
@@ -59,13 +59,14 @@ fn place_of(kind: u8) -> usize {
         b'b' => 16,
         b'p' => 17,
         b'o' => 18,
-        _ => 19,
+        b'q' => 19,
+        _ => 20,
     }
 }
 
 // The name of the kind at a place of the tally: rows of 32 bytes.
 fn print_name(place: usize) {
-    let at = if place < 19 { 32 * place } else { 608 };
+    let at = if place < 20 { 32 * place } else { 640 };
     io::write_all(
         STDOUT_FILENO,
         shown::table_text(
@@ -88,6 +89,7 @@ fn print_name(place: usize) {
               \x0eblocks written                 \
               \x11variations put in              \
               \x09lines cut                      \
+              \x05stops                          \
               \x0fof unknown kind                ",
             at,
         ),
@@ -106,6 +108,7 @@ fn respond(kind: u8, request: &[u8], out: &mut [u8]) -> usize
         b'x' => lines::skip_line(request, out),
         b'g' => reads::measure(request, out),
         b'r' => reads::fill(request, out),
+        b'q' => reads::stop(request, out),
         b'b' => writes::write(request, out),
         b'p' => edits::put_in(request, out),
         b'o' => edits::cut(request, out),
@@ -166,8 +169,8 @@ fn replay_next(fd: i32, tally: Tally) -> Turn {
 // A proved loop has to end, and nothing says that a file does: the turns are counted down from a number that no run uses up.
 fn replay_all(fd: i32) -> Tally {
     let mut tally = Tally {
-        asked: [0u64; 20],
-        agreed: [0u64; 20],
+        asked: [0u64; 21],
+        agreed: [0u64; 21],
     };
     let mut turns = u64::MAX;
     while turns > 0 {
@@ -192,7 +195,7 @@ fn print_line(place: usize, agreed: u64, asked: u64) {
 }
 
 fn print_tally(tally: Tally) {
-    for i in 0..20 {
+    for i in 0..21 {
         print_line(i, tally.agreed[i], tally.asked[i]);
     }
 }

@@ -1,4 +1,4 @@
-// What measuring a text and reading it into a buffer answer to a request.
+// What measuring a text, reading it into a buffer and asking where reading stops answer to a request.
 use crate::request::number;
 use crate::request::put_four;
 use crate::request::put_three;
@@ -33,4 +33,13 @@ pub(crate) fn measure(request: &[u8], out: &mut [u8]) -> usize
     let f = jkf::figures_of(parser::measure(request));
     put_three(out, f.number, f.first, f.second);
     24
+}
+
+// Where reading stops: the number and six figures.
+pub(crate) fn stop(request: &[u8], out: &mut [u8]) -> usize
+    ensures { λ r. ⌜ r ≤ length (now (out .entry)) ⌝ }
+{
+    let f = stops::stop_figures(stops::stop(request));
+    let n = put_four(out, f[0], f[1], f[2], f[3]);
+    n + put_three(&mut out[n..], f[4], f[5], f[6])
 }

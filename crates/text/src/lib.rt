@@ -235,7 +235,7 @@ impl Cursor {
     }
 
     // Past what is neither a CR nor an LF.
-    fn text(self, s: &[u8]) -> Cursor
+    pub fn text(self, s: &[u8]) -> Cursor
         ensures { λ r. ⌜ r .at ≡ textAt (now (s .entry)) (self .at) ⌝ }
     {
         let mut at = plain_text(s, self.at);

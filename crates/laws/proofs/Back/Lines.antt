@@ -26,7 +26,7 @@ use Rattle.moves.specs.Moves.{beginsNoSkip, skipLineAt}
 use Rattle.spell.specs.Words.{black, white}
 use Rattle.plays.specs.Plays.{noted, entriesAt, skippedAt, skipsAt, variationsAt, pastMain, mainAt, playsAt}
 use Rattle.plays.proofs.Items.{skips-none}
-use Rattle.parser.proofs.Variations.{variations-more, variations-none, main-is, main-none}
+use Rattle.plays.proofs.Variations.{variations-more, variations-none, main-is, main-none}
 use Rattle.converter.specs.Entries.{remarksText}
 use Rattle.converter.specs.Show.{numberLine, variationTag, variationHead}
 use Rattle.laws.specs.Whole.{wholeNoted, wholeEntries, wholeVariation, wholeLine}

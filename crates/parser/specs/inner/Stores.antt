@@ -4,7 +4,7 @@ use Prim.Native.Nat.{ℕ, _≤_}
 use mathlib.Core.Path.{_≡_}
 use mathlib.Core.List.{List}
 use lib.ListN.{length, take, replicate}
-use Rattle.jkf.specs.Attaching.{attach, allHung}
+use Rattle.jkf.specs.Attaching.{onHung, attach, allHung}
 use Rattle.jkf.specs.declared.Position.{Position}
 use Rattle.filling.specs.Filling.{ifFits}
 use Rattle.filling.specs.inner.Parts.{sizesOf, Opens}
@@ -14,7 +14,6 @@ use Rattle.sorted.specs.Sorted.{kept}
 use Rattle.plays.specs.Losses.{playsLost}
 use Rattle.kakinoki.specs.Starts.{startRead, headerPlaces}
 use Rattle.parser.specs.Parse.{Parsed, parse, needed}
-use Rattle.parser.specs.Read.{onHung}
 use Rattle.parser.specs.declared.Survey.{Survey}
 
 -- Room for the places of as many header lines as 65,535 bytes can hold.

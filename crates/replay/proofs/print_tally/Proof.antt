@@ -1,4 +1,4 @@
--- The place stays below nineteen.
+-- The place stays within the tally.
 -- Assumes nothing.
 use Prim.Native.Nat.{_-_, _≤_}
 use borrow.Author.Needs.{needs}
@@ -6,10 +6,10 @@ use Rattle.replay.proofs.print_tally.Statement.{statement}
 use Rattle.replay.proofs.print_tally.Tie as tie
 
 abbrev Inv-loop : tie.InvT-loop
-Inv-loop tally i₀ i = i ≤ 20
+Inv-loop tally i₀ i = i ≤ 21
 
 abbrev μ-loop : tie.MeasureT-loop
-μ-loop tally i₀ i = 20 - i
+μ-loop tally i₀ i = 21 - i
 
 loop-holds : tie.Need-loop-holds Inv-loop μ-loop
 loop-holds c = search needs

@@ -15,7 +15,7 @@ use Rattle.plays.specs.Losses.{variationsLost, playsLost}
 use Rattle.plays.proofs.Losing.{losses-few}
 use Rattle.parser.specs.inner.Lines.{mainLine, hanging}
 use Rattle.parser.proofs.Lining.{Lining, main-fits, lining-start, next-long, next-none, next-less, next-row, next-lost, next-more, none-lost, some-lost, fill-lost}
-use Rattle.parser.proofs.Variations.{lost-few}
+use Rattle.plays.proofs.Variations.{lost-few}
 use Rattle.jkf.specs.declared.Hang.the-variants.{On, Nowhere}
 use Rattle.filling.proofs.Hooking.{hooked-size, row-told, none-told}
 use borrow.Author.Needs.{needs}

@@ -4,7 +4,8 @@ use native.Mathlib.Omega.{arith}
 use mathlib.Core.Path.{refl, sym, ap, _∙_, subst}
 use Rattle.parser.specs.inner.Headers.{HeaderLines}
 use Rattle.parser.specs.inner.Lines.{extentsAt}
-use Rattle.parser.proofs.Storing.{moves-within, header-lines, sizes-are, taken-is, bounds}
+use Rattle.kakinoki.proofs.Bounds.{moves-within}
+use Rattle.parser.proofs.Storing.{header-lines, sizes-are, taken-is, bounds}
 use Rattle.parser.proofs.surveys.sized.Statement.{statement}
 use Rattle.parser.proofs.surveys.sized.Tie as tie
 

@@ -1,8 +1,8 @@
 -- Where there is no entry the place before is answered.
 -- Assumes nothing.
 use borrow.Author.Tests.{eq-eqb, ne-eqb}
-use Rattle.parser.proofs.counts.past.Statement.{statement}
-use Rattle.parser.proofs.counts.past.Tie as tie
+use Rattle.plays.proofs.counts.past.Statement.{statement}
+use Rattle.plays.proofs.counts.past.Tie as tie
 
 returns : tie.Need-returns
 returns c = rw (eq-eqb _ _ (c .if1 .taken))

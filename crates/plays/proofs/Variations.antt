@@ -145,18 +145,41 @@ module _ (s : List ℕ) where
   unfolding variationsAt
   variations-within at h = omega (arith, many-within (variationItem s) (length s) variation-goes (length s) at)
 
-  -- ---- the times that they lost
+  -- ---- what is said of each
 
-  loss-goes : ItemGoes (variationLoss s) (length s)
-  unfolding variationLoss
-  loss-goes at next a = go (variationItem s at) refl
+  -- a variation, and what f says at its place
+  abbrev pub said : {A : Type 0} → (ℕ → A) → ℕ → Step A
+  said f at = onStep (variationItem s at) (λ next v. more next (f at)) stop
+
+  -- it goes on past its place
+  pub said-goes : {A : Type 0} (f : ℕ → A) → ItemGoes (said f) (length s)
+  said-goes f at next a = go (variationItem s at) refl
     where
-      go : (r : Step Play) → variationItem s at ≡ r → onStep r (λ n v. more n (lostFrom s (skipsAt s at))) stop ≡ more next a → (at < next) × (next ≤ length s)
+      go : (r : Step Play) → variationItem s at ≡ r → onStep r (λ n v. more n (f at)) stop ≡ more next a → (at < next) × (next ≤ length s)
       go (more n p) q e =
           let g = variation-goes at n p q in
           let k = on-both e .0 in
           (omega (arith, g .0, k), omega (arith, g .1, k))
       go stop q e = no-more e
+
+  -- what is said of one, and of those after it
+  pub said-more : {A : Type 0} (f : ℕ → A) (at : ℕ) → (length (entriesAt s (skipsAt s at) .state) ≡ 0 → ⊥)
+      → manyFrom (said f) (length s) at
+      ≡ ended (manyFrom (said f) (length s) (skippedAt s (entriesAt s (skipsAt s at) .at)) .at)
+      (f at ∷ manyFrom (said f) (length s) (skippedAt s (entriesAt s (skipsAt s at) .at)) .state)
+  unfolding variationItem
+  said-more f at h = many-more (said f) (length s) (said-goes f) at (skippedAt s (entriesAt s (skipsAt s at) .at)) (f at) (rw (play-is (skipsAt s at) h))
+
+  -- nothing is said where none comes
+  pub said-none : {A : Type 0} (f : ℕ → A) (at : ℕ) → length (entriesAt s (skipsAt s at) .state) ≡ 0 → manyFrom (said f) (length s) at ≡ ended at []
+  unfolding variationItem
+  said-none f at h = many-stop (said f) (length s) at (rw (play-none (skipsAt s at) h))
+
+  -- ---- the times that they lost
+
+  -- those of one
+  abbrev lostAt : ℕ → ℕ
+  lostAt at = lostFrom s (skipsAt s at)
 
   loss-takes : (at next a : ℕ) → variationLoss s at ≡ more next a → at + a ≤ next
   unfolding variationLoss variationItem
@@ -171,19 +194,17 @@ module _ (s : List ℕ) where
 
   pub lost-more : (at : ℕ) → (length (entriesAt s (skipsAt s at) .state) ≡ 0 → ⊥)
       → variationsLost s at ≡ lostFrom s (skipsAt s at) + variationsLost s (skippedAt s (entriesAt s (skipsAt s at) .at))
-  unfolding variationsLost variationLoss variationItem sumOf
-  lost-more at h =
-      ap (λ (r : Ended (List ℕ)). sumOf (r .state))
-      (many-more (variationLoss s) (length s) loss-goes at (skippedAt s (entriesAt s (skipsAt s at) .at)) (lostFrom s (skipsAt s at)) (rw (play-is (skipsAt s at) h)))
+  unfolding variationsLost variationLoss sumOf
+  lost-more at h = ap (λ (r : Ended (List ℕ)). sumOf (r .state)) (said-more lostAt at h)
 
   pub lost-none : (at : ℕ) → length (entriesAt s (skipsAt s at) .state) ≡ 0 → variationsLost s at ≡ 0
-  unfolding variationsLost variationLoss variationItem sumOf
-  lost-none at h = ap (λ (r : Ended (List ℕ)). sumOf (r .state)) (many-stop (variationLoss s) (length s) at (rw (play-none (skipsAt s at) h)))
+  unfolding variationsLost variationLoss sumOf
+  lost-none at h = ap (λ (r : Ended (List ℕ)). sumOf (r .state)) (said-none lostAt at h)
 
   pub lost-few : (at : ℕ) → variationsLost s at ≤ length s
-  unfolding variationsLost
+  unfolding variationsLost variationLoss
   lost-few at =
-      omega (arith, many-weighs (variationLoss s) (λ n. n) loss-takes (length s) at, sum-weighs (manyFrom (variationLoss s) (length s) at .state), many-within (variationLoss s) (length s) loss-goes (length s) at)
+      omega (arith, many-weighs (variationLoss s) (λ n. n) loss-takes (length s) at, sum-weighs (manyFrom (variationLoss s) (length s) at .state), many-within (said lostAt) (length s) (said-goes lostAt) (length s) at)
 
   -- ---- the main line
 

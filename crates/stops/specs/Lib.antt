@@ -1,0 +1,2 @@
+pub mod Stopping
+pub mod inner
