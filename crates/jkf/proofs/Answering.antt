@@ -10,8 +10,8 @@ use Rattle.jkf.specs.declared.Figures.{Figures}
 use Rattle.jkf.specs.Answers.{figures, Outcome}
 
 -- The answers in the order of their numbers, with these figures; a number past them is taken for the refusal without any.
-abbrev pub answerOf : Figures → Answer
-answerOf r =
+abbrev pub answerWith : Figures → Answer
+answerWith r =
     getD
     (Done (r .first) (r .second)
     ∷ TextTooLong (r .first)
@@ -31,7 +31,7 @@ answerOf r =
     (r .number)
     NotSound
 
-pub back : (a : Answer) → answerOf (figures a) ≡ a
+pub back : (a : Answer) → answerWith (figures a) ≡ a
 unfolding figures
 back (Done x y) = refl
 back (TextTooLong x) = refl
@@ -49,7 +49,7 @@ back (OutsideLine x y) = refl
 back (EntryTaken x y) = refl
 
 pub figures-one : (a b : Answer) → figures a ≡ figures b → a ≡ b
-figures-one a b e = sym (back a) ∙ ap answerOf e ∙ back b
+figures-one a b e = sym (back a) ∙ ap answerWith e ∙ back b
 
 -- what holds of an outcome holds of it under another name
 pub told : {x y : Outcome} {a : Answer} {o : List ℕ} → y ≡ x → (a ≡ x .answer) × (o ≡ x .buffer) → (a ≡ y .answer) × (o ≡ y .buffer)

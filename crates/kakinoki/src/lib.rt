@@ -76,7 +76,7 @@ pub enum Fault {
     At(usize),
 }
 
-// An information block: what it says, how many header entries it has, and the place past it.
+// An information block: what it says, how many header entries it has, the hand line in it that cannot be read, if any, and the place past it.
 pub struct InformationBlock {
     pub told: Told,
     pub headers: usize,
@@ -91,7 +91,7 @@ pub struct Board {
     pub next: Cursor,
 }
 
-// What stands before the moves: the position, how many header lines there are, and the place past them.
+// What stands before the moves: a hand line that cannot be read, if any, the position, how many header lines there are, and the place past them.
 pub struct Start {
     pub fault: Fault,
     pub position: Position,

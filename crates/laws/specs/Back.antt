@@ -50,7 +50,7 @@ pub data OnceRead : List ℕ → Type 0 where
 abbrev pub readInto : ℕ → Record → List ℕ → Outcome
 readInto n r o = record { answer = Done n (length (encode r)); buffer = encode r ++ drop (length (encode r)) o }
 
--- Where `write` is done with a text of at most 65,535 bytes, `read` takes all of that text and answers the block of what the text leaves of the
+-- Where `write` is done with a text of at most 65,535 bytes, `fill` takes all of that text and answers the block of what the text leaves of the
 -- record, for every buffer that has room for it; and that block holds what is left.
 abbrev pub TextReadsBack : List ℕ → Type 0
 TextReadsBack b =

@@ -119,11 +119,11 @@ kindToOriginAt to s at =
 unfoldable pub moveAt : List ℕ → ℕ → What
 moveAt s at = onAim (moveToAt s at) (λ t c. kindToOriginAt t s (c .at)) Nothing
 
--- A special.
+-- A special.                                                                                         (the Rust's move_special)
 abbrev pub endingAt : List ℕ → ℕ → What
 endingAt s at = onSpelled (firstOf specials s at) (λ n c. Is (End (specialOf n) Untimed) c) Nothing
 
--- A special or a move.                                                                               (the Rust's move_special)
+-- A special or a move.                                                                               (of the Rust's move_line)
 unfoldable pub whatAt : List ℕ → ℕ → What
 whatAt s at = onWhat (endingAt s at) (λ e c. Is e c) (moveAt s at)
 

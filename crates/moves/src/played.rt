@@ -132,7 +132,7 @@ fn ending(c: Cursor, s: &[u8]) -> What
     What::Is(Entry::End(jkf::special_of(n), Time::Untimed), end)
 }
 
-// A special or a move: what has a target is a move, since no special begins as a target does.   (the Rust's move_move)
+// A special or a move: what has a target is a move, since no special begins as a target does.   (of the Rust's move_line)
 pub(crate) fn what(c: Cursor, s: &[u8]) -> What
     ensures { λ r. ⌜ r ≡ whatAt (now (s .entry)) (c .at) ⌝ }
 {

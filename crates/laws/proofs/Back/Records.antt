@@ -1,4 +1,4 @@
--- What was written reads back: `read` of the text answers the block of what is left of the record.
+-- What was written reads back: `fill` of the text answers the block of what is left of the record.
 -- Assumes nothing.
 use Prim.Native.Nat.{ℕ, _+_, _*_, _≤_, _<_}
 use native.Mathlib.Omega.{arith}
@@ -147,7 +147,7 @@ module _ (r : Record) (f : RecordFits r) (one : r .version ≡ 1) (a : Attached 
   needed-back n = ap (longBy (r .headers)) (a .same)
 
   module _ (short : length (wholeText r) ≤ 65535) (fits : longBy (r .headers) (r .lines) ≤ 65535) (o : List ℕ) (room : longBy (r .headers) (r .lines) ≤ length o) where
-    -- what `read` answers
+    -- what `fill` answers
     abbrev answered : Outcome
     answered = record { answer = Done (length (wholeText r)) (longBy (r .headers) (r .lines)); buffer = atFront (encode r) o }
 
