@@ -6,6 +6,7 @@ use crate::record::{encode, Clock, Diagram, Entry, Line, Move, Position, Record,
 use crate::rng::Rng;
 use crate::sound::sound;
 use crate::texts;
+use crate::whole::Mode;
 use std::iter;
 
 /// Texts as a reader never gives them among those it does.
@@ -14,6 +15,13 @@ pub const TEXTS: [&str; 16] =
 /// The keys that are written before all others.
 pub const LEADING: [&str; 12] =
     ["開始日時", "終了日時", "表題", "棋戦", "戦型", "持ち時間", "秒読み", "場所", "先手", "下手", "後手", "上手"];
+/// Keys and values of which some are read as a preset or a hand, and some only nearly.
+const NEAR_KEYS: [&str; 16] = [
+    "手合割", "手合割", "手合割 ", "先手の持駒", "下手の持駒", "先手の持駒 ", "の持駒", "先手番", "後手番", " #", "&",
+    "*", " 1 ７六歩(77) ", "変化", "\u{feff}手合割", "\u{feff}#",
+];
+const NEAR_VALUES: [&str; 10] =
+    ["", "平手", "平手　 ", "平手x", " 平手", "平手\t", "：その他", "なし", "#", "\u{feff}"];
 const BYTES: [u8; 8] = [0, 1, 9, 10, 25, 99, 100, 255];
 
 /// Any slice at all: mostly a sound block.
@@ -67,6 +75,51 @@ pub fn read_from(r: &mut Rng, text: fn(&mut Rng) -> Vec<u8>) -> Vec<u8> {
             return result;
         }
     }
+}
+
+/// The block of a record made by hand that mostly comes back when it is written: where 02 asks something of one, it is amended.
+pub fn amended(r: &mut Rng) -> Vec<u8> {
+    let mut record = record(r);
+    record.lines.truncate(judge::written_lines(&record));
+    for line in &mut record.lines {
+        line.entries.iter_mut().zip(line.start..).for_each(|(entry, ply)| amend(r, entry, ply));
+    }
+    record.header.iter_mut().for_each(|(key, value)| (*key, *value) = (amended_key(key), without_breaks(value)));
+    record.header.push((r.pick(&NEAR_KEYS).into(), r.pick(&NEAR_VALUES).into()));
+    record.header.sort();
+    record.header.dedup_by(|later, earlier| later.0 == earlier.0);
+    if let Some(diagram) = &mut record.position.diagram {
+        diagram.hands = diagram.hands.map(|count| count.min(99));
+    }
+    encode(&record)
+}
+
+/// Its colour by the ply, a place on the board, an origin and a special that the reader gives, and no time without room.
+fn amend(r: &mut Rng, entry: &mut Entry, ply: u64) {
+    match &mut entry.what {
+        What::Slot => {}
+        What::Move(m) => {
+            let origin = [0, r.byte(), BYTES[r.below(8)]][r.below(3)];
+            m.colour = u8::from(ply % 2 == 0);
+            m.to = m.to.filter(|(file, rank)| (1..=9).contains(file) && (1..=9).contains(rank));
+            m.from = Some((origin / 10, origin % 10));
+        }
+        What::Special(number) => *number = [0, 1, 2, 3, 4, 7, 8, 11][usize::from(*number) % 8],
+    }
+    if judge::is_unwritable(entry, Mode::Shared) {
+        entry.time = None;
+    }
+    entry.comments.iter_mut().for_each(|comment| *comment = without_breaks(comment));
+}
+
+fn amended_key(key: &str) -> String {
+    let key = without_breaks(key).replace('：', "");
+    let key = key.trim_start_matches('#');
+    if key.is_empty() { "k" } else { key }.into()
+}
+
+fn without_breaks(text: &str) -> String {
+    text.replace(['\r', '\n'], "")
 }
 
 /// A well-formed record.
@@ -213,7 +266,7 @@ fn writable_entries(r: &mut Rng, count: usize) -> Vec<Entry> {
         let what = what(r);
         Entry { comments: vec![], ..entry(r, what) }
     });
-    drawn.filter(|entry| !judge::is_unwritable(entry)).take(count).collect()
+    drawn.filter(|entry| !judge::is_unwritable(entry, Mode::Plain)).take(count).collect()
 }
 
 /// A record whose block is as long as a block can be, or nearly so.

@@ -15,6 +15,7 @@ pub enum Call {
     Measure { text: Vec<u8> },
     Fill { text: Vec<u8> },
     Write { block: Vec<u8> },
+    WriteAs { block: Vec<u8>, mode: u64 },
     PutIn { block: Vec<u8>, line: u64, text: Vec<u8>, from_text: bool },
     Cut { block: Vec<u8>, line: u64, from_text: bool },
     Pair { block: Vec<u8>, one: Asked, other: Asked },
@@ -34,6 +35,7 @@ impl Call {
             Call::Measure { text } => judge::measure(text),
             Call::Fill { text } => judge::fill(text),
             Call::Write { block } => judge::write(block),
+            Call::WriteAs { block, mode } => judge::write_as(block, *mode),
             Call::PutIn { block, line, text, .. } => judge::put_in(block, *line, text),
             Call::Cut { block, line, .. } => judge::cut(block, *line),
             Call::Pair { block, one, .. } => judge::put_in(block, one.0, &one.1),
@@ -79,6 +81,7 @@ impl fmt::Display for Call {
             Call::Measure { text } => write!(f, "measure {}", Quoted(text)),
             Call::Fill { text } => write!(f, "fill {}", Quoted(text)),
             Call::Write { block } => write!(f, "write {}", Hex(block)),
+            Call::WriteAs { block, mode } => write!(f, "write_as {} {mode}", Hex(block)),
             Call::PutIn { block, line, text, .. } => write!(f, "put_in {} {line} {}", Hex(block), Quoted(text)),
             Call::Cut { block, line, .. } => write!(f, "cut {} {line}", Hex(block)),
             Call::Pair { block, one, other } => {

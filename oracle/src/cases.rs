@@ -20,7 +20,7 @@ pub fn any_text(seed: u64) -> Call {
 
 pub fn numbered_text(seed: u64) -> Call {
     let r = &mut Rng::new(seed);
-    Call::Fill { text: if r.one_in(200) { written_to_the_limit(r) } else { texts::numbered(r) } }
+    Call::Fill { text: if r.one_in(200) { written_to_the_limit(r, 0) } else { texts::numbered(r) } }
 }
 
 /// Where reading stops in the text that a call is to read.
@@ -62,14 +62,19 @@ pub fn a_spot(seed: u64) -> Call {
     Call::Spot { text, at }
 }
 
-/// A text with so long a comment that what is written of it is as long as a text may be, or has up to two bytes fewer
+/// A text with so long a comment that what a mode writes of it is as long as a text may be, or has up to two bytes fewer
 /// or more. With nine moves or more its block stays within the limit.
-fn written_to_the_limit(r: &mut Rng) -> Vec<u8> {
+fn written_to_the_limit(r: &mut Rng, mode: u64) -> Vec<u8> {
     let moves: String = (1..10 + r.below(1_700)).map(|ply| format!("{ply}同歩打(0:0/0:0)\n")).collect();
     let commented = |length| format!("手数\n*{}\n{moves}", "x".repeat(length)).into_bytes();
-    let Outcome::Made { result: block, .. } = judge::fill(&commented(0)) else { unreachable!() };
-    let Outcome::Made { result: written, .. } = judge::write(&block) else { unreachable!() };
-    commented(LIMIT - 2 + r.below(5) - written.len())
+    let written = judge::write_as(&read(&commented(0)), mode).needed().expect("its moves can be written");
+    commented(LIMIT - 2 + r.below(5) - written)
+}
+
+/// The block of a text that is read.
+fn read(text: &[u8]) -> Vec<u8> {
+    let Outcome::Made { result, .. } = judge::fill(text) else { unreachable!() };
+    result
 }
 
 pub fn altered_block(seed: u64) -> Call {
@@ -89,6 +94,36 @@ pub fn small_block(seed: u64) -> Call {
 pub fn to_write(seed: u64) -> Call {
     Call::Write { block: blocks::block(&mut Rng::new(seed)) }
 }
+
+/// Each small block, by four seeds in a row, in the three modes and by a number that is none of theirs.
+pub const SMALL_MODES: u64 = 4 * small::SMALL;
+
+pub fn small_mode(seed: u64) -> Call {
+    Call::WriteAs { block: small::small(seed / 4), mode: mode(seed) }
+}
+
+/// A drawn block in the same way; where its text goes to the limit, each mode has a block of its own.
+pub fn a_mode(seed: u64) -> Call {
+    let (r, mode) = (&mut Rng::new(seed / 4), mode(seed));
+    let block = match r.below(200) {
+        0 => read(&written_to_the_limit(r, mode)),
+        1..=60 => blocks::amended(r),
+        61..=120 => blocks::read_from(r, texts::numbered),
+        _ => blocks::block(r),
+    };
+    Call::WriteAs { block, mode }
+}
+
+fn mode(seed: u64) -> u64 {
+    match seed % 4 {
+        3 => OTHER_MODES[seed as usize / 4 % OTHER_MODES.len()],
+        mode => mode,
+    }
+}
+
+/// No modes' numbers; a narrower number would take most of them for one.
+pub const OTHER_MODES: [u64; 12] =
+    [3, 4, 255, 256, 257, 258, 65_537, 65_538, (1 << 32) + 1, (1 << 32) + 2, 1 << 63, u64::MAX];
 
 pub fn small_edit(seed: u64) -> Call {
     edits::edit(seed)

@@ -5,25 +5,34 @@ use crate::call::Call;
 use crate::cases;
 use crate::edits::{EDITS, PAIRS};
 use crate::judge::{self, Outcome, LONGEST};
+use crate::kept::{fate, is_covered, Counts, Fate, Tally};
 use crate::known;
 use crate::left::{colours_follow, left};
 use crate::pairs;
 use crate::reached;
-use crate::record::{decode, encode, Record, LIMIT};
+use crate::record::{decode, encode, Record, What, LIMIT};
 use crate::runner::{caught, run, Kind};
 use crate::short::SHORT;
 use crate::small::SMALL;
 use crate::sound::sound;
 use crate::stop::{spot, stop};
+use std::cell::Cell;
 use std::str;
 
-const KINDS: [Kind; 21] = [
+thread_local! {
+    /// What was read back, of all that modes 1 and 2 wrote so far.
+    static BACK: Cell<Tally> = Cell::default();
+}
+
+const KINDS: [Kind; 23] = [
     Kind { name: "short texts", share: 17, all: Some(SHORT), make: cases::short_text, test: reading },
     Kind { name: "texts", share: 20, all: None, make: cases::any_text, test: reading },
     Kind { name: "bytes", share: 13, all: None, make: cases::altered_block, test: soundness },
     Kind { name: "blocks", share: 10, all: None, make: cases::any_block, test: soundness },
     Kind { name: "small blocks", share: 2, all: Some(SMALL), make: cases::small_block, test: writing },
     Kind { name: "writing", share: 8, all: None, make: cases::to_write, test: writing },
+    Kind { name: "small modes", share: 8, all: Some(cases::SMALL_MODES), make: cases::small_mode, test: writing_as },
+    Kind { name: "modes", share: 20, all: None, make: cases::a_mode, test: writing_as },
     Kind { name: "small edits", share: 10, all: Some(EDITS), make: cases::small_edit, test: small_editing },
     Kind { name: "put-ins", share: 10, all: None, make: cases::to_put_in, test: putting_in },
     Kind { name: "small pairs", share: 10, all: Some(PAIRS), make: cases::small_pair, test: pairing },
@@ -55,6 +64,7 @@ pub fn check(cases: u64, seed: u64) -> bool {
     }
     println!("{:12} {passed:7} passed, {failed} failed", "known answers");
     let (more_passed, more_failed) = run("check", &KINDS, cases, seed, None);
+    BACK.get().print();
     println!("{} passed, {} failed", passed + more_passed, failed + more_failed);
     failed + more_failed == 0
 }
@@ -63,13 +73,14 @@ fn reading(call: &Call) -> u64 {
     let Call::Fill { text } = call else { unreachable!() };
     let outcome = call.judged();
     let number = buffers(&outcome);
-    measured(judge::measure(text), &outcome);
+    measured(Call::Measure { text: text.clone() }.judged(), &outcome);
     if let Outcome::Made { result, answer } = outcome {
         assert!(answer.first <= text.len() as u64 && answer.second == result.len() as u64);
         assert!(sound(&result), "the reader's block is not sound");
         let untimed = decode(&result).unwrap().entries().skip(1).filter(|entry| entry.time.is_none()).count();
         assert!(answer.lost <= untimed as u64, "more times are lost than are absent");
         reads_back(&result);
+        restored_of_text(&result, |tally| &mut tally.texts);
     }
     number
 }
@@ -145,6 +156,50 @@ fn writing(call: &Call) -> u64 {
     number
 }
 
+/// A number that is no mode's is taken as 0. The other modes refuse a variation with start 0, change nothing but what 02 says, and
+/// restore the block where it says so.
+fn writing_as(call: &Call) -> u64 {
+    let Call::WriteAs { block, mode } = call else { unreachable!() };
+    let outcome = call.judged();
+    let number = buffers(&outcome);
+    if !sound(block) {
+        assert_eq!(number, 7);
+    } else if !(1..=2).contains(mode) {
+        assert_eq!(outcome, judge::write(block));
+    } else {
+        losing_nothing(&decode(block).unwrap(), *mode, &outcome);
+        restored(block, *mode, &outcome, |tally| &mut tally.blocks);
+    }
+    number
+}
+
+/// The original confirms the text: of what plain writing leaves of a record, mode 1 writes the plain text, and it refuses what plain
+/// writing refuses. Mode 2 writes what mode 1 does where an origin of (0,0) is none.
+fn losing_nothing(record: &Record, mode: u64, outcome: &Outcome) {
+    if let Some(line) = (1..record.lines.len()).find(|&k| record.lines[k].start == 0) {
+        return assert_eq!(*outcome, Outcome::Answered(judge::answer(20, line as u64, 0)));
+    }
+    if mode == 2 {
+        return assert_eq!(*outcome, judge::write_as(&encode(&with_drops(record)), 1));
+    }
+    let plain = judge::write(&encode(record));
+    assert_eq!(judge::write_as(&encode(&left(record)), 1), plain);
+    if outcome.needed().is_none() || plain.needed().is_none() {
+        assert_eq!(*outcome, plain);
+    }
+}
+
+/// The record with no origin where it is (0,0).
+fn with_drops(record: &Record) -> Record {
+    let mut record = record.clone();
+    for entry in record.lines.iter_mut().flat_map(|line| &mut line.entries) {
+        if let What::Move(m) = &mut entry.what {
+            m.from = m.from.filter(|&from| from != (0, 0));
+        }
+    }
+    record
+}
+
 fn small_editing(call: &Call) -> u64 {
     match call {
         Call::PutIn { .. } => putting_in(call),
@@ -210,11 +265,11 @@ fn cutting(call: &Call) -> u64 {
 fn editing(call: &Call) -> u64 {
     let Call::PutIn { block, line, .. } = call else { unreachable!() };
     if let Outcome::Made { result, .. } = judge::cut(block, *line) {
-        reads_back(&result);
+        edit_reads_back(&result);
     }
     let outcome = call.judged();
     if let Outcome::Made { result, .. } = &outcome {
-        reads_back(result);
+        edit_reads_back(result);
     }
     buffers(&outcome)
 }
@@ -222,9 +277,14 @@ fn editing(call: &Call) -> u64 {
 /// After several edits too; and each keeps what an edit must keep.
 fn editing_again(call: &Call) -> u64 {
     if let Outcome::Made { result, .. } = call.judged() {
-        reads_back(&result);
+        edit_reads_back(&result);
     }
     small_editing(call)
+}
+
+fn edit_reads_back(block: &[u8]) {
+    reads_back(block);
+    restored_of_text(block, |tally| &mut tally.edits);
 }
 
 /// The part is the text that the record has by this number, and lies in the block where the figures say.
@@ -296,4 +356,27 @@ fn reads_back(block: &[u8]) {
     assert_eq!(taken.first, answer.first, "what was written is not wholly taken");
     assert_eq!(taken.lost, 0, "a time that was written is lost");
     assert_eq!(decode(&again).unwrap(), left, "not the same record");
+}
+
+/// Where a block counts in the tally.
+type Place = fn(&mut Tally) -> &mut [Counts; 3];
+
+/// A reader gives what 02 asks of a record made by hand, edits by text keep it, and both modes that lose nothing restore such a block.
+fn restored_of_text(block: &[u8], place: Place) {
+    assert!(is_covered(&decode(block).unwrap()), "the reader gives what 02 says it does not");
+    for mode in 1..=2 {
+        restored(block, mode, &judge::write_as(block, mode), place);
+    }
+}
+
+/// What a mode wrote of a block is read back by the original as just this block, wherever 02's premises hold.
+fn restored(block: &[u8], mode: u64, written: &Outcome, place: Place) {
+    let fate = fate(block, written);
+    let mut tally = BACK.get();
+    place(&mut tally)[mode as usize].add(fate);
+    BACK.set(tally);
+    if let (Fate::Back, Outcome::Made { result: text, .. }) = (fate, written) {
+        let answer = judge::answer(0, text.len() as u64, block.len() as u64);
+        assert_eq!(judge::fill(text), Outcome::Made { result: block.to_vec(), answer }, "not the same block");
+    }
 }

@@ -1,9 +1,10 @@
 //! The port against the judge: the same calls, every answer and every byte; and what the port writes, read back by it.
 
-use crate::back::Tally;
+use crate::back;
 use crate::call::Call;
 use crate::cases;
 use crate::judge::{Outcome, LONGEST};
+use crate::kept::Tally;
 use crate::lent::Lent;
 use crate::port;
 use crate::runner::{run, Kind};
@@ -40,6 +41,10 @@ const KINDS: &[Kind] = &[
     Kind { name: "small blocks", share: 6, all: Some(crate::small::SMALL), make: cases::small_block, test: compared },
     #[cfg(feature = "kif_write")]
     Kind { name: "write", share: 20, all: None, make: cases::to_write, test: compared },
+    #[cfg(feature = "kif_write_as")]
+    Kind { name: "small modes", share: 21, all: Some(cases::SMALL_MODES), make: cases::small_mode, test: compared },
+    #[cfg(feature = "kif_write_as")]
+    Kind { name: "modes", share: 40, all: None, make: cases::a_mode, test: compared },
     #[cfg(all(feature = "kif_put_in", feature = "kif_cut"))]
     Kind { name: "small edits", share: 92, all: Some(crate::edits::EDITS), make: cases::small_edit, test: compared },
     #[cfg(feature = "kif_put_in")]
@@ -86,7 +91,7 @@ fn all_compared(calls: &[Call]) -> Result<Vec<u64>, String> {
         return Err(difference);
     }
     let mut tally = BACK.get();
-    let back: Vec<_> = asked.iter().flat_map(|(call, outcome)| tally.calls(call, outcome)).collect();
+    let back: Vec<_> = asked.iter().flat_map(|(call, outcome)| back::calls(&mut tally, call, outcome)).collect();
     if let Some((call, difference)) = first_difference(&back, just_enough) {
         return Err(format!("then {call}\n  {difference}"));
     }
@@ -132,7 +137,7 @@ fn difference(call: &Call, outcome: &Outcome, lent: &mut Lent, length: usize) ->
 fn lengths(call: &Call, outcome: &Outcome) -> Vec<usize> {
     let needed = outcome.needed().unwrap_or(0);
     match call {
-        Call::Fill { .. } | Call::Write { .. } | Call::PutIn { .. } | Call::Cut { .. } => {
+        Call::Fill { .. } | Call::Write { .. } | Call::WriteAs { .. } | Call::PutIn { .. } | Call::Cut { .. } => {
             vec![0, needed.saturating_sub(1), needed, 65_535, 65_536, LONGEST]
         }
         _ => vec![0],

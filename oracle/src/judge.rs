@@ -1,4 +1,4 @@
-//! What each call answers: reading and writing by the original, all else by 01's words.
+//! What each call answers: reading and plain writing by the original, all else by 01's words and 02's.
 
 use crate::attach;
 use crate::jkf::{JsonKifuFormat, MoveFormat};
@@ -6,9 +6,10 @@ use crate::lost::lost;
 use crate::original::converter::kif::ToKif;
 use crate::original::parser::kakinoki::read_head;
 use crate::original::parser::kif::{parse, read_lines, read_moves};
-use crate::record::{decode, encode, u16_at, Entry, Line, Move, Record, What, LIMIT};
+use crate::record::{decode, encode, u16_at, Entry, Line, Record, What, LIMIT};
 use crate::sound::sound;
 use crate::translate::{self, nest, Play};
+use crate::whole::{self, width, Mode};
 use nom::error::VerboseError;
 use std::str;
 
@@ -170,11 +171,34 @@ pub fn write(block: &[u8]) -> Outcome {
         return refused(8, side, kind);
     }
     let written = written_lines(&record);
-    if let Some((line, entry)) = unwritable(&record.lines[..written]) {
+    if let Some((line, entry)) = unwritable(&record.lines[..written], Mode::Plain) {
         return refused(9, line, entry);
     }
     let result = translate::original(&record).to_kif_owned().into_bytes();
     let answer = answer(0, result.len() as u64, (record.lines.len() - written) as u64);
+    Outcome::Made { result, answer }
+}
+
+/// Writing in the mode with this number (02, xi). Those that lose nothing leave no line out: a variation with start 0 is refused.
+pub fn write_as(block: &[u8], mode: u64) -> Outcome {
+    let mode = match Mode::of(mode) {
+        Mode::Plain => return write(block),
+        mode => mode,
+    };
+    let Some(record) = record_of(block) else {
+        return refused(7, 0, 0);
+    };
+    if let Some(variation) = record.lines[1..].iter().position(|line| line.start == 0) {
+        return refused(20, 1 + variation as u64, 0);
+    }
+    if let Some((side, kind)) = count_over_99(&record) {
+        return refused(8, side, kind);
+    }
+    if let Some((line, entry)) = unwritable(&record.lines, mode) {
+        return refused(9, line, entry);
+    }
+    let result = whole::text(&record, mode).into_bytes();
+    let answer = answer(0, result.len() as u64, 0);
     Outcome::Made { result, answer }
 }
 
@@ -196,26 +220,19 @@ pub fn written_lines(record: &Record) -> usize {
 }
 
 /// Line and entry of the first move that cannot be written.
-fn unwritable(lines: &[Line]) -> Option<(u64, u64)> {
-    let in_line = |line: &Line| line.entries.iter().position(is_unwritable);
+fn unwritable(lines: &[Line], mode: Mode) -> Option<(u64, u64)> {
+    let in_line = |line: &Line| line.entries.iter().position(|entry| is_unwritable(entry, mode));
     lines.iter().enumerate().find_map(|(k, line)| Some((k as u64, in_line(line)? as u64)))
 }
 
 /// A target off the board, or a time with no room before it.
-pub fn is_unwritable(entry: &Entry) -> bool {
+pub fn is_unwritable(entry: &Entry, mode: Mode) -> bool {
     let What::Move(m) = &entry.what else {
         return false;
     };
     let off_board = |place: u8| !(1..=9).contains(&place);
-    m.to.is_some_and(|(file, rank)| off_board(file) || off_board(rank)) || (entry.time.is_some() && width(m) == 14)
-}
-
-/// The columns that a written move takes: place, kind, promotion, origin.
-fn width(m: &Move) -> usize {
-    let kind = if (10..=12).contains(&m.piece) { 4 } else { 2 };
-    let promotion = if m.promote == 2 { 2 } else { 0 };
-    let origin = if m.from.is_some() { 4 } else { 2 };
-    4 + kind + promotion + origin
+    let to_off_board = m.to.is_some_and(|(file, rank)| off_board(file) || off_board(rank));
+    to_off_board || (entry.time.is_some() && width(&entry.what, mode) == 14)
 }
 
 pub fn put_in(block: &[u8], line: u64, text: &[u8]) -> Outcome {

@@ -1,9 +1,13 @@
 //! The answers that 01 itself gives, and those at the points where its words meet the original: all by hand.
 
-use crate::judge::{self, Outcome};
+use crate::cases::OTHER_MODES;
+use crate::judge::{self, Outcome, LONGEST};
+use crate::kept::is_covered;
 use crate::left::left;
 use crate::listing::listing;
+use crate::modes;
 use crate::record::{decode, encode, Diagram, Record, What, LIMIT};
+use crate::sound::sound;
 use crate::stop::{spot, stop};
 use crate::stops;
 use crate::times;
@@ -27,7 +31,7 @@ line 1 start 2 moves 1 parent 0
 ";
 
 /// Each group by name; a group panics at the first answer that is not the known one.
-pub const GROUPS: [(&str, fn()); 13] = [
+pub const GROUPS: [(&str, fn()); 18] = [
     ("worked example", worked_example),
     ("positions", positions),
     ("put-ins and cuts", put_ins_and_cuts),
@@ -36,6 +40,11 @@ pub const GROUPS: [(&str, fn()); 13] = [
     ("writing", writing),
     ("orders", orders),
     ("what is left", what_is_left),
+    ("modes", modes_of_lines),
+    ("modes of games", modes_of_games),
+    ("orders of modes", orders_of_modes),
+    ("made by hand", made_by_hand),
+    ("modes at the limits", modes_at_the_limits),
     ("times", times_of_lines),
     ("lost times", lost_times),
     ("stops", stops_of_texts),
@@ -245,6 +254,121 @@ fn what_is_left() {
     ];
     for (before, after) in known {
         assert_eq!(left(&record(&before)), record(&after), "{before:?}");
+    }
+}
+
+/// What a mode writes of a block, its refusal if it writes nothing.
+fn written(block: &[u8], mode: u64) -> Result<String, (u64, u64, u64)> {
+    match judge::write_as(block, mode) {
+        Outcome::Made { result, .. } => Ok(String::from_utf8(result).unwrap()),
+        refused => Err(answered(refused, LIMIT)),
+    }
+}
+
+/// Each line in a main line and in a variation: what each mode writes, and that those which lose nothing restore it.
+fn modes_of_lines() {
+    let head = "手合割：平手\n手数----指手---------消費時間--\n";
+    for (line, texts) in modes::ROWS {
+        let main = block(&format!("手数\n1 {line}\n*c\n"));
+        let variation = block(&format!("手数\n1詰み\n2詰み\n変化\n1 {line}\n*c\n"));
+        for (mode, text) in (0..).zip(texts) {
+            let due = |before: &str, line, entry| match text {
+                "" => Err((9, line, entry)),
+                _ => Ok(format!("{head}{before}   1 {text}\n*c\n")),
+            };
+            let cases = [(&main, due("", 0, 1)), (&variation, due("   1 詰み\n   2 詰み\n\n変化：1手\n", 1, 0))];
+            for (made, due) in cases {
+                assert_eq!(written(made, mode), due, "{line:?} in mode {mode}");
+                assert!(mode == 0 || due.is_err() || block(&due.unwrap()) == *made, "{line:?} in mode {mode}");
+            }
+        }
+    }
+}
+
+/// A whole game in both modes that lose nothing; the first variation with start 0; and numbers that are no mode's.
+fn modes_of_games() {
+    let made = block(modes::GAME);
+    for (mode, drop) in [(1, "(00)   "), (2, "打     ")] {
+        let text = modes::game_written(drop);
+        assert_eq!(answered(judge::write_as(&made, mode), LIMIT), (0, text.len() as u64, 0));
+        assert_eq!(written(&made, mode), Ok(text));
+        assert_eq!(block(&modes::game_written(drop)), made);
+    }
+    let zeros = block(&game(&[(8, 1), (0, 1), (0, 1)]));
+    assert_eq!([1, 2].map(|mode| written(&zeros, mode)), [const { Err((20, 2, 0)) }; 2]);
+    for mode in OTHER_MODES.into_iter().chain([0]) {
+        for block in [&made, &zeros] {
+            assert_eq!(judge::write_as(block, mode), judge::write(block), "mode {mode}");
+        }
+    }
+}
+
+/// 7, then 20, then 8, 9 and 5; and 9 is looked for in all lines.
+fn orders_of_modes() {
+    let mut all = record("手数\n1 ７六歩(77)\n2投了\n変化\n2投了\n変化\n0投了\n変化\n0投了\n");
+    modes::off_board(&mut all);
+    modes::with_hundred(&mut all);
+    for mode in [1, 2] {
+        let mut record = all.clone();
+        let write = |record: &Record, room| answered(judge::write_as(&encode(record), mode), room);
+        assert_eq!(answered(judge::write_as(&[&encode(&record)[..], &[0]].concat(), mode), 0), (7, 0, 0));
+        assert_eq!(write(&record, 0), (20, 2, 0));
+        record.lines.truncate(2);
+        assert_eq!(write(&record, 0), (8, 1, 4));
+        record.position.diagram.as_mut().unwrap().hands[11] = 99;
+        assert_eq!(write(&record, 0), (9, 0, 1));
+        record.lines[0].entries.remove(1);
+        record.lines[1].start = 1;
+        let needed = written(&encode(&record), mode).unwrap().len();
+        assert_eq!(write(&record, needed - 1), (5, needed as u64, 0));
+        assert_eq!(write(&record, needed), (0, needed as u64, 0));
+        let last = block("手数\n1 ７六歩(77)\n2投了\n変化\n2投了\n変化\n1同歩(77)\n2同成香成(77)(0:1/0:2)\n");
+        assert_eq!(written(&last, mode), Err((9, 2, 1)));
+    }
+}
+
+/// What 02 asks of a record made by hand is enough, and none of it is asked in vain.
+fn made_by_hand() {
+    let good = record("手数\n1 ７六歩(77)(0:1/0:2)\n2 投了\n*c\n");
+    let back = |record: &Record, mode| {
+        let text = written(&encode(record), mode).unwrap();
+        matches!(judge::fill(text.as_bytes()), Outcome::Made { result, .. } if result == encode(record))
+    };
+    let held = |record: &Record, covered| {
+        assert_eq!(is_covered(record), covered, "{record:?}");
+        assert_eq!([1, 2].map(|mode| back(record, mode)), [covered; 2], "{record:?}");
+    };
+    let headed = |(key, value): (&str, &str)| Record { header: vec![(key.into(), value.into())], ..good.clone() };
+    held(&good, true);
+    modes::COVERED_HEADERS.into_iter().for_each(|header| held(&headed(header), true));
+    modes::UNCOVERED_HEADERS.into_iter().for_each(|header| held(&headed(header), false));
+    for spoil in modes::SPOILED {
+        let mut spoiled = good.clone();
+        spoil(&mut spoiled);
+        held(&spoiled, false);
+    }
+    let strayed = record("手数\n2 ７六歩(77)\n");
+    assert_eq!((is_covered(&strayed), [1, 2].map(|mode| back(&strayed, mode))), (true, [false; 2]));
+    let mut unplaced = good.clone();
+    modes::SPOILED[0](&mut unplaced);
+    let text = "手合割：平手\n手数----指手---------消費時間--\n   1 ７六歩打     ( 0:01/00:02)\n   2 投了\n*c\n";
+    assert_eq!([1, 2].map(|mode| written(&encode(&unplaced), mode)), [1, 2].map(|_| Ok(text.into())));
+}
+
+/// A text of 65,535 bytes is read back, one of a byte more is refused; and the longest text of all has room in the longest buffer.
+fn modes_at_the_limits() {
+    let timed: String = (1..10).map(|ply| format!("{ply}同歩打(0:0/0:0)\n")).collect();
+    let commented = |length: usize| block(&format!("手数\n*{}\n{timed}", "x".repeat(length)));
+    let longest = encode(&modes::longest());
+    assert_eq!((sound(&longest), longest.len()), (true, 65_516));
+    for mode in [1, 2] {
+        let room = LIMIT - written(&commented(0), mode).unwrap().len();
+        let [just, over] = [room, room + 1].map(commented);
+        assert!(block(&written(&just, mode).unwrap()) == just);
+        assert_eq!(read(&written(&over, mode).unwrap()), (1, LIMIT as u64 + 1, 0));
+        let length = written(&longest, mode).unwrap().len();
+        assert_eq!(length, 59 + 3_268 * 58);
+        assert!(length < LONGEST);
     }
 }
 

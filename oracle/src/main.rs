@@ -15,12 +15,14 @@ mod check;
 mod compare;
 mod edits;
 mod judge;
+mod kept;
 mod known;
 mod left;
 #[cfg(feature = "linked")]
 mod lent;
 mod listing;
 mod lost;
+mod modes;
 mod normalizer;
 mod original;
 mod pairs;
@@ -40,6 +42,7 @@ mod text;
 mod texts;
 mod times;
 mod translate;
+mod whole;
 
 use std::process::ExitCode;
 use std::{env, fs, io, thread};

@@ -121,6 +121,14 @@ pub mod converter {
     pub mod kif {
         include!(concat!(env!("KIF_RUST"), "/src/converter/kif.rs"));
 
+        /// Header and position.
+        pub fn show_head(record: &JsonKifuFormat) -> String {
+            let mut shown = String::new();
+            write_header(&record.header, &mut shown).unwrap();
+            write_initial(&record.initial, false, &mut shown).unwrap();
+            shown
+        }
+
         pub fn show_move_kind(kind: Kind) -> String {
             let mut shown = String::new();
             write_move_kind(kind, &mut shown, &mut 0).unwrap();

@@ -27,6 +27,17 @@ extern "C" {
     );
     #[cfg(feature = "kif_write")]
     fn kif_write(block: In, block_len: usize, out: Out, out_len: usize, number: Figure, first: Figure, second: Figure);
+    #[cfg(feature = "kif_write_as")]
+    fn kif_write_as(
+        block: In,
+        block_len: usize,
+        mode: u64,
+        out: Out,
+        out_len: usize,
+        number: Figure,
+        first: Figure,
+        second: Figure,
+    );
     #[cfg(feature = "kif_put_in")]
     fn kif_put_in(
         block: In,
@@ -88,6 +99,10 @@ pub fn answer(call: &Call, out: &mut [u8]) -> Answer {
         }
         #[cfg(feature = "kif_write")]
         Call::Write { block } => lend(|n, a, b| unsafe { kif_write(block.as_ptr(), block.len(), at, room, n, a, b) }),
+        #[cfg(feature = "kif_write_as")]
+        Call::WriteAs { block, mode } => {
+            lend(|n, a, b| unsafe { kif_write_as(block.as_ptr(), block.len(), *mode, at, room, n, a, b) })
+        }
         #[cfg(feature = "kif_put_in")]
         Call::PutIn { block, line, text, .. } => lend(|n, a, b| unsafe {
             kif_put_in(block.as_ptr(), block.len(), *line, text.as_ptr(), text.len(), at, room, n, a, b)

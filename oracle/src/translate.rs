@@ -45,13 +45,18 @@ pub fn record(head: &JsonKifuFormat, lines: &[Play]) -> Record {
 pub fn original(record: &Record) -> JsonKifuFormat {
     let lines = record.lines.iter().map(|line| (line.start, line.entries.iter().map(move_format).collect())).collect();
     let parents: Vec<_> = record.lines.iter().map(|line| line.parent).collect();
+    JsonKifuFormat { moves: nest(lines, &parents), ..head(record) }
+}
+
+/// The same without the moves.
+pub fn head(record: &Record) -> JsonKifuFormat {
     JsonKifuFormat {
         header: record.header.iter().cloned().collect(),
         initial: Some(Initial {
             preset: PRESETS[usize::from(record.position.preset)],
             data: record.position.diagram.as_ref().map(state),
         }),
-        moves: nest(lines, &parents),
+        moves: vec![],
     }
 }
 
