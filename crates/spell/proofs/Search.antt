@@ -1,4 +1,4 @@
--- Walking over the rows of a table: what stands in a row, and what is left after it. Every search over a table goes by these laws.
+-- Walking over the rows of a table: what stands in a row, and what is left after it. Every search over rows goes by these laws.
 -- Assumes nothing.
 use Prim.Native.Nat.{ℕ, _+_, _-_, _≤_, _<_}
 use native.Mathlib.Omega.{arith}
@@ -13,8 +13,7 @@ use Rattle.lists.proofs.Laws.{head-at, pick-both}
 use Rattle.text.specs.Text.{cursor, standsAt}
 use Rattle.spell.specs.Tables.{Spelling}
 use Rattle.spell.specs.Spell.{firstOf, spelled}
-use Rattle.spell.specs.inner.Codes.{row}
-use Rattle.spell.specs.inner.Codes.{rows, narrow, Rows}
+use Rattle.spell.specs.inner.Codes.{row, rows, narrow, Rows}
 use Rattle.spell.specs.declared.Spelled.the-variants.{As, Not}
 
 -- what is left of a table at i, and that what is looked for in the whole is looked for in the rest

@@ -199,7 +199,7 @@ pub fn kind(c: Cursor, s: &[u8]) -> Spelled
     Spelled::As(n, Cursor { at: at + 3 })
 }
 
-// The ending that stands at a place, 0 to 13.   (the Rust's move_special)
+// The ending that stands at a place, one of the eight that are read, by its number.   (the Rust's move_special)
 pub fn special(c: Cursor, s: &[u8]) -> Spelled
     ensures { λ r. ⌜ r ≡ firstOf specials (now (s .entry)) (c .at) ⌝ }
 {

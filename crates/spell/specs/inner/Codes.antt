@@ -1,4 +1,5 @@
--- Characters of three bytes as numbers, and tables of such characters, by which they are found and written at once.
+-- Characters of three bytes as numbers, and tables of such characters, by which they are found and written at once; and the rows of a table of
+-- spellings.
 -- Assumes nothing: these are definitions.
 use Prim.Native.Nat.{ℕ, _+_, _/_, _%_, _<_, _-_}
 use mathlib.Core.Path.{_≡_}
