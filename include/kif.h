@@ -1,5 +1,5 @@
 /* Prunicheta's calls for C. A slice is a pointer and a length; a lent number is a pointer to it.
- * Every call takes every input. A refused call says so in *number (1 to 13) and in its figures; 0 is success. 14 was a refusal of
+ * Every call takes every input. A refused call says so in *number (1 to 13, and 20) and in its figures; 0 is success. 14 was a refusal of
  * kif_put_in that is never met, and is not used again. */
 #ifndef KIF_H
 #define KIF_H
@@ -51,6 +51,17 @@ void kif_spot(const uint8_t *text, size_t text_len, uint64_t at, uint64_t *line,
  *   5, length, 0          where out is shorter than the length needed, which may be over 65,535.
  * Success changes only the text's bytes, and a refusal nothing. */
 void kif_write(const uint8_t *block, size_t block_len, uint8_t *out, size_t out_len, uint64_t *number, uint64_t *first, uint64_t *second);
+
+/* Writes a block's text in a mode:
+ *   0                     as kif_write, and so for any number but 1 and 2: without 不成, without the hour of what an entry itself took, with
+ *                         an hour in every total, and without the lines from the first variation on that starts at ply 0;
+ *   1                     losing nothing: kif_fill gives the block back, byte for byte, where each colour follows its ply, the text is within
+ *                         65,535 bytes, and the block is one that was read, or edited by text;
+ *   2                     as 1, and a move from (0,0) with 打 for (00), which other programs do not read. 打 is read as (0,0).
+ * 0, the text's length and how many lines it leaves out; or, in this order, 7 as kif_write; in modes 1 and 2
+ *   20, line, 0           where that line, a variation, starts at ply 0;
+ * then 8, 9 and 5 as kif_write. Success changes only the text's bytes, and a refusal nothing. */
+void kif_write_as(const uint8_t *block, size_t block_len, uint64_t mode, uint8_t *out, size_t out_len, uint64_t *number, uint64_t *first, uint64_t *second);
 
 /* Puts the one variation that a text holds, wholly move lines with comments, numbered one by one, into a line of a block, at the ply that
  * its first move is numbered by. The edited block goes into the front of out, which must overlap neither: 0, its length and the new line's number; or, in

@@ -58,7 +58,7 @@ fn main() -> ExitCode {
     match running.join() {
         Ok(Some(true)) => ExitCode::SUCCESS,
         Ok(None) => {
-            eprintln!("usage: oracle/run [check [CASES] [SEED] | compare [CASES] [SEED] | bench | record FILE | listing FILE | text FILE]");
+            eprintln!("usage: oracle/run [check [CASES] [SEED] | compare [CASES] [SEED] | bench | record FILE | listing FILE | text FILE [MODE]]");
             ExitCode::from(2)
         }
         _ => ExitCode::FAILURE,
@@ -84,7 +84,10 @@ fn obey(words: &[String]) -> Option<bool> {
         }
         ["record", file] => Some(reported(file, recorder::record(file))),
         ["listing", file] => Some(reported(file, fs::read(file).map(|input| print!("{}", listing::listing(&input))))),
-        ["text", file] => Some(reported(file, fs::read(file).map(|input| print!("{}", text::text(&input))))),
+        ["text", file, ref mode @ ..] => {
+            let mode = number(mode, 0, 0)?;
+            Some(reported(file, fs::read(file).map(|input| print!("{}", text::text(&input, mode)))))
+        }
         _ => None,
     }
 }

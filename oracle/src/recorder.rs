@@ -46,7 +46,7 @@ const RECORDERS: [Recorder; 20] = [
     (b'x', "skip lines: place, text; found, place after", remarks::skips),
     (b'g', "measures: text; number, two figures", reads::measures),
     (READS, "reads: buffer's length, text; number, two figures, lost, buffer (165 in each byte before)", reads::fills),
-    (b'b', "writes: buffer's length, slice; number, two figures, the buffer (165 in each byte before)", writes::writes),
+    (b'b', "writes: buffer's length, mode, slice; number, two figures, the buffer (165 in each byte before)", writes::writes),
     (b'p', "put-ins: buffer's length, line, block's length, block, text; as of writes", edits::put_ins),
     (b'o', "cuts: buffer's length, line, block's length, block; as of writes", edits::cuts),
     (b'q', "stops: text; number, six figures", stops::stops),

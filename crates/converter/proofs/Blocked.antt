@@ -6,17 +6,20 @@ use Prim.Native.Nat.{ℕ, suc, _+_, _-_, _/_, _%_, _≤_, _<_}
 use native.Mathlib.Omega.{arith}
 use mathlib.Core.Path.{_≡_, refl, sym, ap, _∙_}
 use mathlib.Core.List.{List, [], _∷_, _++_, append-assoc, append-nil}
-use lib.ListN.{length, getD}
+use lib.ListN.{length, drop, getD}
 use lib.Dec.{ltb}
 use borrow.Author.Tests.{eq-eqb, ne-eqb}
 use Rattle.lists.specs.Pick.{pick}
 use Rattle.jkf.specs.Model.{Noted, Line}
-use Rattle.block.specs.Decode.{run, linesIn, firstEntry, entryCount, notedIn, lineIn, decode}
+use Rattle.block.specs.Decode.{run, linesIn, firstEntry, entryCount, lineIn, decode}
 use Rattle.block.proofs.Tabling.{length-run, run-first, run-more, run-next, run-end}
 use Rattle.converter.specs.Entries.{canWrite}
-use Rattle.converter.specs.Show.{leftOut, onObstacle, handObstacle, entryObstacle, lineObstacle, linesObstacle, shown}
-use Rattle.converter.specs.inner.Lines.{ShownLines}
+use Rattle.converter.specs.declared.Mode.{Mode}
+use Rattle.converter.specs.Said.{shown, saidLines, leftOut}
+use Rattle.converter.specs.Show.{onObstacle, handObstacle, entryObstacle, lineObstacle, zeroStart}
+use Rattle.converter.specs.inner.Lines.{notedSaid, lineSaid, ShownLines}
 use Rattle.converter.specs.declared.Obstacle.the-variants.{At, Clear}
+use Rattle.converter.proofs.Saying.{entries-said, lines-said, zero-none, zero-at}
 
 -- ---- hands
 
@@ -86,10 +89,12 @@ module _ (g : ℕ → Line) (n k : ℕ) where
   shown-none h = ap (λ (ls : List Line). run g 1 (k - 1) ++ ls) (ap shown (run-end g k n k h)) ∙ append-nil (run g 1 (k - 1))
 
 -- what is found in a line's entries, once its row is read
-pub found-is : (b : List ℕ) (k f n : ℕ) → f ≡ firstEntry b k → n ≡ entryCount b k
-    → entryObstacle k 0 (run (notedIn b) f n) ≡ entryObstacle k 0 (lineIn b k .entries)
-found-is b k f n e d =
-    ap (λ (j : ℕ). entryObstacle k 0 (run (notedIn b) j n)) e ∙ ap (λ (m : ℕ). entryObstacle k 0 (run (notedIn b) (firstEntry b k) m)) d
+pub found-is : (mode : Mode) (b : List ℕ) (k f n : ℕ) → f ≡ firstEntry b k → n ≡ entryCount b k
+    → entryObstacle k 0 (run (notedSaid mode b) f n) ≡ entryObstacle k 0 (lineSaid mode b k .entries)
+found-is mode b k f n e d =
+    ap (λ (j : ℕ). entryObstacle k 0 (run (notedSaid mode b) j n)) e
+    ∙ ap (λ (m : ℕ). entryObstacle k 0 (run (notedSaid mode b) (firstEntry b k) m)) d
+    ∙ ap (entryObstacle k 0) (sym (entries-said mode b k))
 
 -- before the first variation nothing is shown yet
 pub shown-first : (g : ℕ → Line) (n : ℕ) → shown (run g 1 (n - 1)) ≡ run g 1 (1 - 1) ++ shown (run g 1 (n - 1))
@@ -103,14 +108,17 @@ module _ {b : List ℕ} {n : ℕ} (v : ShownLines b n) where
   unfolding decode
   lines-are = run-first (lineIn b) 0 (linesIn b) (omega (arith, v .some, v .most))
 
-  pub lines-obstacle-is : linesObstacle (decode b .lines) ≡ lineObstacle 0 (run (lineIn b) 0 (n - 0))
-  unfolding linesObstacle
-  lines-obstacle-is =
+  pub lines-obstacle-is : (mode : Mode) → lineObstacle 0 (saidLines mode (decode b .lines)) ≡ lineObstacle 0 (run (lineSaid mode b) 0 (n - 0))
+  lines-obstacle-is mode =
       let z : n ≡ n - 0 = omega arith in
-      ap linesObstacle lines-are
-      ∙ ap (λ (ls : List Line). lineObstacle 0 (lineIn b 0 ∷ ls)) (v .later)
-      ∙ ap (lineObstacle 0) (sym (run-first (lineIn b) 0 n (v .some)))
-      ∙ ap (λ (m : ℕ). lineObstacle 0 (run (lineIn b) 0 m)) z
+      ap (lineObstacle 0) (lines-said mode b v ∙ ap (run (lineSaid mode b) 0) z)
+
+  -- no variation starts at 0, or the first line that is not shown does
+  pub lost-none : linesIn b ≤ n → zeroStart 1 (drop 1 (decode b .lines)) ≡ Clear
+  lost-none h = ap (λ (ls : List Line). zeroStart 1 (drop 1 ls)) lines-are ∙ zero-none v h
+
+  pub lost-some : n < linesIn b → zeroStart 1 (drop 1 (decode b .lines)) ≡ At n 0
+  lost-some h = ap (λ (ls : List Line). zeroStart 1 (drop 1 ls)) lines-are ∙ zero-at v h
 
   -- the lines after the n that are shown are left out
   pub left-out-is : leftOut (decode b .lines) ≡ linesIn b - n

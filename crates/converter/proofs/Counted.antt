@@ -2,27 +2,31 @@
 -- Assumes nothing.
 use Prim.Native.Nat.{ℕ, _+_, _-_, _≤_, _<_}
 use native.Mathlib.Omega.{arith}
-use mathlib.Core.Path.{_≡_, ap, _∙_}
-use mathlib.Core.List.{List, _∷_}
+use mathlib.Core.Path.{_≡_, refl, sym, ap, _∙_}
+use mathlib.Core.List.{List, _++_}
 use lib.ListN.{length, drop, length-append}
 use Rattle.lent.specs.Numbers.{decimal}
 use Rattle.block.specs.PositionBytes.{positionIn}
-use Rattle.jkf.specs.Model.{Noted, Line}
+use Rattle.jkf.specs.Model.{Noted}
 use Rattle.block.specs.Encode.{concat}
-use Rattle.block.specs.Decode.{run, linesIn, entryCount, commentLength, commentOf, notedIn, lineIn, decode}
+use Rattle.block.specs.Decode.{run, startOf, firstEntry, entryCount, commentLength, commentOf, notedIn, decode}
 use Rattle.block.specs.inner.Sounds.{Sound}
 use Rattle.block.specs.Sound.{entriesBefore}
 use Rattle.block.proofs.Sums.{sum-more}
-use Rattle.block.proofs.Within.{some-line, some-entry, first-none, comment-most}
-use Rattle.block.proofs.Tabling.{run-first, concat-none, concat-longer}
+use Rattle.block.proofs.Within.{comment-most}
+use Rattle.block.proofs.Tabling.{concat-none, concat-longer}
 use Rattle.converter.specs.Headers.{headersText}
 use Rattle.converter.specs.inner.Places.{storedHeaders}
 use Rattle.converter.specs.Diagrams.{positionText}
 use Rattle.converter.specs.Entries.{remarkText, remarksText, notedText, entriesText}
-use Rattle.converter.specs.Show.{mainText, variationHead, variationText, shown, linesText, recordText}
-use Rattle.converter.specs.inner.Lines.{ShownLines}
+use Rattle.converter.specs.declared.Mode.{Mode}
+use Rattle.converter.specs.Said.{saidLines, saidRecord}
+use Rattle.converter.specs.Show.{numberLine, mainText, variationHead, variationText, linesText, recordText}
+use Rattle.converter.specs.inner.Lines.{notedSaid, lineSaid, ShownLines}
 use Rattle.converter.proofs.Lengthy.{remark-most}
 use Rattle.converter.proofs.Runs.{remarks-none, remarks-more, entries-none, entries-more}
+use Rattle.converter.proofs.Playing.{variation-text, main-text, lines-text}
+use Rattle.converter.proofs.Showing.{record-is}
 
 -- ---- comments
 
@@ -72,23 +76,24 @@ module _ {X Y : Type 0} (part : X → List Y) (g : ℕ → X) where
 
 -- ---- lines
 
--- its head has 14 bytes and its start
-pub variation-parts : (l : Line) → length (variationText l) ≡ 14 + length (decimal (l .start)) + length (entriesText (l .start) (l .entries))
-unfolding variationText variationHead
-variation-parts l = simp length-append (omega arith)
+-- a head has 14 bytes and its start
+head-length : (start : ℕ) → length (variationHead start) ≡ 14 + length (decimal start)
+unfolding variationHead
+head-length start = simp length-append (omega arith)
 
--- the comments of the first entry, and the entries after it
-main-first : (l : Line) (e : Noted) (es : List Noted) → l .entries ≡ e ∷ es
-    → length (mainText l) ≡ length (remarksText (e .comments)) + length (entriesText 1 es)
-unfolding mainText
-main-first l e es p = rw p (length-append (remarksText (e .comments)) (entriesText 1 es))
+module _ (mode : Mode) (b : List ℕ) where
+  -- then come the entries
+  pub variation-parts : (k : ℕ)
+      → length (variationText (lineSaid mode b k)) ≡ 14 + length (decimal (startOf b k)) + length (entriesText (startOf b k) (run (notedSaid mode b) (firstEntry b k) (entryCount b k)))
+  variation-parts k =
+      let es = entriesText (startOf b k) (run (notedSaid mode b) (firstEntry b k) (entryCount b k)) in
+      omega (arith, ap length (variation-text mode b k refl refl refl), length-append (variationHead (startOf b k)) es, head-length (startOf b k))
 
--- line 0 of a sound block has its slot
-pub main-parts : (b : List ℕ) → Sound b
-    → length (mainText (lineIn b 0)) ≡ length (remarksText (notedIn b 0 .comments)) + length (entriesText 1 (run (notedIn b) 1 (entryCount b 0 - 1)))
-main-parts b s =
-    main-first (lineIn b 0) (notedIn b 0) (run (notedIn b) 1 (entryCount b 0 - 1))
-    (ap (λ (k : ℕ). run (notedIn b) k (entryCount b 0)) (first-none b s) ∙ run-first (notedIn b) 0 (entryCount b 0) (some-entry b s 0 (some-line b s)))
+  -- line 0 of a sound block has its slot
+  pub main-parts : Sound b
+      → length (mainText (lineSaid mode b 0)) ≡ length (remarksText (notedIn b 0 .comments)) + length (entriesText 1 (run (notedSaid mode b) 1 (entryCount b 0 - 1)))
+  main-parts s =
+      sym (ap length (main-text mode b s refl)) ∙ length-append (remarksText (notedIn b 0 .comments)) (entriesText 1 (run (notedSaid mode b) 1 (entryCount b 0 - 1)))
 
 -- one line more
 pub entries-after : (b : List ℕ) (k : ℕ) → entriesBefore b (k + 1) ≡ entriesBefore b k + entryCount b k
@@ -96,18 +101,21 @@ entries-after b k = sum-more (λ k. entryCount b k) k
 
 -- ---- the whole
 
--- the 手数 line has 40 bytes
-lines-parts : (l : Line) (ls : List Line) → length (linesText (l ∷ ls)) ≡ 40 + length (mainText l) + length (concat variationText (shown ls))
-unfolding linesText
-lines-parts l ls = simp length-append (omega arith)
-
--- of a block of which n lines are shown
-pub record-parts : (b : List ℕ) (n : ℕ) → ShownLines b n
-    → length (recordText (decode b))
-    ≡ length (headersText (storedHeaders b)) + length (positionText (positionIn (drop 28 b))) + 40 + length (mainText (lineIn b 0)) + length (concat variationText (run (lineIn b) 1 (n - 1)))
-unfolding recordText decode
-record-parts b n s =
-    let l = run (lineIn b) 1 (linesIn b - 1) in
-    let e = ap (λ ls. length (linesText ls)) (run-first (lineIn b) 0 (linesIn b) (some-line b (s .sound))) in
-    let f = ap (λ ls. length (concat variationText ls)) (s .later) in
-    simp length-append (omega (arith, lines-parts (lineIn b 0) l))
+-- of a block of which n lines are shown; the 手数 line has 40 bytes
+pub record-parts : (mode : Mode) (b : List ℕ) (n : ℕ) → ShownLines b n
+    → length (recordText (saidRecord mode (decode b)))
+    ≡ length (headersText (storedHeaders b)) + length (positionText (positionIn (drop 28 b))) + 40 + length (mainText (lineSaid mode b 0)) + length (concat variationText (run (lineSaid mode b) 1 (n - 1)))
+record-parts mode b n s =
+    let m = mainText (lineSaid mode b 0) in
+    let v = concat variationText (run (lineSaid mode b) 1 (n - 1)) in
+    let h = headersText (storedHeaders b) in
+    let p = positionText (positionIn (drop 28 b)) in
+    omega (
+      arith,
+      ap length (record-is mode b),
+      length-append (h ++ p) (linesText (saidLines mode (decode b .lines))),
+      length-append h p,
+      ap length (lines-text mode b s),
+      length-append (numberLine ++ m) v,
+      length-append numberLine m,
+    )

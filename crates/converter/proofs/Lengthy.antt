@@ -17,6 +17,7 @@ use Rattle.spell.specs.Spell.{spelled}
 use Rattle.spell.proofs.Codes.{digit-unspelled}
 use Rattle.jkf.specs.Entries.{specialNumber, specialOf, timeOf}
 use Rattle.jkf.specs.declared.Clock.{Clock}
+use Rattle.jkf.specs.declared.Clock.the-variants.{Hms, Ms}
 use Rattle.jkf.specs.declared.Special.{Special}
 use Rattle.jkf.specs.declared.Time.{Time}
 use Rattle.jkf.specs.declared.Time.the-variants.{Untimed, Timed}
@@ -28,7 +29,7 @@ use Rattle.jkf.specs.declared.Move.{Move}
 use Rattle.jkf.specs.declared.Entry.{Entry}
 use Rattle.jkf.specs.declared.Entry.the-variants.{Slot, Moved, End}
 use Rattle.block.proofs.EntriesBack.{special-back}
-use Rattle.converter.specs.Entries.{targetText, promoteText, originText, moveText, specialText, hour, minute, second, nowText, totalText, timeText, playText, widthOf, entryLine, starText, remarkText, within}
+use Rattle.converter.specs.Entries.{targetText, promoteText, originText, moveText, specialText, clockText, timeText, playText, widthOf, entryLine, starText, remarkText, within}
 
 -- ---- numbers
 
@@ -152,10 +153,15 @@ pub promote-three : (p : ℕ) → p ≡ 2 → 3 ≡ length (promoteText p)
 unfolding promoteText
 promote-three p e = rw e
 
--- no other is written
-pub promote-none : (p : ℕ) → (p ≡ 2 → ⊥) → 0 ≡ length (promoteText p)
+-- 不成
+pub promote-six : (p : ℕ) → p ≡ 1 → 6 ≡ length (promoteText p)
 unfolding promoteText
-promote-none p h = simp (ne-eqb p 2 h)
+promote-six p e = rw e
+
+-- no other is written
+pub promote-none : (p : ℕ) → (p ≡ 2 → ⊥) → (p ≡ 1 → ⊥) → 0 ≡ length (promoteText p)
+unfolding promoteText
+promote-none p h k = simp (ne-eqb p 2 h, ne-eqb p 1 k)
 
 -- 打
 pub unknown-length : {o : Origin} → o ≡ Unknown → 3 ≡ length (originText o)
@@ -173,25 +179,35 @@ pub move-length : (m : Move)
 unfolding moveText
 move-length m = simp length-append
 
--- what a move took has two numbers
-pub now-parts : (c : Clock) → length (nowText c) ≡ 3 + length (padded 2 32 (minute c)) + length (padded 2 48 (second c))
-unfolding nowText
-now-parts c = simp length-append (omega arith)
+-- a clock without an hour has two numbers
+pub ms-parts : (fill after m s : ℕ) → length (clockText fill after (Ms m s)) ≡ 2 + length (padded 2 fill m) + length (padded 2 48 s)
+unfolding clockText
+ms-parts fill after m s = simp length-append (omega arith)
 
--- what all moves took has three
-pub total-parts : (c : Clock)
-    → length (totalText c) ≡ 3 + length (padded 2 48 (hour c)) + length (padded 2 48 (minute c)) + length (padded 2 48 (second c))
-unfolding totalText
-total-parts c = simp length-append (omega arith)
+-- one with an hour has three
+pub hms-parts : (fill after h m s : ℕ)
+    → length (clockText fill after (Hms h m s)) ≡ 3 + length (padded 2 fill h) + length (padded 2 48 m) + length (padded 2 48 s)
+unfolding clockText
+hms-parts fill after h m s = simp length-append (omega arith)
+
+-- so it is as long as its figures and what stands behind each
+pub ms-length : (fill after m s : ℕ) {c : Clock} {a b : ℕ} → c ≡ Ms m s → a ≡ length (padded 2 fill m) → b ≡ length (padded 2 48 s)
+    → 2 + a + b ≡ length (clockText fill after c)
+ms-length fill after m s e f g = rw e (omega (arith, ms-parts fill after m s))
+
+-- with its hour too
+pub hms-length : (fill after h m s : ℕ) {c : Clock} {a b d : ℕ} → c ≡ Hms h m s → a ≡ length (padded 2 fill h) → b ≡ length (padded 2 48 m) → d ≡ length (padded 2 48 s)
+    → 3 + a + b + d ≡ length (clockText fill after c)
+hms-length fill after h m s e f g k = rw e (omega (arith, hms-parts fill after h m s))
 
 -- no time is nothing
 pub untimed-length : {t : Time} (width : ℕ) → t ≡ Untimed → 0 ≡ length (timeText width t)
 unfolding timeText
 untimed-length width e = rw e
 
--- a time is its padding and its two clocks
+-- a time is its padding, a bracket and its two clocks
 pub timed-length : {t : Time} {now total : Clock} (width : ℕ) → t ≡ Timed now total
-    → length (timeText width t) ≡ 13 - width + length (nowText now) + length (totalText total)
+    → length (timeText width t) ≡ 13 - width + 1 + length (clockText 32 47 now) + length (clockText 48 41 total)
 unfolding timeText
 timed-length width e = rw e (simp (length-append, length-replicate))
 

@@ -7,9 +7,10 @@ pub mod Measuring
 pub mod Cased
 pub mod Bounded
 pub mod Worded
+pub mod Saying
+pub mod Showing
 pub mod Playing
 pub mod Lengthy
 pub mod Usually
 pub mod Counted
 pub mod Blocked
-pub mod Showing

@@ -6,7 +6,7 @@ use native.Mathlib.Decide.{decLt, ℕ-discrete}
 use mathlib.Core.Path.{_≡_, refl, sym, ap, ap₂, subst, _∙_}
 use mathlib.Core.List.{List, [], _∷_, _++_, append-assoc, append-nil}
 use mathlib.Core.Bool.{Bool, true, false, true≢false}
-use lib.ListN.{length, getD, replicate}
+use lib.ListN.{length, getD, replicate, length-append, length-replicate}
 use lib.Dec.{eqb, leb, ltb}
 use borrow.Author.Tests.{ne-eqb, lt-ltb, le-ltb, eqb-true, eqb-false, ltb-false, le-leb, lt-leb, leb-true}
 use Rattle.lists.specs.Pick.{pick}
@@ -21,16 +21,22 @@ use Rattle.spell.proofs.Codes.{bytes-key, numeral-bytes, kind-bytes}
 use Rattle.spell.proofs.Written.{file-bytes, promoted-bytes}
 use Rattle.block.specs.EntryBytes.{marked, clockOf, timeIn, targetIn, originIn, moveIn, entryIn}
 use Rattle.jkf.specs.declared.Clock.the-variants.{Hms, Ms}
+use Rattle.jkf.specs.declared.Time.{Time}
 use Rattle.jkf.specs.declared.Time.the-variants.{Untimed, Timed}
+use Rattle.jkf.specs.declared.Move.{Move}
 use Rattle.jkf.specs.declared.Target.the-variants.{Same, Square}
 use Rattle.jkf.specs.declared.Origin.the-variants.{Unknown, From}
 use Rattle.jkf.specs.declared.Entry.{Entry}
 use Rattle.jkf.specs.declared.Entry.the-variants.{Moved}
-use Rattle.spell.specs.Words.{sameWord, promotes}
-use Rattle.converter.specs.Entries.{targetText, promoteText, originText, moveText, moveWidth, nowText, totalText, timeText, playText, widthOf, entryLine, timePadding, within, targetOnBoard, timeHasRoom, canWrite}
-use Rattle.converter.specs.inner.Usuals.{UsualRow, isLong, spaced, startText, nameText, clocksText}
+use Rattle.spell.specs.Words.{sameWord, promotes, declines}
+use Rattle.converter.specs.Entries.{targetText, promoteText, originText, moveText, moveWidth, clockText, timeText, playText, widthOf, entryLine, timePadding, within, targetOnBoard, timeHasRoom, canWrite}
+use Rattle.converter.specs.declared.Mode.{Mode}
+use Rattle.converter.specs.declared.Mode.the-variants.{Plain, Whole, Shared}
+use Rattle.converter.specs.Said.{asDrop, saidMark, saidOrigin, saidTime, saidMove, saidEntry}
+use Rattle.converter.specs.inner.Usuals.{UsualRow, SaidSo, promotedText, isLong, spaced, startText, nameText, clocksText, usualLine}
+use Rattle.converter.proofs.Saying.{mark-promotes, usual-time}
 use Rattle.lent.proofs.Room.{room-front, room-as}
-use Rattle.converter.proofs.Lengthy.{padded-wide, figure-two, place-three, kind-plain, kind-long, same-length, square-length, promote-three, promote-none, from-length, move-length, now-parts, total-parts, timed-length, entry-parts}
+use Rattle.converter.proofs.Lengthy.{padded-wide, figure-two, place-three, kind-plain, kind-long, same-length, square-length, from-length, ms-parts, hms-parts}
 
 -- ---- numbers
 
@@ -93,6 +99,12 @@ places v h = go (decLt v 10) (decLt v 100)
         let e : 48 + v / 10 / 10 ≡ 48 + v / 100 % 10 = omega arith in
         padded-as 4 32 v (decimal-three v k h) ∙ rw (le-ltb v 10 g, le-ltb v 100 k) (ap (λ (d : ℕ). 32 ∷ d ∷ (48 + v / 10 % 10) ∷ (48 + v % 10) ∷ []) e)
 
+-- the line of a move, by its text, its width and its time
+line-by : (ply : ℕ) (m : Move) {t : List ℕ} {w : ℕ} {c : Time} → moveText m ≡ t → moveWidth m ≡ w → m .time ≡ c
+    → entryLine ply (Moved m) ≡ (((padded 4 32 ply ++ (32 ∷ [])) ++ t) ++ timeText w c) ++ (10 ∷ [])
+unfolding entryLine playText widthOf
+line-by ply m e f g = rw (e, f, g)
+
 -- ---- what the row says
 
 -- two tests that failed, taken apart
@@ -107,6 +119,31 @@ within-is x (h, k) = rw (le-leb 1 x h, le-leb x 9 k)
 -- and back
 pub within-of : {x : ℕ} → within x ≡ true → (1 ≤ x) × (x ≤ 9)
 within-of {x} t = let (p, q) = pick-both (leb 1 x) (leb x 9) t in (leb-true 1 x p, leb-true x 9 q)
+
+-- the plain text says every row so
+pub plain-so : (row : List ℕ) → SaidSo Plain row
+unfolding saidMark saidOrigin promoteText
+plain-so row = record { mark = go (eqb (getD row 3 0) 1) refl; origin = refl }
+  where
+    go : (t : Bool) → eqb (getD row 3 0) 1 ≡ t
+        → pick (eqb (pick t 0 (getD row 3 0)) 2) promotes (pick (eqb (pick t 0 (getD row 3 0)) 1) declines []) ≡ pick (eqb (getD row 3 0) 2) promotes []
+    go true e = rw (eqb-true (getD row 3 0) 1 e)
+    go false e = rw e
+
+-- without 不成 there is only 成 to say
+mark-so : (p : ℕ) → (p ≡ 1 → ⊥) → promoteText p ≡ pick (eqb p 2) promotes []
+unfolding promoteText
+mark-so p n = rw (ne-eqb p 1 n)
+
+-- the others say one without it so
+pub whole-so : (row : List ℕ) → (getD row 3 0 ≡ 1 → ⊥) → SaidSo Whole row
+unfolding saidMark saidOrigin
+whole-so row n = record { mark = mark-so (getD row 3 0) n; origin = refl }
+
+-- where the origin is no drop's
+pub shared-so : (row : List ℕ) → (getD row 3 0 ≡ 1 → ⊥) → (getD row 6 0 ≡ 0 → ⊥) → SaidSo Shared row
+unfolding saidMark saidOrigin asDrop
+shared-so row n o = record { mark = mark-so (getD row 3 0) n; origin = rw (ne-eqb (getD row 6 0) 0 o) }
 
 -- the two characters of the target
 abbrev pub fileText : List ℕ → List ℕ
@@ -215,8 +252,6 @@ module _ (row : List ℕ) (u : UsualRow row) where
       go true e = omega (arith, width-long e)
       go false e = omega (arith, width-short e)
 
-  -- ---- it can be written
-
   -- its target is 同 or a square of the board
   target-fits : targetOnBoard (targetIn row) ≡ true
   target-fits = go (ℕ-discrete (getD row 8 0) 23)
@@ -224,15 +259,6 @@ module _ (row : List ℕ) (u : UsualRow row) where
       go : Dec (getD row 8 0 ≡ 23) → targetOnBoard (targetIn row) ≡ true
       go (yes e) = rw (same-is e)
       go (no n) = let s = u .target n in rw (square-is n, within-is (getD row 4 0) (s .file), within-is (getD row 5 0) (s .rank))
-
-  -- its time has room
-  time-fits : timeHasRoom (moveWidth (moveIn row)) (timeIn row) ≡ true
-  time-fits = rw time-is (le-leb (moveWidth (moveIn row)) 13 width-most)
-
-  -- so it can be written
-  pub usual-fits : true ≡ canWrite (entryIn row)
-  unfolding canWrite moveIn
-  usual-fits = sym (rw (play-is, target-fits) time-fits)
 
   -- ---- how long it is
 
@@ -246,80 +272,108 @@ module _ (row : List ℕ) (u : UsualRow row) where
           let s = u .target n in
           omega (arith, square-length (square-is n), place-three (getD row 4 0) (within-is (getD row 4 0) (s .file)) .0, place-three (getD row 5 0) (within-is (getD row 5 0) (s .rank)) .1)
 
-  -- its clocks have 16 bytes
-  time-sixteen : (width : ℕ) → length (timeText width (timeIn row)) ≡ 13 - width + 16
-  time-sixteen width =
+  -- the ply, a space and the target
+  start-length : (ply : ℕ) → ply < 1000 → length (startText ply row) ≡ 11
+  unfolding startText
+  start-length ply h =
+      omega (
+        arith,
+        length-append (padded 4 32 ply ++ (32 ∷ [])) (targetText (targetIn row)),
+        length-append (padded 4 32 ply) (32 ∷ []),
+        padded-wide 4 ply (omega (arith, digits-three ply h)) 32,
+        target-six,
+      )
+
+  -- the kind, 成, the origin and the padding
+  name-length : length (nameText row) ≡ 4 + length (spelled moveKinds (getD row 2 0)) + length (promotedText row) + (13 - moveWidth (moveIn row))
+  unfolding nameText
+  name-length =
+      let x = getD row 6 0 in
+      let y = getD row 7 0 in
+      let k = spelled moveKinds (getD row 2 0) in
+      let o = originText (originIn row) in
+      omega (
+        arith,
+        length-append ((k ++ promotedText row) ++ o) (timePadding (moveWidth (moveIn row))),
+        length-append (k ++ promotedText row) o,
+        length-append k (promotedText row),
+        length-replicate {A = ℕ} (13 - moveWidth (moveIn row)) 32,
+        from-length origin-is,
+        decimal-length-one x (omega (arith, u .origin .0)),
+        decimal-length-one y (omega (arith, u .origin .1)),
+      )
+
+  -- the brackets, two clocks and LF
+  clocks-length : length (clocksText row) ≡ 17
+  unfolding clocksText
+  clocks-length =
       let c = u .clocks in
       let m = getD row 10 0 in
       let s = getD row 11 0 in
       let h = getD row 12 0 in
       let n = getD row 13 0 in
       let z = getD row 14 0 in
+      let a = clockText 32 47 (Ms m s) in
+      let b = clockText 48 41 (Hms h n z) in
       omega (
         arith,
-        timed-length width time-is,
-        now-parts (Ms m s),
+        length-append (((40 ∷ []) ++ a) ++ b) (10 ∷ []),
+        length-append ((40 ∷ []) ++ a) b,
+        ms-parts 32 47 m s,
         figure-two m (omega arith) 32,
         figure-two s (omega arith) 48,
-        total-parts (Hms h n z),
+        hms-parts 48 41 h n z,
         figure-two h (omega arith) 48,
         figure-two n (omega arith) 48,
         figure-two z (omega arith) 48,
       )
 
-  -- all but the kind, its promotion and the timePadding
+  -- together
   usual-parts : (ply : ℕ) → ply < 1000
-      → length (entryLine ply (entryIn row))
-      ≡ 32 + length (spelled moveKinds (getD row 2 0)) + length (promoteText (getD row 3 0)) + (13 - moveWidth (moveIn row))
-  unfolding playText widthOf moveIn
+      → length (usualLine ply row) ≡ 32 + length (spelled moveKinds (getD row 2 0)) + length (promotedText row) + (13 - moveWidth (moveIn row))
   usual-parts ply h =
-      let x = getD row 6 0 in
-      let y = getD row 7 0 in
       omega (
         arith,
-        ap (λ (e : Entry). length (entryLine ply e)) play-is,
-        entry-parts ply (Moved (moveIn row)),
-        padded-wide 4 ply (omega (arith, digits-three ply h)) 32,
-        move-length (moveIn row),
-        target-six,
-        from-length origin-is,
-        decimal-length-one x (omega (arith, u .origin .0)),
-        decimal-length-one y (omega (arith, u .origin .1)),
-        time-sixteen (moveWidth (moveIn row)),
+        length-append (startText ply row ++ nameText row) (clocksText row),
+        length-append (startText ply row) (nameText row),
+        start-length ply h,
+        name-length,
+        clocks-length,
       )
 
+  -- 成 is written
+  promoted-some : getD row 3 0 ≡ 2 → 3 ≡ length (promotedText row)
+  promoted-some e = rw e
+
+  -- or nothing
+  promoted-none : (getD row 3 0 ≡ 2 → ⊥) → 0 ≡ length (promotedText row)
+  promoted-none n = simp (ne-eqb (getD row 3 0) 2 n)
+
   -- with a name of one character
-  pub usual-short : isLong row ≡ false → (ply : ℕ) → ply < 1000 → 38 ≡ length (entryLine ply (entryIn row))
+  pub usual-short : isLong row ≡ false → (ply : ℕ) → ply < 1000 → 38 ≡ length (usualLine ply row)
   usual-short e ply h =
       let (l, n) = short-is e in
-      omega (arith, usual-parts ply h, width-short e, kind-plain (getD row 2 0) (u .name .kind) (omega arith), promote-none (getD row 3 0) n)
+      omega (arith, usual-parts ply h, width-short e, kind-plain (getD row 2 0) (u .name .kind) (omega arith), promoted-none n)
 
   -- with a name of two
-  pub usual-long : isLong row ≡ true → (ply : ℕ) → ply < 1000 → 39 ≡ length (entryLine ply (entryIn row))
+  pub usual-long : isLong row ≡ true → (ply : ℕ) → ply < 1000 → 39 ≡ length (usualLine ply row)
   usual-long e ply h = go (decLt 9 (getD row 2 0))
     where
-      go : Dec (9 < getD row 2 0) → 39 ≡ length (entryLine ply (entryIn row))
+      go : Dec (9 < getD row 2 0) → 39 ≡ length (usualLine ply row)
       go (yes g) =
           let (m, n) = u .name .long g in
-          omega (arith, usual-parts ply h, width-long e, kind-long (getD row 2 0) g (omega arith), promote-none (getD row 3 0) n)
+          omega (arith, usual-parts ply h, width-long e, kind-long (getD row 2 0) g (omega arith), promoted-none n)
       go (no g) =
           let l : getD row 2 0 ≤ 9 = omega arith in
-          omega (arith, usual-parts ply h, width-long e, kind-plain (getD row 2 0) (u .name .kind) (omega arith), promote-three (getD row 3 0) (long-is e l))
+          omega (arith, usual-parts ply h, width-long e, kind-plain (getD row 2 0) (u .name .kind) (omega arith), promoted-some (long-is e l))
 
   -- ---- its pieces
 
-  -- the line is three
-  pub usual-line : (ply : ℕ) → entryLine ply (entryIn row) ≡ (startText ply row ++ nameText row) ++ clocksText row
-  unfolding entryLine startText nameText clocksText playText moveText timeText widthOf moveIn
-  usual-line ply = rw (play-is, time-is) (simp append-assoc)
-
-  -- where it fits they do
-  pub usual-room : (ply : ℕ) {n : ℕ} → length (entryLine ply (entryIn row)) ≤ n
-      → (length (startText ply row) ≤ n) × (length (startText ply row ++ nameText row) ≤ n) × (length ((startText ply row ++ nameText row) ++ clocksText row) ≤ n)
-  usual-room ply h =
-      let z = room-as (sym (usual-line ply)) h in
+  -- where the line fits they do
+  pub usual-room : (ply : ℕ) {n : ℕ} → length (usualLine ply row) ≤ n → (length (startText ply row) ≤ n) × (length (startText ply row ++ nameText row) ≤ n)
+  usual-room ply z =
       let y = room-front (startText ply row ++ nameText row) (clocksText row) z in
-      (room-front (startText ply row) (nameText row) y, y, z)
+      (room-front (startText ply row) (nameText row) y, y)
 
   -- 同 in the file's place
   pub file-same : {k : ℕ} → getD row 8 0 ≡ 23 → k ≡ 15044748 → bytesOf k ≡ fileText row
@@ -365,16 +419,15 @@ module _ (row : List ℕ) (u : UsualRow row) where
   origin-text = let (h, k) = u .origin in sym (rw (origin-is, decimal-one (getD row 6 0) (omega arith), decimal-one (getD row 7 0) (omega arith)))
 
   -- a name, the origin and the timePadding
-  name-text : {t : List ℕ} {n : ℕ} → t ≡ spelled moveKinds (getD row 2 0) ++ promoteText (getD row 3 0) → n ≡ moveWidth (moveIn row)
+  name-text : {t : List ℕ} {n : ℕ} → t ≡ spelled moveKinds (getD row 2 0) ++ promotedText row → n ≡ moveWidth (moveIn row)
       → (t ++ (40 ∷ (48 + getD row 6 0) ∷ (48 + getD row 7 0) ∷ 41 ∷ [])) ++ timePadding n ≡ nameText row
   unfolding nameText
   name-text {n = n} e w =
       ap₂ (λ (t o : List ℕ). (t ++ o) ++ timePadding n) e origin-text
-      ∙ ap (λ (i : ℕ). ((spelled moveKinds (getD row 2 0) ++ promoteText (getD row 3 0)) ++ originText (originIn row)) ++ timePadding i) w
+      ∙ ap (λ (i : ℕ). ((spelled moveKinds (getD row 2 0) ++ promotedText row) ++ originText (originIn row)) ++ timePadding i) w
 
   -- a kind that does not promote stands alone
-  not-promoted : (getD row 3 0 ≡ 2 → ⊥) → spelled moveKinds (getD row 2 0) ++ promoteText (getD row 3 0) ≡ spelled moveKinds (getD row 2 0)
-  unfolding promoteText
+  not-promoted : (getD row 3 0 ≡ 2 → ⊥) → spelled moveKinds (getD row 2 0) ++ promotedText row ≡ spelled moveKinds (getD row 2 0)
   not-promoted n = rw (ne-eqb (getD row 3 0) 2 n) (append-nil (spelled moveKinds (getD row 2 0)))
 
   -- a name of one character
@@ -401,11 +454,10 @@ module _ (row : List ℕ) (u : UsualRow row) where
   second-promoted h e = ap bytesOf e ∙ rw (le-ltb 9 (getD row 2 0) h)
 
   -- the two are the kind and its promotion
-  long-word : isLong row ≡ true → firstText row ++ secondText row ≡ spelled moveKinds (getD row 2 0) ++ promoteText (getD row 3 0)
-  unfolding promoteText
+  long-word : isLong row ≡ true → firstText row ++ secondText row ≡ spelled moveKinds (getD row 2 0) ++ promotedText row
   long-word e = go (decLt 9 (getD row 2 0))
     where
-      go : Dec (9 < getD row 2 0) → firstText row ++ secondText row ≡ spelled moveKinds (getD row 2 0) ++ promoteText (getD row 3 0)
+      go : Dec (9 < getD row 2 0) → firstText row ++ secondText row ≡ spelled moveKinds (getD row 2 0) ++ promotedText row
       go (yes h) = let (m, n) = u .name .long h in rw (lt-ltb 9 (getD row 2 0) h) (sym (not-promoted n ∙ promoted-bytes (getD row 2 0) h m))
       go (no h) = let l : getD row 2 0 ≤ 9 = omega arith in rw (le-ltb 9 (getD row 2 0) l, long-is e l)
 
@@ -419,7 +471,52 @@ module _ (row : List ℕ) (u : UsualRow row) where
       → 40 ∷ b ∷ (48 + getD row 10 0 % 10) ∷ 58 ∷ (48 + getD row 11 0 / 10) ∷ (48 + getD row 11 0 % 10) ∷ 47
       ∷ (48 + getD row 12 0 / 10) ∷ (48 + getD row 12 0 % 10) ∷ 58 ∷ (48 + getD row 13 0 / 10) ∷ (48 + getD row 13 0 % 10) ∷ 58
       ∷ (48 + getD row 14 0 / 10) ∷ (48 + getD row 14 0 % 10) ∷ 41 ∷ 10 ∷ [] ≡ clocksText row
-  unfolding clocksText nowText totalText
+  unfolding clocksText clockText
   clocks-text e =
       let c = u .clocks in
       sym (rw (tens 32 (getD row 10 0) (omega arith), zeros (getD row 11 0) (omega arith), zeros (getD row 12 0) (omega arith), zeros (getD row 13 0) (omega arith), zeros (getD row 14 0) (omega arith), e))
+
+  -- ---- what a mode says of it
+
+  module _ {mode : Mode} (v : SaidSo mode row) where
+    -- a move
+    said-is : saidEntry mode (entryIn row) ≡ Moved (saidMove mode (moveIn row))
+    unfolding saidEntry
+    said-is = rw play-is
+
+    -- with its time as it is
+    said-time : saidTime mode (timeIn row) ≡ Timed (Ms (getD row 10 0) (getD row 11 0)) (Hms (getD row 12 0) (getD row 13 0) (getD row 14 0))
+    said-time = ap (saidTime mode) time-is ∙ usual-time mode (getD row 10 0) (getD row 11 0) (getD row 12 0) (getD row 13 0) (getD row 14 0)
+
+    -- and its origin in brackets
+    said-origin : saidOrigin mode (originIn row) ≡ originIn row
+    said-origin = ap (saidOrigin mode) origin-is ∙ v .origin ∙ sym origin-is
+
+    -- so as wide as it is
+    said-width : moveWidth (saidMove mode (moveIn row)) ≡ moveWidth (moveIn row)
+    unfolding moveWidth moveIn saidMove
+    said-width = rw (said-origin, mark-promotes mode (getD row 3 0))
+
+    -- there is room for its time
+    time-fits : timeHasRoom (moveWidth (saidMove mode (moveIn row))) (saidTime mode (timeIn row)) ≡ true
+    time-fits = rw (said-time, said-width) (le-leb (moveWidth (moveIn row)) 13 width-most)
+
+    -- so it can be written
+    pub usual-fits : true ≡ canWrite (saidEntry mode (entryIn row))
+    unfolding canWrite saidMove moveIn
+    usual-fits = sym (rw (said-is, target-fits) time-fits)
+
+    -- its time is the one of the row
+    said-clocks : saidMove mode (moveIn row) .time ≡ Timed (Ms (getD row 10 0) (getD row 11 0)) (Hms (getD row 12 0) (getD row 13 0) (getD row 14 0))
+    unfolding saidMove moveIn
+    said-clocks = said-time
+
+    -- and its text the target, the name and the origin
+    said-text : moveText (saidMove mode (moveIn row)) ≡ ((targetText (targetIn row) ++ spelled moveKinds (getD row 2 0)) ++ promotedText row) ++ originText (originIn row)
+    unfolding moveText saidMove moveIn
+    said-text = ap₂ (λ (t o : List ℕ). ((targetText (targetIn row) ++ spelled moveKinds (getD row 2 0)) ++ t) ++ o) (v .mark) (ap originText said-origin)
+
+    -- so its line is the three pieces
+    pub usual-line : (ply : ℕ) → entryLine ply (saidEntry mode (entryIn row)) ≡ usualLine ply row
+    unfolding startText nameText clocksText timeText
+    usual-line ply = ap (entryLine ply) said-is ∙ line-by ply (saidMove mode (moveIn row)) said-text said-width said-clocks ∙ simp append-assoc

@@ -18,12 +18,13 @@ use Rattle.spell.specs.Spell.{spelled}
 use Rattle.jkf.specs.Entries.{specialOf, timeOf}
 use Rattle.jkf.proofs.Specials.{special-past}
 use Rattle.jkf.specs.declared.Clock.{Clock}
+use Rattle.jkf.specs.declared.Clock.the-variants.{Hms, Ms}
 use Rattle.jkf.specs.declared.Origin.{Origin}
 use Rattle.jkf.specs.declared.Origin.the-variants.{Unknown, From}
 use Rattle.jkf.specs.declared.Move.{Move}
 use Rattle.jkf.specs.declared.Entry.{Entry}
 use Rattle.text.specs.Text.{same}
-use Rattle.converter.specs.Entries.{targetText, promoteText, originText, moveText, kindWidth, promoteWidth, originWidth, specialText, specialWidth, hour, minute, second, figureText, nowText, totalText, timeText, playText, widthOf, entryLine}
+use Rattle.converter.specs.Entries.{targetText, promoteText, originText, moveText, kindWidth, promoteWidth, originWidth, specialText, specialWidth, figureText, clockText, timeText, playText, widthOf, entryLine}
 use Rattle.lent.proofs.Room.{room-front}
 
 -- ---- room
@@ -45,23 +46,22 @@ pub move-room : (m : Move) {n : ℕ} → length (moveText m) ≤ n → (length (
 unfolding moveText
 move-room m h = four (targetText (m .to)) (spelled moveKinds (m .piece)) (promoteText (m .promote)) (originText (m .from)) h
 
--- the fronts of what a move took
-pub now-room : (c : Clock) {n : ℕ} → length (nowText c) ≤ n → (1 ≤ n) × (length ((40 ∷ []) ++ figureText 32 58 (minute c)) ≤ n)
-unfolding nowText
-now-room c h = three (40 ∷ []) (figureText 32 58 (minute c)) (figureText 48 47 (second c)) h
+-- the front of a clock without an hour
+pub ms-room : (fill after m s : ℕ) {n : ℕ} → length (clockText fill after (Ms m s)) ≤ n → length (figureText fill 58 m) ≤ n
+unfolding clockText
+ms-room fill after m s h = room-front (figureText fill 58 m) (figureText 48 after s) h
 
--- the fronts of a total
-pub total-room : (c : Clock) {n : ℕ} → length (totalText c) ≤ n → (length (figureText 48 58 (hour c)) ≤ n) × (length (figureText 48 58 (hour c) ++ figureText 48 58 (minute c)) ≤ n)
-unfolding totalText
-total-room c h = three (figureText 48 58 (hour c)) (figureText 48 58 (minute c)) (figureText 48 41 (second c)) h
+-- the fronts of one with an hour
+pub hms-room : (fill after h m s : ℕ) {n : ℕ} → length (clockText fill after (Hms h m s)) ≤ n
+    → (length (figureText fill 58 h) ≤ n) × (length (figureText fill 58 h ++ figureText 48 58 m) ≤ n)
+unfolding clockText
+hms-room fill after h m s r = three (figureText fill 58 h) (figureText 48 58 m) (figureText 48 after s) r
 
 -- the fronts of an entry's line
 pub line-room : (ply : ℕ) (e : Entry) {n : ℕ} → length (entryLine ply e) ≤ n
     → (length (padded 4 32 ply ++ (32 ∷ [])) ≤ n) × (length ((padded 4 32 ply ++ (32 ∷ [])) ++ playText e) ≤ n) × (length (((padded 4 32 ply ++ (32 ∷ [])) ++ playText e) ++ timeText (widthOf e) (timeOf e)) ≤ n)
 unfolding entryLine
 line-room ply e h = four (padded 4 32 ply ++ (32 ∷ [])) (playText e) (timeText (widthOf e) (timeOf e)) (10 ∷ []) h
-
--- ---- one piece after another
 
 -- ---- widths
 

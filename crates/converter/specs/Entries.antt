@@ -1,4 +1,5 @@
--- The entries of a line as they are written.                                                          (01, Writing; Numbers of refusal: width)
+-- The entries of a line as they are written: all that is said of them here; what is said of an entry depends on the mode (Said.antt).
+-- (01, Writing; Numbers of refusal: width)
 -- Assumes nothing: these are definitions.
 use Prim.Native.Nat.{ℕ, _+_, _*_, _-_, _/_}
 use mathlib.Core.List.{List, [], _∷_, _++_}
@@ -25,7 +26,7 @@ use Rattle.jkf.specs.declared.Entry.{Entry}
 use Rattle.jkf.specs.declared.Entry.the-variants.{Slot, Moved, End}
 use Rattle.jkf.specs.Model.{Noted}
 use Rattle.block.specs.Encode.{concat}
-use Rattle.spell.specs.Words.{sameWord, promotes, drops}
+use Rattle.spell.specs.Words.{sameWord, promotes, declines, drops}
 
 -- ---- a move
 
@@ -34,9 +35,9 @@ unfoldable pub targetText : Target → List ℕ
 targetText Same = sameWord ++ wideSpace
 targetText (Square x y) = spelled files x ++ spelled numerals y
 
--- 成 alone is written; 不成 is not.                                                                   (01, Writing: what is lost)
+-- 成 or 不成, or neither.                                                                             (01, The block: promote; 02, xi)
 unfoldable pub promoteText : ℕ → List ℕ
-promoteText promote = pick (eqb promote 2) promotes []
+promoteText promote = pick (eqb promote 2) promotes (pick (eqb promote 1) declines [])
 
 -- Two numbers in brackets, or 打 where the origin is not known.
 unfoldable pub originText : Origin → List ℕ
@@ -52,6 +53,7 @@ moveText m = ((targetText (m .to) ++ spelled moveKinds (m .piece)) ++ promoteTex
 abbrev pub kindWidth : ℕ → ℕ
 kindWidth kind = pick (leb 10 kind) (pick (leb kind 12) 4 2) 2
 
+-- 不成 counts nothing.                                                                                (02, xi)
 abbrev pub promoteWidth : ℕ → ℕ
 promoteWidth promote = pick (eqb promote 2) 2 0
 
@@ -73,37 +75,24 @@ specialWidth s = pick (same (specialText s) (spelled specials 1)) 0 (2 * (length
 
 -- ---- a time
 
--- An absent hour is written as 0.                                                                     (01, Writing: what is lost)
-abbrev pub hour : Clock → ℕ
-hour (Hms h m s) = h
-hour (Ms m s) = 0
-
-abbrev pub minute : Clock → ℕ
-minute (Hms h m s) = m
-minute (Ms m s) = m
-
-abbrev pub second : Clock → ℕ
-second (Hms h m s) = s
-second (Ms m s) = s
-
 -- A number to two places, and the character after it.
 abbrev pub figureText : ℕ → ℕ → ℕ → List ℕ
 figureText fill after v = padded 2 fill v ++ (after ∷ [])
 
--- What the move took has no hour.
-unfoldable pub nowText : Clock → List ℕ
-nowText c = ((40 ∷ []) ++ figureText 32 58 (minute c)) ++ figureText 48 47 (second c)
-
-unfoldable pub totalText : Clock → List ℕ
-totalText c = (figureText 48 58 (hour c) ++ figureText 48 58 (minute c)) ++ figureText 48 41 (second c)
+-- A clock with its hour or without: the first figure is filled up by a given character, the others by zeros, and a character follows the last.
+-- (02, xi)
+unfoldable pub clockText : ℕ → ℕ → Clock → List ℕ
+clockText fill after (Hms h m s) = (figureText fill 58 h ++ figureText 48 58 m) ++ figureText 48 after s
+clockText fill after (Ms m s) = figureText fill 58 m ++ figureText 48 after s
 
 -- Padded by 13 less the width of what stands before it.
 abbrev pub timePadding : ℕ → List ℕ
 timePadding width = replicate (13 - width) 32
 
+-- (, what the entry took, /, the total, ).
 unfoldable pub timeText : ℕ → Time → List ℕ
 timeText width Untimed = []
-timeText width (Timed now total) = (timePadding width ++ nowText now) ++ totalText total
+timeText width (Timed now total) = ((timePadding width ++ (40 ∷ [])) ++ clockText 32 47 now) ++ clockText 48 41 total
 
 -- ---- an entry
 

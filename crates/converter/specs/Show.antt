@@ -1,19 +1,22 @@
--- The text of a record, or why there is none.                                                         (01, Writing, and what is lost)
+-- The text of what is said of a record, or why there is none.                                          (01, Writing, and what is lost; 02, xi)
 -- Assumes nothing: these are definitions.
-use Prim.Native.Nat.{ℕ, zero, suc, _+_, _-_, _/_, _%_}
+use Prim.Native.Nat.{ℕ, zero, suc, _+_, _/_, _%_}
 use mathlib.Core.List.{List, [], _∷_, _++_}
-use lib.ListN.{length, drop, getD}
+use lib.ListN.{drop, getD}
 use lib.Dec.{eqb, ltb}
 use Rattle.lists.specs.Pick.{pick}
 use Rattle.lent.specs.Numbers.{decimal}
 use Rattle.jkf.specs.declared.Answer.{Answer}
-use Rattle.jkf.specs.declared.Answer.the-variants.{HandCount, CannotWrite}
+use Rattle.jkf.specs.declared.Answer.the-variants.{HandCount, CannotWrite, StartsAtZero}
 use Rattle.jkf.specs.declared.Position.{Position}
 use Rattle.jkf.specs.Model.{Noted, Line, Record}
 use Rattle.block.specs.Encode.{concat}
 use Rattle.converter.specs.Headers.{headersText}
 use Rattle.converter.specs.Diagrams.{positionText}
 use Rattle.converter.specs.Entries.{remarksText, entriesText, canWrite}
+use Rattle.converter.specs.Said.{leftOut, saidRecord}
+use Rattle.converter.specs.declared.Mode.{Mode}
+use Rattle.converter.specs.declared.Mode.the-variants.{Plain, Whole, Shared}
 use Rattle.converter.specs.declared.Obstacle.{Obstacle}
 use Rattle.converter.specs.declared.Obstacle.the-variants.{At, Clear}
 
@@ -48,19 +51,10 @@ variationHead start = (((10 ∷ []) ++ variationTag) ++ decimal start) ++ plyTag
 unfoldable pub variationText : Line → List ℕ
 variationText l = variationHead (l .start) ++ entriesText (l .start) (l .entries)
 
--- The variations before the first with start 0; that one and all after it are left out.
-unfoldable pub shown : List Line → List Line
-shown [] = []
-shown (l ∷ ls) = let r = shown ls in pick (eqb (l .start) 0) [] (l ∷ r)
-
 -- The 手数 line, line 0, and the later lines in their order.                                          (the Rust's write_moves)
 unfoldable pub linesText : List Line → List ℕ
 linesText [] = []
-linesText (l ∷ ls) = (numberLine ++ mainText l) ++ concat variationText (shown ls)
-
-unfoldable pub leftOut : List Line → ℕ
-leftOut [] = 0
-leftOut (l ∷ ls) = length ls - length (shown ls)
+linesText (l ∷ ls) = (numberLine ++ mainText l) ++ concat variationText ls
 
 unfoldable pub recordText : Record → List ℕ
 recordText r = (headersText (r .headers) ++ positionText (r .position)) ++ linesText (r .lines)
@@ -91,10 +85,16 @@ unfoldable pub lineObstacle : ℕ → List Line → Obstacle
 lineObstacle k [] = Clear
 lineObstacle k (l ∷ ls) = let r = lineObstacle (k + 1) ls in onObstacle (entryObstacle k 0 (l .entries)) (λ a b. At a b) r
 
--- Lines that are left out are not looked at.
-unfoldable pub linesObstacle : List Line → Obstacle
-linesObstacle [] = Clear
-linesObstacle (l ∷ ls) = lineObstacle 0 (l ∷ shown ls)
+-- The first of some variations, counted from k on, that starts at 0.                                   (02, xi: refusal 20)
+unfoldable pub zeroStart : ℕ → List Line → Obstacle
+zeroStart k [] = Clear
+zeroStart k (l ∷ ls) = let r = zeroStart (k + 1) ls in pick (eqb (l .start) 0) (At k 0) r
+
+-- The plain text leaves such lines out; the others lose none.
+unfoldable pub startObstacle : Mode → List Line → Obstacle
+startObstacle Plain ls = Clear
+startObstacle Whole ls = zeroStart 1 (drop 1 ls)
+startObstacle Shared ls = zeroStart 1 (drop 1 ls)
 
 -- ---- the whole
 
@@ -103,10 +103,15 @@ pub data Showing : Type 0 where
   text : List ℕ → ℕ → Showing
   refused : Answer → Showing
 
--- Where no entry stands in the way, the whole text.                                                     (01, Numbers of refusal: 9)
-unfoldable pub showLines : Record → Showing
-showLines r = onObstacle (linesObstacle (r .lines)) (λ line entry. refused (CannotWrite line entry)) (text (recordText r) (leftOut (r .lines)))
+-- Where no entry stands in the way, the whole text. Lines that are left out are not looked at.           (01, Numbers of refusal: 9)
+unfoldable pub showLines : Mode → Record → Showing
+showLines mode r =
+    onObstacle (lineObstacle 0 (saidRecord mode r .lines)) (λ line entry. refused (CannotWrite line entry)) (text (recordText (saidRecord mode r)) (leftOut (r .lines)))
 
 -- The hands are looked at before the entries.                                                          (01, Numbers of refusal: order)
-unfoldable pub show : Record → Showing
-show r = let s = showLines r in onObstacle (handsObstacle (r .position)) (λ side kind. refused (HandCount side kind)) s
+unfoldable pub showHands : Mode → Record → Showing
+showHands mode r = let s = showLines mode r in onObstacle (handsObstacle (r .position)) (λ side kind. refused (HandCount side kind)) s
+
+-- And the starts of variations before both.                                                            (02, xi: refusal 20)
+unfoldable pub show : Mode → Record → Showing
+show mode r = let s = showHands mode r in onObstacle (startObstacle mode (r .lines)) (λ line _. refused (StartsAtZero line)) s

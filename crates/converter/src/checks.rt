@@ -1,6 +1,8 @@
 // What cannot be written, and which lines are shown.
+use crate::Mode;
 use crate::Obstacle;
 use crate::kif::move_width;
+use crate::said::said_entry;
 use crate::usuals::is_usual;
 use jkf::Entry;
 use jkf::Move;
@@ -9,12 +11,14 @@ use jkf::Target;
 use jkf::Time;
 ghost use mathlib.Core.Path.{_≡_};
 ghost use Prim.Native.Nat.{_+_, _<_};
+ghost use lib.ListN.{drop};
 ghost use Rattle.block.specs.EntryBytes.{entryIn};
-ghost use Rattle.block.specs.Decode.{run, notedIn, decode};
+ghost use Rattle.block.specs.Decode.{run, decode};
 ghost use Rattle.block.specs.inner.Sounds.{Sound};
 ghost use Rattle.converter.specs.Entries.{within, targetOnBoard, timeHasRoom, canWrite};
-ghost use Rattle.converter.specs.Show.{handObstacle, handsObstacle, entryObstacle, linesObstacle};
-ghost use Rattle.converter.specs.inner.Lines.{ShownLines};
+ghost use Rattle.converter.specs.Said.{saidEntry, saidLines};
+ghost use Rattle.converter.specs.Show.{handObstacle, handsObstacle, entryObstacle, lineObstacle, zeroStart, startObstacle};
+ghost use Rattle.converter.specs.inner.Lines.{notedSaid, ShownLines};
 
 // The first hand count over 99.
 fn hand_obstacle(hands: &[u8]) -> Obstacle
@@ -95,23 +99,23 @@ fn can_write(e: Entry) -> bool
 }
 
 // Whether a row's entry can be written.
-fn row_fits(row: &[u8]) -> bool
-    ensures { λ r. ⌜ r ≡ canWrite (entryIn (now (row .entry))) ⌝ }
+fn row_fits(row: &[u8], mode: Mode) -> bool
+    ensures { λ r. ⌜ r ≡ canWrite (saidEntry mode (entryIn (now (row .entry)))) ⌝ }
 {
-    if is_usual(row) {
+    if is_usual(row, mode) {
         return true;
     }
-    can_write(block::entry_in(row))
+    can_write(said_entry(mode, block::entry_in(row)))
 }
 
 // The first of a line's entries that cannot be written.
-fn entry_obstacle(b: &[u8], line: usize, first: usize, count: usize) -> Obstacle
+fn entry_obstacle(b: &[u8], mode: Mode, line: usize, first: usize, count: usize) -> Obstacle
     requires { ⌜ first + count < 65536 ⌝ }
-    ensures { λ r. ⌜ r ≡ entryObstacle line 0 (run (notedIn (now (b .entry))) first count) ⌝ }
+    ensures { λ r. ⌜ r ≡ entryObstacle line 0 (run (notedSaid mode (now (b .entry))) first count) ⌝ }
 {
     let mut i = 0;
     while i < count {
-        if !row_fits(block::row_of(b, (first + i) as u16)) {
+        if !row_fits(block::row_of(b, (first + i) as u16), mode) {
             return Obstacle::At(line as u64, i as u64);
         }
         i += 1;
@@ -120,14 +124,20 @@ fn entry_obstacle(b: &[u8], line: usize, first: usize, count: usize) -> Obstacle
 }
 
 // The first in the lines that are shown.
-pub(crate) fn lines_obstacle(b: &[u8], lines: usize) -> Obstacle
+pub(crate) fn lines_obstacle(b: &[u8], mode: Mode, lines: usize) -> Obstacle
     requires { ⌜ ShownLines (now b) lines ⌝ }
-    ensures { λ r. ⌜ r ≡ linesObstacle (decode (now (b .entry)) .lines) ⌝ }
+    ensures { λ r. ⌜ r ≡ lineObstacle 0 (saidLines mode (decode (now (b .entry)) .lines)) ⌝ }
 {
     let mut k = 0;
     while k < lines {
         let i = k as u16;
-        let found = entry_obstacle(b, k, block::first_entry(b, i), block::entry_count(b, i));
+        let found = entry_obstacle(
+            b,
+            mode,
+            k,
+            block::first_entry(b, i),
+            block::entry_count(b, i),
+        );
         if let Obstacle::At(line, entry) = found {
             return Obstacle::At(line, entry);
         }
@@ -150,4 +160,27 @@ pub(crate) fn shown_lines(b: &[u8]) -> usize
         k += 1;
     }
     k
+}
+
+// The first line that is not shown.
+fn lost_line(b: &[u8], lines: usize) -> Obstacle
+    requires { ⌜ ShownLines (now b) lines ⌝ }
+    ensures { λ r. ⌜ r ≡ zeroStart 1 (drop 1 (decode (now (b .entry)) .lines)) ⌝ }
+{
+    if lines < block::lines_in(b) {
+        return Obstacle::At(lines as u64, 0);
+    }
+    Obstacle::Clear
+}
+
+// The first variation that starts at 0, where none may be lost.
+pub(crate) fn start_obstacle(b: &[u8], mode: Mode, lines: usize) -> Obstacle
+    requires { ⌜ ShownLines (now b) lines ⌝ }
+    ensures { λ r. ⌜ r ≡ startObstacle mode (decode (now (b .entry)) .lines) ⌝ }
+{
+    match mode {
+        Mode::Plain => Obstacle::Clear,
+        Mode::Whole => lost_line(b, lines),
+        Mode::Shared => lost_line(b, lines),
+    }
 }

@@ -1,4 +1,6 @@
 // Lines of play as they are written.   (the Rust's src/converter/kif.rs)
+use crate::Mode;
+use crate::said::said_entry;
 use crate::usuals::is_usual;
 use crate::usuals::put_usual;
 use jkf::Clock;
@@ -16,11 +18,12 @@ ghost use Rattle.lent.specs.Numbers.{decimal, padded};
 ghost use Rattle.block.specs.EntryBytes.{entryIn};
 ghost use Rattle.jkf.specs.Entries.{specialOf};
 ghost use Rattle.block.specs.Encode.{concat};
-ghost use Rattle.block.specs.Decode.{run, movesIn, linesIn, commentOf, notedIn, lineIn, decode};
+ghost use Rattle.block.specs.Decode.{run, movesIn, linesIn, commentOf, notedIn, decode};
 ghost use Rattle.block.specs.inner.Sounds.{Sound};
-ghost use Rattle.converter.specs.Entries.{targetText, promoteText, originText, moveText, kindWidth, promoteWidth, originWidth, moveWidth, specialWidth, hour, minute, second, figureText, nowText, totalText, timePadding, timeText, playText, widthOf, entryLine, starText, remarkText, remarksText, notedText, entriesText};
+ghost use Rattle.converter.specs.Entries.{targetText, promoteText, originText, moveText, kindWidth, promoteWidth, originWidth, moveWidth, specialWidth, figureText, clockText, timePadding, timeText, playText, widthOf, entryLine, starText, remarkText, remarksText, notedText, entriesText};
+ghost use Rattle.converter.specs.Said.{saidEntry, saidLines};
 ghost use Rattle.converter.specs.Show.{mainText, variationHead, variationText, linesText};
-ghost use Rattle.converter.specs.inner.Lines.{ShownLines};
+ghost use Rattle.converter.specs.inner.Lines.{notedSaid, lineSaid, ShownLines};
 
 // 同 and a wide space, or a file and a rank.
 fn put_target(out: &mut [u8], to: Target) -> usize
@@ -40,10 +43,13 @@ fn put_promote(out: &mut [u8], promote: u8) -> usize
     requires { ⌜ length (promoteText promote) ≤ length (now out) ⌝ }
     ensures { λ r. ⌜ Wrote (promoteText promote) (now (out .entry)) (now (out .exit)) r ⌝ }
 {
-    if promote != 2 {
-        return 0;
+    if promote == 2 {
+        return lent::put_bytes(out, b"\xe6\x88\x90");
     }
-    lent::put_bytes(out, b"\xe6\x88\x90")
+    if promote == 1 {
+        return lent::put_bytes(out, b"\xe4\xb8\x8d\xe6\x88\x90");
+    }
+    0
 }
 
 // An origin in brackets.
@@ -158,50 +164,34 @@ fn put_figure(out: &mut [u8], fill: u8, after: u8, v: u8) -> usize
     lent::put_at(out, n, &[after])
 }
 
-pub(crate) fn hour(c: Clock) -> u8
-    ensures { λ r. ⌜ r ≡ hour c ⌝ }
+// A clock without an hour.
+fn put_ms(out: &mut [u8], fill: u8, after: u8, m: u8, s: u8) -> usize
+    requires { ⌜ length (clockText fill after (Clock.Ms m s)) ≤ length (now out) ⌝ }
+    ensures { λ r. ⌜ Wrote (clockText fill after (Clock.Ms m s)) (now (out .entry)) (now (out .exit)) r ⌝ }
+{
+    let n = put_figure(out, fill, b':', m);
+    n + put_figure(&mut out[n..], b'0', after, s)
+}
+
+// A clock with its hour.
+fn put_hms(out: &mut [u8], fill: u8, after: u8, h: u8, m: u8, s: u8) -> usize
+    requires { ⌜ length (clockText fill after (Clock.Hms h m s)) ≤ length (now out) ⌝ }
+    ensures { λ r. ⌜ Wrote (clockText fill after (Clock.Hms h m s)) (now (out .entry)) (now (out .exit)) r ⌝ }
+{
+    let n = put_figure(out, fill, b':', h);
+    let e = n + put_figure(&mut out[n..], b'0', b':', m);
+    e + put_figure(&mut out[e..], b'0', after, s)
+}
+
+// A clock, its first figure filled up by a byte, and a byte after it.
+fn put_clock(out: &mut [u8], fill: u8, after: u8, c: Clock) -> usize
+    requires { ⌜ length (clockText fill after c) ≤ length (now out) ⌝ }
+    ensures { λ r. ⌜ Wrote (clockText fill after c) (now (out .entry)) (now (out .exit)) r ⌝ }
 {
     match c {
-        Clock::Hms(h, _, _) => h,
-        Clock::Ms(_, _) => 0,
+        Clock::Hms(h, m, s) => put_hms(out, fill, after, h, m, s),
+        Clock::Ms(m, s) => put_ms(out, fill, after, m, s),
     }
-}
-
-pub(crate) fn minute(c: Clock) -> u8
-    ensures { λ r. ⌜ r ≡ minute c ⌝ }
-{
-    match c {
-        Clock::Hms(_, m, _) => m,
-        Clock::Ms(m, _) => m,
-    }
-}
-
-pub(crate) fn second(c: Clock) -> u8
-    ensures { λ r. ⌜ r ≡ second c ⌝ }
-{
-    match c {
-        Clock::Hms(_, _, s) => s,
-        Clock::Ms(_, s) => s,
-    }
-}
-
-// What the move took.
-fn put_now(out: &mut [u8], c: Clock) -> usize
-    requires { ⌜ length (nowText c) ≤ length (now out) ⌝ }
-    ensures { λ r. ⌜ Wrote (nowText c) (now (out .entry)) (now (out .exit)) r ⌝ }
-{
-    let n = lent::put_bytes(out, b"(");
-    let m = n + put_figure(&mut out[n..], b' ', b':', minute(c));
-    m + put_figure(&mut out[m..], b'0', b'/', second(c))
-}
-
-fn put_total(out: &mut [u8], c: Clock) -> usize
-    requires { ⌜ length (totalText c) ≤ length (now out) ⌝ }
-    ensures { λ r. ⌜ Wrote (totalText c) (now (out .entry)) (now (out .exit)) r ⌝ }
-{
-    let n = put_figure(out, b'0', b':', hour(c));
-    let m = n + put_figure(&mut out[n..], b'0', b':', minute(c));
-    m + put_figure(&mut out[m..], b'0', b')', second(c))
 }
 
 // A time, padded by 13 less the width before it.
@@ -213,20 +203,22 @@ fn put_time(out: &mut [u8], width: usize, time: Time) -> usize
         Time::Untimed => 0,
         Time::Timed(now, total) => {
             let n = put_padding(out, width);
-            let m = n + put_now(&mut out[n..], now);
-            m + put_total(&mut out[m..], total)
+            let m = n + put_clock(&mut out[n..], b' ', b'/', now);
+            m + put_clock(&mut out[m..], b'0', b')', total)
         }
     }
 }
 
+// Spaces and a bracket.
 fn put_padding(out: &mut [u8], width: usize) -> usize
-    requires { ⌜ length (timePadding width) ≤ length (now out) ⌝ }
-    ensures { λ r. ⌜ Wrote (timePadding width) (now (out .entry)) (now (out .exit)) r ⌝ }
+    requires { ⌜ length (timePadding width ++ (40 ∷ [])) ≤ length (now out) ⌝ }
+    ensures { λ r. ⌜ Wrote (timePadding width ++ (40 ∷ [])) (now (out .entry)) (now (out .exit)) r ⌝ }
 {
     if 13 <= width {
-        return 0;
+        return lent::put_bytes(out, b"(");
     }
-    lent::put_run(out, b' ', 13 - width)
+    let n = lent::put_run(out, b' ', 13 - width);
+    lent::put_at(out, n, b"(")
 }
 
 // A ply to four places and a space.
@@ -250,16 +242,16 @@ fn put_entry_line(out: &mut [u8], ply: usize, e: Entry) -> usize
 }
 
 // The line of a row's entry.
-fn put_row(out: &mut [u8], ply: usize, row: &[u8]) -> usize
-    requires { ⌜ length (entryLine ply (entryIn (now row))) ≤ length (now out) ⌝ }
-    ensures { λ r. ⌜ Wrote (entryLine ply (entryIn (now (row .entry)))) (now (out .entry)) (now (out .exit)) r ⌝ }
+fn put_row(out: &mut [u8], ply: usize, row: &[u8], mode: Mode) -> usize
+    requires { ⌜ length (entryLine ply (saidEntry mode (entryIn (now row)))) ≤ length (now out) ⌝ }
+    ensures { λ r. ⌜ Wrote (entryLine ply (saidEntry mode (entryIn (now (row .entry))))) (now (out .entry)) (now (out .exit)) r ⌝ }
 {
     if ply < 1000 {
-        if is_usual(row) {
+        if is_usual(row, mode) {
             return put_usual(out, ply, row);
         }
     }
-    put_entry_line(out, ply, block::entry_in(row))
+    put_entry_line(out, ply, said_entry(mode, block::entry_in(row)))
 }
 
 // * before a comment that does not begin with &.
@@ -312,12 +304,12 @@ fn put_comments(out: &mut [u8], b: &[u8], k: usize) -> usize
 }
 
 // Entry k with its comments.
-fn put_noted(out: &mut [u8], b: &[u8], ply: usize, k: usize) -> usize
-    requires { ⌜ Sound (now b) × (k < movesIn (now b)) × (length (notedText ply (notedIn (now b) k)) ≤ length (now out)) ⌝ }
-    ensures { λ r. ⌜ Wrote (notedText ply (notedIn (now (b .entry)) k)) (now (out .entry)) (now (out .exit)) r ⌝ }
+fn put_noted(out: &mut [u8], b: &[u8], mode: Mode, ply: usize, k: usize) -> usize
+    requires { ⌜ Sound (now b) × (k < movesIn (now b)) × (length (notedText ply (notedSaid mode (now b) k)) ≤ length (now out)) ⌝ }
+    ensures { λ r. ⌜ Wrote (notedText ply (notedSaid mode (now (b .entry)) k)) (now (out .entry)) (now (out .exit)) r ⌝ }
 {
     let row = block::row_of(b, k as u16);
-    let n = put_row(out, ply, row);
+    let n = put_row(out, ply, row, mode);
     let count = lent::get16(row, 18);
     if count == 0 {
         return n;
@@ -326,14 +318,21 @@ fn put_noted(out: &mut [u8], b: &[u8], ply: usize, k: usize) -> usize
 }
 
 // So many entries from one on, numbered from a ply on.
-fn put_entries(out: &mut [u8], b: &[u8], ply: usize, first: usize, count: usize) -> usize
-    requires { ⌜ Sound (now b) × (first + count ≤ movesIn (now b)) × (ply < 65536) × (length (entriesText ply (run (notedIn (now b)) first count)) ≤ length (now out)) ⌝ }
-    ensures { λ r. ⌜ Wrote (entriesText ply (run (notedIn (now (b .entry))) first count)) (now (out .entry)) (now (out .exit)) r ⌝ }
+fn put_entries(
+    out: &mut [u8],
+    b: &[u8],
+    mode: Mode,
+    ply: usize,
+    first: usize,
+    count: usize,
+) -> usize
+    requires { ⌜ Sound (now b) × (first + count ≤ movesIn (now b)) × (ply < 65536) × (length (entriesText ply (run (notedSaid mode (now b)) first count)) ≤ length (now out)) ⌝ }
+    ensures { λ r. ⌜ Wrote (entriesText ply (run (notedSaid mode (now (b .entry))) first count)) (now (out .entry)) (now (out .exit)) r ⌝ }
 {
     let mut at = 0;
     let mut i = 0;
     while i < count {
-        at += put_noted(&mut out[at..], b, ply + i, first + i);
+        at += put_noted(&mut out[at..], b, mode, ply + i, first + i);
         i += 1;
     }
     at
@@ -350,9 +349,9 @@ fn put_variation_head(out: &mut [u8], start: usize) -> usize
 }
 
 // Line k, which is a variation.
-fn put_variation(out: &mut [u8], b: &[u8], k: usize) -> usize
-    requires { ⌜ Sound (now b) × (k < linesIn (now b)) × (length (variationText (lineIn (now b) k)) ≤ length (now out)) ⌝ }
-    ensures { λ r. ⌜ Wrote (variationText (lineIn (now (b .entry)) k)) (now (out .entry)) (now (out .exit)) r ⌝ }
+fn put_variation(out: &mut [u8], b: &[u8], mode: Mode, k: usize) -> usize
+    requires { ⌜ Sound (now b) × (k < linesIn (now b)) × (length (variationText (lineSaid mode (now b) k)) ≤ length (now out)) ⌝ }
+    ensures { λ r. ⌜ Wrote (variationText (lineSaid mode (now (b .entry)) k)) (now (out .entry)) (now (out .exit)) r ⌝ }
 {
     let i = k as u16;
     let start = block::start_of(b, i);
@@ -361,6 +360,7 @@ fn put_variation(out: &mut [u8], b: &[u8], k: usize) -> usize
         + put_entries(
             &mut out[n..],
             b,
+            mode,
             start,
             block::first_entry(b, i),
             block::entry_count(b, i),
@@ -368,35 +368,35 @@ fn put_variation(out: &mut [u8], b: &[u8], k: usize) -> usize
 }
 
 // Line k and those after it, of which n are still to come.   (the Rust's write_move_lines)
-fn put_variations(out: &mut [u8], b: &[u8], k: usize, n: usize) -> usize
-    requires { ⌜ Sound (now b) × (k + n ≤ linesIn (now b)) × (length (concat variationText (run (lineIn (now b)) k n)) ≤ length (now out)) ⌝ }
-    ensures { λ r. ⌜ Wrote (concat variationText (run (lineIn (now (b .entry))) k n)) (now (out .entry)) (now (out .exit)) r ⌝ }
+fn put_variations(out: &mut [u8], b: &[u8], mode: Mode, k: usize, n: usize) -> usize
+    requires { ⌜ Sound (now b) × (k + n ≤ linesIn (now b)) × (length (concat variationText (run (lineSaid mode (now b)) k n)) ≤ length (now out)) ⌝ }
+    ensures { λ r. ⌜ Wrote (concat variationText (run (lineSaid mode (now (b .entry))) k n)) (now (out .entry)) (now (out .exit)) r ⌝ }
 {
     if n == 0 {
         return 0;
     }
-    let m = put_variation(out, b, k);
-    m + put_variations(&mut out[m..], b, k + 1, n - 1)
+    let m = put_variation(out, b, mode, k);
+    m + put_variations(&mut out[m..], b, mode, k + 1, n - 1)
 }
 
 // Line 0: the comments of its slot, and its entries from 1 on.
-fn put_main(out: &mut [u8], b: &[u8]) -> usize
-    requires { ⌜ Sound (now b) × (length (mainText (lineIn (now b) 0)) ≤ length (now out)) ⌝ }
-    ensures { λ r. ⌜ Wrote (mainText (lineIn (now (b .entry)) 0)) (now (out .entry)) (now (out .exit)) r ⌝ }
+fn put_main(out: &mut [u8], b: &[u8], mode: Mode) -> usize
+    requires { ⌜ Sound (now b) × (length (mainText (lineSaid mode (now b) 0)) ≤ length (now out)) ⌝ }
+    ensures { λ r. ⌜ Wrote (mainText (lineSaid mode (now (b .entry)) 0)) (now (out .entry)) (now (out .exit)) r ⌝ }
 {
     let n = put_comments(out, b, 0);
-    n + put_entries(&mut out[n..], b, 1, 1, block::entry_count(b, 0) - 1)
+    n + put_entries(&mut out[n..], b, mode, 1, 1, block::entry_count(b, 0) - 1)
 }
 
 // The lines that are shown.   (the Rust's write_moves)
-pub(crate) fn put_moves(out: &mut [u8], b: &[u8], lines: usize) -> usize
-    requires { ⌜ ShownLines (now b) lines × (length (linesText (decode (now b) .lines)) ≤ length (now out)) ⌝ }
-    ensures { λ r. ⌜ Wrote (linesText (decode (now (b .entry)) .lines)) (now (out .entry)) (now (out .exit)) r ⌝ }
+pub(crate) fn put_moves(out: &mut [u8], b: &[u8], mode: Mode, lines: usize) -> usize
+    requires { ⌜ ShownLines (now b) lines × (length (linesText (saidLines mode (decode (now b) .lines))) ≤ length (now out)) ⌝ }
+    ensures { λ r. ⌜ Wrote (linesText (saidLines mode (decode (now (b .entry)) .lines))) (now (out .entry)) (now (out .exit)) r ⌝ }
 {
     let n = lent::put_bytes(
         out,
         b"\xe6\x89\x8b\xe6\x95\xb0----\xe6\x8c\x87\xe6\x89\x8b---------\xe6\xb6\x88\xe8\xb2\xbb\xe6\x99\x82\xe9\x96\x93--\n",
     );
-    let m = n + put_main(&mut out[n..], b);
-    m + put_variations(&mut out[m..], b, 1, lines - 1)
+    let m = n + put_main(&mut out[n..], b, mode);
+    m + put_variations(&mut out[m..], b, mode, 1, lines - 1)
 }

@@ -1,9 +1,8 @@
 // How long a text will be.
+use crate::Mode;
 use crate::checks::within;
-use crate::kif::hour;
-use crate::kif::minute;
-use crate::kif::second;
 use crate::kif::width_of;
+use crate::said::said_entry;
 use crate::starts::put_position;
 use crate::usuals::is_usual;
 use crate::usuals::usual_length;
@@ -23,14 +22,15 @@ ghost use Rattle.spell.specs.Spell.{spelled};
 ghost use Rattle.block.specs.EntryBytes.{entryIn};
 ghost use Rattle.jkf.specs.Entries.{specialOf};
 ghost use Rattle.block.specs.Encode.{concat};
-ghost use Rattle.block.specs.Decode.{run, movesIn, linesIn, entryCount, commentOf, notedIn, lineIn, decode};
+ghost use Rattle.block.specs.Decode.{run, movesIn, linesIn, entryCount, commentOf, notedIn, decode};
 ghost use Rattle.block.specs.inner.Sounds.{Sound};
 ghost use Rattle.converter.specs.Headers.{headersText};
 ghost use Rattle.converter.specs.inner.Places.{storedHeaders};
 ghost use Rattle.converter.specs.Diagrams.{positionText};
-ghost use Rattle.converter.specs.Entries.{targetText, promoteText, originText, moveText, specialText, nowText, totalText, timeText, playText, entryLine, remarkText, remarksText, notedText, entriesText};
+ghost use Rattle.converter.specs.Entries.{targetText, promoteText, originText, moveText, specialText, clockText, timeText, playText, entryLine, remarkText, remarksText, notedText, entriesText};
+ghost use Rattle.converter.specs.Said.{saidEntry, saidRecord};
 ghost use Rattle.converter.specs.Show.{mainText, variationText, recordText};
-ghost use Rattle.converter.specs.inner.Lines.{ShownLines};
+ghost use Rattle.converter.specs.inner.Lines.{notedSaid, lineSaid, ShownLines};
 
 // A number to a width.
 fn padded_length(v: u64, width: usize) -> usize
@@ -73,9 +73,12 @@ fn kind_length(kind: u8) -> usize
 }
 
 fn promote_length(promote: u8) -> usize
-    ensures { λ r. ⌜ (r ≡ length (promoteText promote)) × (r ≤ 3) ⌝ }
+    ensures { λ r. ⌜ (r ≡ length (promoteText promote)) × (r ≤ 6) ⌝ }
 {
-    if promote == 2 { 3 } else { 0 }
+    if promote == 2 {
+        return 3;
+    }
+    if promote == 1 { 6 } else { 0 }
 }
 
 fn origin_length(from: Origin) -> usize
@@ -88,7 +91,7 @@ fn origin_length(from: Origin) -> usize
 }
 
 fn move_length(m: Move) -> usize
-    ensures { λ r. ⌜ (r ≡ length (moveText m)) × (r ≤ 23) ⌝ }
+    ensures { λ r. ⌜ (r ≡ length (moveText m)) × (r ≤ 26) ⌝ }
 {
     let to = m.to;
     let from = m.from;
@@ -110,7 +113,7 @@ fn special_length(n: u8) -> usize
 }
 
 fn play_length(e: Entry) -> usize
-    ensures { λ r. ⌜ (r ≡ length (playText e)) × (r ≤ 23) ⌝ }
+    ensures { λ r. ⌜ (r ≡ length (playText e)) × (r ≤ 26) ⌝ }
 {
     match e {
         Entry::Slot => 0,
@@ -126,26 +129,24 @@ fn figure_length(v: u8) -> usize
     if v < 100 { 2 } else { 3 }
 }
 
-fn now_length(c: Clock) -> usize
-    ensures { λ r. ⌜ (r ≡ length (nowText c)) × (r ≤ 9) ⌝ }
+// A clock and the byte after it.
+fn clock_length(c: Clock) -> usize
+    ensures { λ r. ⌜ ((fill after : ℕ) → r ≡ length (clockText fill after c)) × (r ≤ 12) ⌝ }
 {
-    3 + figure_length(minute(c)) + figure_length(second(c))
-}
-
-fn total_length(c: Clock) -> usize
-    ensures { λ r. ⌜ (r ≡ length (totalText c)) × (r ≤ 12) ⌝ }
-{
-    3 + figure_length(hour(c)) + figure_length(minute(c)) + figure_length(second(c))
+    match c {
+        Clock::Hms(h, m, s) => 3 + figure_length(h) + figure_length(m) + figure_length(s),
+        Clock::Ms(m, s) => 2 + figure_length(m) + figure_length(s),
+    }
 }
 
 fn time_length(width: usize, time: Time) -> usize
     requires { ⌜ width ≤ 14 ⌝ }
-    ensures { λ r. ⌜ (r ≡ length (timeText width time)) × (r ≤ 34) ⌝ }
+    ensures { λ r. ⌜ (r ≡ length (timeText width time)) × (r ≤ 38) ⌝ }
 {
     match time {
         Time::Untimed => 0,
         Time::Timed(now, total) => {
-            let n = now_length(now) + total_length(total);
+            let n = 1 + clock_length(now) + clock_length(total);
             if width < 13 { 13 - width + n } else { n }
         }
     }
@@ -153,22 +154,22 @@ fn time_length(width: usize, time: Time) -> usize
 
 fn entry_length(ply: usize, e: Entry) -> usize
     requires { ⌜ ply < 131072 ⌝ }
-    ensures { λ r. ⌜ (r ≡ length (entryLine ply e)) × (r ≤ 65) ⌝ }
+    ensures { λ r. ⌜ (r ≡ length (entryLine ply e)) × (r ≤ 72) ⌝ }
 {
     2 + padded_length(ply as u64, 4) + play_length(e) + time_length(width_of(e), jkf::time_of(e))
 }
 
 // The line of a row's entry.
-fn row_length(ply: usize, row: &[u8]) -> usize
+fn row_length(ply: usize, row: &[u8], mode: Mode) -> usize
     requires { ⌜ ply < 131072 ⌝ }
-    ensures { λ r. ⌜ (r ≡ length (entryLine ply (entryIn (now (row .entry))))) × (r ≤ 65) ⌝ }
+    ensures { λ r. ⌜ (r ≡ length (entryLine ply (saidEntry mode (entryIn (now (row .entry)))))) × (r ≤ 72) ⌝ }
 {
     if ply < 1000 {
-        if is_usual(row) {
+        if is_usual(row, mode) {
             return usual_length(row);
         }
     }
-    entry_length(ply, block::entry_in(row))
+    entry_length(ply, said_entry(mode, block::entry_in(row)))
 }
 
 fn remark_length(c: &[u8]) -> usize
@@ -204,12 +205,12 @@ fn comments_length(b: &[u8], k: usize) -> usize
 }
 
 // Entry k with its comments.
-fn noted_length(b: &[u8], ply: usize, k: usize) -> usize
+fn noted_length(b: &[u8], mode: Mode, ply: usize, k: usize) -> usize
     requires { ⌜ Sound (now b) × (k < movesIn (now b)) × (ply < 131072) ⌝ }
-    ensures { λ r. ⌜ (r ≡ length (notedText ply (notedIn (now (b .entry)) k))) × (r ≤ 4295032897) ⌝ }
+    ensures { λ r. ⌜ (r ≡ length (notedText ply (notedSaid mode (now (b .entry)) k))) × (r ≤ 4295032904) ⌝ }
 {
     let row = block::row_of(b, k as u16);
-    let n = row_length(ply, row);
+    let n = row_length(ply, row, mode);
     let count = lent::get16(row, 18);
     if count == 0 {
         return n;
@@ -218,51 +219,57 @@ fn noted_length(b: &[u8], ply: usize, k: usize) -> usize
 }
 
 // So many entries from one on, numbered from a ply on.
-fn entries_length(b: &[u8], ply: usize, first: usize, count: usize) -> usize
+fn entries_length(b: &[u8], mode: Mode, ply: usize, first: usize, count: usize) -> usize
     requires { ⌜ Sound (now b) × (first + count ≤ movesIn (now b)) × (ply < 65536) ⌝ }
-    ensures { λ r. ⌜ (r ≡ length (entriesText ply (run (notedIn (now (b .entry))) first count))) × (r ≤ 4295032897 * count) ⌝ }
+    ensures { λ r. ⌜ (r ≡ length (entriesText ply (run (notedSaid mode (now (b .entry))) first count))) × (r ≤ 4295032904 * count) ⌝ }
 {
     let mut n = 0;
     let mut i = 0;
     while i < count {
-        n += noted_length(b, ply + i, first + i);
+        n += noted_length(b, mode, ply + i, first + i);
         i += 1;
     }
     n
 }
 
 // Line k, which is a variation.
-fn variation_length(b: &[u8], k: usize) -> usize
+fn variation_length(b: &[u8], mode: Mode, k: usize) -> usize
     requires { ⌜ Sound (now b) × (k < linesIn (now b)) ⌝ }
-    ensures { λ r. ⌜ (r ≡ length (variationText (lineIn (now (b .entry)) k))) × (r ≤ 19 + 4295032897 * entryCount (now (b .entry)) k) ⌝ }
+    ensures { λ r. ⌜ (r ≡ length (variationText (lineSaid mode (now (b .entry)) k))) × (r ≤ 19 + 4295032904 * entryCount (now (b .entry)) k) ⌝ }
 {
     let i = k as u16;
     let start = block::start_of(b, i);
     14
         + lent::decimal_len(start as u64)
-        + entries_length(b, start, block::first_entry(b, i), block::entry_count(b, i))
+        + entries_length(
+            b,
+            mode,
+            start,
+            block::first_entry(b, i),
+            block::entry_count(b, i),
+        )
 }
 
 // The variations that are shown.
-fn variations_length(b: &[u8], lines: usize) -> usize
+fn variations_length(b: &[u8], mode: Mode, lines: usize) -> usize
     requires { ⌜ Sound (now b) × (1 ≤ lines) × (lines ≤ linesIn (now b)) ⌝ }
-    ensures { λ r. ⌜ (r ≡ length (concat variationText (run (lineIn (now (b .entry))) 1 (lines - 1)))) × (r ≤ 300000000000000) ⌝ }
+    ensures { λ r. ⌜ (r ≡ length (concat variationText (run (lineSaid mode (now (b .entry))) 1 (lines - 1)))) × (r ≤ 300000000000000) ⌝ }
 {
     let mut n = 0;
     let mut k = 1;
     while k < lines {
-        n += variation_length(b, k);
+        n += variation_length(b, mode, k);
         k += 1;
     }
     n
 }
 
 // Line 0.
-fn main_length(b: &[u8]) -> usize
+fn main_length(b: &[u8], mode: Mode) -> usize
     requires { ⌜ Sound (now b) ⌝ }
-    ensures { λ r. ⌜ (r ≡ length (mainText (lineIn (now (b .entry)) 0))) × (r ≤ 300000000000000) ⌝ }
+    ensures { λ r. ⌜ (r ≡ length (mainText (lineSaid mode (now (b .entry)) 0))) × (r ≤ 300000000000000) ⌝ }
 {
-    comments_length(b, 0) + entries_length(b, 1, 1, block::entry_count(b, 0) - 1)
+    comments_length(b, 0) + entries_length(b, mode, 1, 1, block::entry_count(b, 0) - 1)
 }
 
 // The position, written to be counted.
@@ -282,10 +289,10 @@ fn headers_length(b: &[u8]) -> usize
 }
 
 // The whole text, of which so many lines are shown.
-pub(crate) fn text_length(b: &[u8], lines: usize) -> usize
+pub(crate) fn text_length(b: &[u8], mode: Mode, lines: usize) -> usize
     requires { ⌜ ShownLines (now b) lines ⌝ }
-    ensures { λ r. ⌜ r ≡ length (recordText (decode (now (b .entry)))) ⌝ }
+    ensures { λ r. ⌜ r ≡ length (recordText (saidRecord mode (decode (now (b .entry))))) ⌝ }
 {
     let head = headers_length(b) + position_length(block::position_of(b));
-    head + 40 + main_length(b) + variations_length(b, lines)
+    head + 40 + main_length(b, mode) + variations_length(b, mode, lines)
 }

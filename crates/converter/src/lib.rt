@@ -3,12 +3,14 @@ mod checks;
 mod keys;
 mod kif;
 mod lengths;
+mod said;
 mod starts;
 mod usuals;
 
 use checks::hands_obstacle;
 use checks::lines_obstacle;
 use checks::shown_lines;
+use checks::start_obstacle;
 use jkf::Answer;
 use kif::put_moves;
 use lengths::text_length;
@@ -20,9 +22,17 @@ ghost use lib.ListN.{length};
 ghost use Rattle.lent.specs.Bytes.{Wrote};
 ghost use Rattle.block.specs.Decode.{decode};
 ghost use Rattle.block.specs.inner.Sounds.{Sound};
-ghost use Rattle.converter.specs.Show.{recordText, leftOut, showLines, show};
+ghost use Rattle.converter.specs.Said.{leftOut, saidRecord};
+ghost use Rattle.converter.specs.Show.{recordText, showLines, showHands, show};
 ghost use Rattle.converter.specs.inner.Lines.{ShownLines};
-ghost use Rattle.converter.specs.Writing.{textStored, shownOf, writeOf};
+ghost use Rattle.converter.specs.Writing.{textStored, shownOf, writeAsOf, writeOf, modeOf};
+
+// How a record is written: as to_kif does, losing nothing, or so that other programs read it too.   (02, xi)
+pub enum Mode {
+    Plain,
+    Whole,
+    Shared,
+}
 
 // Two figures that say what cannot be written, or that all can.
 pub enum Obstacle {
@@ -31,60 +41,92 @@ pub enum Obstacle {
 }
 
 // The whole text, of which so many lines are shown.   (the Rust's to_kif)
-fn put_record(out: &mut [u8], b: &[u8], lines: usize) -> usize
-    requires { ⌜ ShownLines (now b) lines × (length (recordText (decode (now b))) ≤ length (now out)) ⌝ }
-    ensures { λ r. ⌜ Wrote (recordText (decode (now (b .entry)))) (now (out .entry)) (now (out .exit)) r ⌝ }
+fn put_record(out: &mut [u8], b: &[u8], mode: Mode, lines: usize) -> usize
+    requires { ⌜ ShownLines (now b) lines × (length (recordText (saidRecord mode (decode (now b)))) ≤ length (now out)) ⌝ }
+    ensures { λ r. ⌜ Wrote (recordText (saidRecord mode (decode (now (b .entry))))) (now (out .entry)) (now (out .exit)) r ⌝ }
 {
     let n = put_headers(out, b);
     let m = n + put_position(&mut out[n..], block::position_of(b));
-    m + put_moves(&mut out[m..], b, lines)
+    m + put_moves(&mut out[m..], b, mode, lines)
 }
 
 // A block of which all can be written.
-fn write_all(b: &[u8], lines: usize, out: &mut [u8]) -> Answer
+fn write_all(b: &[u8], mode: Mode, lines: usize, out: &mut [u8]) -> Answer
     requires { ⌜ ShownLines (now b) lines ⌝ }
-    ensures { λ r. ⌜ r ≡ textStored (recordText (decode (now (b .entry)))) (leftOut (decode (now (b .entry)) .lines)) (now (out .entry)) .answer ⌝ }
-    ensures { λ _. ⌜ now (out .exit) ≡ textStored (recordText (decode (now (b .entry)))) (leftOut (decode (now (b .entry)) .lines)) (now (out .entry)) .buffer ⌝ }
+    ensures { λ r. ⌜ r ≡ textStored (recordText (saidRecord mode (decode (now (b .entry))))) (leftOut (decode (now (b .entry)) .lines)) (now (out .entry)) .answer ⌝ }
+    ensures { λ _. ⌜ now (out .exit) ≡ textStored (recordText (saidRecord mode (decode (now (b .entry))))) (leftOut (decode (now (b .entry)) .lines)) (now (out .entry)) .buffer ⌝ }
 {
-    let needed = text_length(b, lines);
+    let needed = text_length(b, mode, lines);
     if out.len() < needed {
         return Answer::BufferShort(needed as u64);
     }
-    put_record(out, b, lines);
+    put_record(out, b, mode, lines);
     Answer::Done(needed as u64, (block::lines_in(b) - lines) as u64)
 }
 
 // A sound block whose hands can be written.
-fn write_lines(b: &[u8], lines: usize, out: &mut [u8]) -> Answer
+fn write_lines(b: &[u8], mode: Mode, lines: usize, out: &mut [u8]) -> Answer
     requires { ⌜ ShownLines (now b) lines ⌝ }
-    ensures { λ r. ⌜ r ≡ shownOf (showLines (decode (now (b .entry)))) (now (out .entry)) .answer ⌝ }
-    ensures { λ _. ⌜ now (out .exit) ≡ shownOf (showLines (decode (now (b .entry)))) (now (out .entry)) .buffer ⌝ }
+    ensures { λ r. ⌜ r ≡ shownOf (showLines mode (decode (now (b .entry)))) (now (out .entry)) .answer ⌝ }
+    ensures { λ _. ⌜ now (out .exit) ≡ shownOf (showLines mode (decode (now (b .entry)))) (now (out .entry)) .buffer ⌝ }
 {
-    match lines_obstacle(b, lines) {
+    match lines_obstacle(b, mode, lines) {
         Obstacle::At(line, entry) => Answer::CannotWrite(line, entry),
-        Obstacle::Clear => write_all(b, lines, out),
+        Obstacle::Clear => write_all(b, mode, lines, out),
+    }
+}
+
+// A sound block of which no line is in the way.
+fn write_hands(b: &[u8], mode: Mode, lines: usize, out: &mut [u8]) -> Answer
+    requires { ⌜ ShownLines (now b) lines ⌝ }
+    ensures { λ r. ⌜ r ≡ shownOf (showHands mode (decode (now (b .entry)))) (now (out .entry)) .answer ⌝ }
+    ensures { λ _. ⌜ now (out .exit) ≡ shownOf (showHands mode (decode (now (b .entry)))) (now (out .entry)) .buffer ⌝ }
+{
+    match hands_obstacle(block::position_of(b)) {
+        Obstacle::At(side, kind) => Answer::HandCount(side, kind),
+        Obstacle::Clear => write_lines(b, mode, lines, out),
     }
 }
 
 // A sound block.
-fn write_sound(b: &[u8], out: &mut [u8]) -> Answer
+fn write_sound(b: &[u8], mode: Mode, out: &mut [u8]) -> Answer
     requires { ⌜ Sound (now b) ⌝ }
-    ensures { λ r. ⌜ r ≡ shownOf (show (decode (now (b .entry)))) (now (out .entry)) .answer ⌝ }
-    ensures { λ _. ⌜ now (out .exit) ≡ shownOf (show (decode (now (b .entry)))) (now (out .entry)) .buffer ⌝ }
+    ensures { λ r. ⌜ r ≡ shownOf (show mode (decode (now (b .entry)))) (now (out .entry)) .answer ⌝ }
+    ensures { λ _. ⌜ now (out .exit) ≡ shownOf (show mode (decode (now (b .entry)))) (now (out .entry)) .buffer ⌝ }
 {
-    match hands_obstacle(block::position_of(b)) {
-        Obstacle::At(side, kind) => Answer::HandCount(side, kind),
-        Obstacle::Clear => write_lines(b, shown_lines(b), out),
+    let lines = shown_lines(b);
+    match start_obstacle(b, mode, lines) {
+        Obstacle::At(line, _) => Answer::StartsAtZero(line),
+        Obstacle::Clear => write_hands(b, mode, lines, out),
     }
 }
 
-// Writes a block's text into the front of a lent buffer.
-pub fn write(block: &[u8], out: &mut [u8]) -> Answer
-    ensures { λ r. ⌜ r ≡ writeOf (now (block .entry)) (now (out .entry)) .answer ⌝ }
-    ensures { λ _. ⌜ now (out .exit) ≡ writeOf (now (block .entry)) (now (out .entry)) .buffer ⌝ }
+// Writes a block's text in a mode into the front of a lent buffer.
+pub fn write_as(block: &[u8], mode: Mode, out: &mut [u8]) -> Answer
+    ensures { λ r. ⌜ r ≡ writeAsOf mode (now (block .entry)) (now (out .entry)) .answer ⌝ }
+    ensures { λ _. ⌜ now (out .exit) ≡ writeAsOf mode (now (block .entry)) (now (out .entry)) .buffer ⌝ }
 {
     if !block::sound(block) {
         return Answer::NotSound;
     }
-    write_sound(block, out)
+    write_sound(block, mode, out)
+}
+
+// Writes a block's text as to_kif does.
+pub fn write(block: &[u8], out: &mut [u8]) -> Answer
+    ensures { λ r. ⌜ r ≡ writeOf (now (block .entry)) (now (out .entry)) .answer ⌝ }
+    ensures { λ _. ⌜ now (out .exit) ≡ writeOf (now (block .entry)) (now (out .entry)) .buffer ⌝ }
+{
+    write_as(block, Mode::Plain, out)
+}
+
+// The mode with a number; one that none has is that of to_kif.
+pub fn mode_of(n: u64) -> Mode
+    ensures { λ r. ⌜ r ≡ modeOf n ⌝ }
+{
+    match n {
+        1 => Mode::Whole,
+        2 => Mode::Shared,
+        _ => Mode::Plain,
+    }
 }

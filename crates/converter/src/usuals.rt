@@ -1,13 +1,12 @@
 // Entries of the usual form, whose lines are written as three arrays.
+use crate::Mode;
 use crate::checks::within;
 ghost use mathlib.Core.Path.{_≡_};
 ghost use mathlib.Core.Bool.{true};
 ghost use Prim.Native.Nat.{ℕ, _≤_, _<_};
 ghost use lib.ListN.{length};
 ghost use Rattle.lent.specs.Bytes.{Wrote};
-ghost use Rattle.block.specs.EntryBytes.{entryIn};
-ghost use Rattle.converter.specs.Entries.{entryLine};
-ghost use Rattle.converter.specs.inner.Usuals.{SpelledTarget, SpelledKind, SpelledOrigin, SpelledClocks, UsualRow, isLong, spaced, startText, nameText, clocksText};
+ghost use Rattle.converter.specs.inner.Usuals.{SpelledTarget, SpelledKind, SpelledOrigin, SpelledClocks, UsualRow, SaidSo, isLong, spaced, startText, nameText, clocksText, usualLine};
 
 // 同, or a square of the board; with an origin, a time with no hours and a total with hours.
 fn has_target(row: &[u8]) -> bool
@@ -74,9 +73,26 @@ fn has_clocks(row: &[u8]) -> bool
     row[14] <= 99
 }
 
-// Whether a row is of the usual form.
-pub(crate) fn is_usual(row: &[u8]) -> bool
-    ensures { λ r. ⌜ (r ≡ true → UsualRow (now (row .entry))) ⌝ }
+// No 不成 that is said, and no origin that is said as 打.
+fn is_said_so(row: &[u8], mode: Mode) -> bool
+    requires { ⌜ 15 ≤ length (now row) ⌝ }
+    ensures { λ r. ⌜ (r ≡ true → SaidSo mode (now (row .entry))) ⌝ }
+{
+    match mode {
+        Mode::Plain => true,
+        Mode::Whole => row[3] != 1,
+        Mode::Shared => {
+            if row[3] == 1 {
+                return false;
+            }
+            row[6] != 0
+        }
+    }
+}
+
+// Whether a row is of the usual form, and said so in a mode.
+pub(crate) fn is_usual(row: &[u8], mode: Mode) -> bool
+    ensures { λ r. ⌜ (r ≡ true → UsualRow (now (row .entry)) × SaidSo mode (now (row .entry))) ⌝ }
 {
     if row.len() < 15 {
         return false;
@@ -91,6 +107,9 @@ pub(crate) fn is_usual(row: &[u8]) -> bool
         return false;
     }
     if !has_origin(row) {
+        return false;
+    }
+    if !is_said_so(row, mode) {
         return false;
     }
     has_clocks(row)
@@ -110,7 +129,7 @@ fn is_long(row: &[u8]) -> bool
 // How long its line is.
 pub(crate) fn usual_length(row: &[u8]) -> usize
     requires { ⌜ UsualRow (now row) ⌝ }
-    ensures { λ r. ⌜ ((ply : ℕ) → ply < 1000 → r ≡ length (entryLine ply (entryIn (now (row .entry))))) × (r ≤ 65) ⌝ }
+    ensures { λ r. ⌜ ((ply : ℕ) → ply < 1000 → r ≡ length (usualLine ply (now (row .entry)))) × (r ≤ 72) ⌝ }
 {
     if is_long(row) { 39 } else { 38 }
 }
@@ -252,8 +271,8 @@ fn put_clocks(out: &mut [u8], row: &[u8]) -> usize
 
 // The line of an entry of the usual form.
 pub(crate) fn put_usual(out: &mut [u8], ply: usize, row: &[u8]) -> usize
-    requires { ⌜ UsualRow (now row) × (ply < 1000) × (length (entryLine ply (entryIn (now row))) ≤ length (now out)) ⌝ }
-    ensures { λ r. ⌜ Wrote (entryLine ply (entryIn (now (row .entry)))) (now (out .entry)) (now (out .exit)) r ⌝ }
+    requires { ⌜ UsualRow (now row) × (ply < 1000) × (length (usualLine ply (now row)) ≤ length (now out)) ⌝ }
+    ensures { λ r. ⌜ Wrote (usualLine ply (now (row .entry))) (now (out .entry)) (now (out .exit)) r ⌝ }
 {
     let a = put_start(out, ply, row);
     let b = a + put_name(&mut out[a..], row);

@@ -5,11 +5,11 @@ use mathlib.Core.Path.{_≡_, refl, sym, ap, _∙_}
 use mathlib.Core.List.{List, [], _∷_}
 use lib.ListN.{getD}
 use Rattle.jkf.specs.declared.Answer.{Answer}
-use Rattle.jkf.specs.declared.Answer.the-variants.{Done, TextTooLong, NotUtf8, HandLine, BlockTooLong, BufferShort, NoEntry, NotSound, HandCount, CannotWrite, NoSuchPart, NotOneVariation, OutsideLine, EntryTaken}
+use Rattle.jkf.specs.declared.Answer.the-variants.{Done, TextTooLong, NotUtf8, HandLine, BlockTooLong, BufferShort, NoEntry, NotSound, HandCount, CannotWrite, NoSuchPart, NotOneVariation, OutsideLine, EntryTaken, StartsAtZero}
 use Rattle.jkf.specs.declared.Figures.{Figures}
 use Rattle.jkf.specs.Answers.{figures, Outcome}
 
--- The answers in the order of their numbers, with these figures; a number past them is taken for the refusal without any.
+-- The answers in the order of their numbers, with these figures; a number that none has is taken for the refusal without any.
 abbrev pub answerWith : Figures → Answer
 answerWith r =
     getD
@@ -27,6 +27,8 @@ answerWith r =
     ∷ NotOneVariation
     ∷ OutsideLine (r .first) (r .second)
     ∷ EntryTaken (r .first) (r .second)
+    ∷ NotSound ∷ NotSound ∷ NotSound ∷ NotSound ∷ NotSound ∷ NotSound
+    ∷ StartsAtZero (r .first)
     ∷ [])
     (r .number)
     NotSound
@@ -47,6 +49,7 @@ back (NoSuchPart x) = refl
 back NotOneVariation = refl
 back (OutsideLine x y) = refl
 back (EntryTaken x y) = refl
+back (StartsAtZero x) = refl
 
 pub figures-one : (a b : Answer) → figures a ≡ figures b → a ≡ b
 figures-one a b e = sym (back a) ∙ ap answerWith e ∙ back b

@@ -3,7 +3,7 @@
 use Prim.Native.Nat.{ℕ}
 use mathlib.Core.List.{List}
 use Rattle.jkf.specs.declared.Answer.{Answer}
-use Rattle.jkf.specs.declared.Answer.the-variants.{Done, TextTooLong, NotUtf8, HandLine, BlockTooLong, BufferShort, NoEntry, NotSound, HandCount, CannotWrite, NoSuchPart, NotOneVariation, OutsideLine, EntryTaken}
+use Rattle.jkf.specs.declared.Answer.the-variants.{Done, TextTooLong, NotUtf8, HandLine, BlockTooLong, BufferShort, NoEntry, NotSound, HandCount, CannotWrite, NoSuchPart, NotOneVariation, OutsideLine, EntryTaken, StartsAtZero}
 use Rattle.jkf.specs.declared.Figures.{Figures}
 
 abbrev pub figured : ℕ → ℕ → ℕ → Figures
@@ -26,6 +26,7 @@ figures (NoSuchPart number) = figured 10 number 0
 figures NotOneVariation = figured 11 0 0
 figures (OutsideLine line ply) = figured 12 line ply
 figures (EntryTaken line ply) = figured 13 line ply
+figures (StartsAtZero line) = figured 20 line 0
 
 -- An answer, and the lent buffer after it.
 pub record Outcome : Type 0 where

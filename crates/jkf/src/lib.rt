@@ -11,7 +11,7 @@ pub use entries::time_of;
 ghost use mathlib.Core.Path.{_≡_};
 ghost use Rattle.jkf.specs.Answers.{figures, figured};
 
-// What a call of 01 answers: done, with two figures, or one of the 13 refusals.
+// What a call of 01 answers: done, with two figures, or one of the 14 refusals.
 pub enum Answer {
     Done(u64, u64),
     TextTooLong(u64),
@@ -27,6 +27,7 @@ pub enum Answer {
     NotOneVariation,
     OutsideLine(u64, u64),
     EntryTaken(u64, u64),
+    StartsAtZero(u64),
 }
 
 // 01's number of an answer, 0 for done, and its two figures.
@@ -55,6 +56,7 @@ pub fn figures_of(a: Answer) -> Figures
         Answer::NotOneVariation => figured(11, 0, 0),
         Answer::OutsideLine(x, y) => figured(12, x, y),
         Answer::EntryTaken(x, y) => figured(13, x, y),
+        Answer::StartsAtZero(n) => figured(20, n, 0),
     }
 }
 

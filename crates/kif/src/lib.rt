@@ -6,7 +6,7 @@ ghost use Rattle.block.specs.Look.{lookAnswer, Answered};
 ghost use Rattle.parser.specs.Read.{measureOf, fillOf, lostOf};
 ghost use mathlib.Core.List.{[], _∷_};
 ghost use Rattle.stops.specs.Stopping.{stopOf, stopFigures, spotAt};
-ghost use Rattle.converter.specs.Writing.{writeOf};
+ghost use Rattle.converter.specs.Writing.{writeAsOf, writeOf, modeOf};
 ghost use Rattle.edit.specs.Outcomes.{putInOf, cutOf};
 
 // Whether a slice is just a sound block.
@@ -135,6 +135,25 @@ pub extern "C" fn kif_write(
     ensures { λ _. ⌜ now (out .exit) ≡ writeOf (now (block .entry)) (now (out .entry)) .buffer ⌝ }
 {
     let f = jkf::figures_of(converter::write(block, out));
+    *number = f.number;
+    *first = f.first;
+    *second = f.second;
+}
+
+// Writes a block's text in the mode with a number: 1 loses nothing, 2 is read by other programs too, any other is 0.
+#[no_mangle]
+pub extern "C" fn kif_write_as(
+    block: &[u8],
+    mode: u64,
+    out: &mut [u8],
+    number: &mut u64,
+    first: &mut u64,
+    second: &mut u64,
+)
+    ensures { λ _. ⌜ Answered (writeAsOf (modeOf mode) (now (block .entry)) (now (out .entry)) .answer) (now (number .exit)) (now (first .exit)) (now (second .exit)) ⌝ }
+    ensures { λ _. ⌜ now (out .exit) ≡ writeAsOf (modeOf mode) (now (block .entry)) (now (out .entry)) .buffer ⌝ }
+{
+    let f = jkf::figures_of(converter::write_as(block, converter::mode_of(mode), out));
     *number = f.number;
     *first = f.first;
     *second = f.second;

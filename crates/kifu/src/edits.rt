@@ -5,6 +5,7 @@ use crate::refusals;
 use crate::times;
 use crate::times::Times;
 use crate::wheres;
+use crate::words;
 use jkf::Figures;
 use libc::STDERR_FILENO;
 use moves::Failed;
@@ -153,7 +154,7 @@ fn put_file(
 // With that of the file that the fourth word names.
 pub(crate) fn put(name: &[u8], b: &[u8], line: u64, room: &mut [u8], out: &mut [u8]) -> Edited {
     let mut variation = io::buffer();
-    let n = os::arg(4, &mut variation);
+    let n = words::arg(4, &mut variation);
     if os::errno() != 0 {
         os::fail(b"kifu: refused: VARIATION");
         return Edited::Refused;
@@ -167,6 +168,6 @@ pub(crate) fn tell_variation(t: Times) {
         return;
     }
     let mut variation = io::buffer();
-    let n = os::arg(4, &mut variation);
+    let n = words::arg(4, &mut variation);
     times::tell(&variation[..n], t);
 }

@@ -24,9 +24,9 @@ fn told(is_written: bool) -> bool {
     is_written
 }
 
-// Prints a block as a text, and says what is lost by that.
+// Prints a block as a text, and says what is lost by that, if it may lose something.
 fn print_text(name: &[u8], b: &[u8], out: &mut [u8]) -> bool {
-    let f = jkf::figures_of(converter::write(b, out));
+    let f = jkf::figures_of(converter::write_as(b, words::mode(), out));
     if f.number != 0 {
         refusals::tell(name, f);
         return false;
@@ -34,7 +34,9 @@ fn print_text(name: &[u8], b: &[u8], out: &mut [u8]) -> bool {
     if !told(io::write_all(STDOUT_FILENO, lent::front(&out[0..], f.first as usize))) {
         return false;
     }
-    losses::tell(name, b, f.second);
+    if words::is_plain() {
+        losses::tell(name, b, f.second);
+    }
     true
 }
 
@@ -82,7 +84,7 @@ fn print_listing(taken: u64, b: &[u8], out: &mut [u8]) -> bool {
 // Writes a block into the new file that the third word names, and prints how long it is.
 fn keep(taken: u64, b: &[u8]) -> bool {
     let mut name = io::buffer();
-    let n = os::arg(3, &mut name);
+    let n = words::arg(3, &mut name);
     if os::errno() != 0 {
         os::fail(b"kifu: refused: OUT");
         return false;
@@ -185,7 +187,7 @@ fn print_where(name: &[u8], text: &[u8]) {
 }
 
 // What is asked of a file: of one byte more than a text or a block may have, so that a longer one is refused and not cut. What is printed has
-// room: in the longest text an entry of 20 bytes has at most 65, and the longest listing has 112,133.
+// room: in the longest text an entry of 20 bytes has at most 55, and the longest listing has 112,133.
 fn obey(word: Word, line: u64, name: &[u8]) {
     let mut input = io::large_buffer();
     let files::Got::Bytes(n) = files::fill(name, &mut input) else {
@@ -207,7 +209,7 @@ fn obey(word: Word, line: u64, name: &[u8]) {
 // The second word is a file's name.
 fn on_file(word: Word, line: u64) {
     let mut name = io::buffer();
-    let n = os::arg(2, &mut name);
+    let n = words::arg(2, &mut name);
     if os::errno() != 0 {
         os::fail(b"kifu: refused: FILE");
         return;
@@ -222,7 +224,7 @@ fn start(first: &[u8]) {
         words::tell_unknown(first);
         return;
     }
-    if os::arg_count() != words::count(word) {
+    if !words::is_complete(word) {
         words::tell_usage(word);
         return;
     }

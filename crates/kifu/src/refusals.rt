@@ -67,15 +67,15 @@ fn say(t: &[u8], x: u64, y: u64) -> bool {
     say_end(&t[at + 1..], y)
 }
 
-// The sentences by their numbers: rows of 98 bytes. That of refusal 8 names a side and a kind, and that of refusal 6 has more figures.
+// The sentences by their numbers, that of refusal 20 last: rows of 98 bytes. That of refusal 8 names a side and a kind, and that of refusal 6 has more figures.
 fn say_refusal(number: u64, x: u64, y: u64) -> bool {
     if number == 8 {
         return say_hand(x, y);
     }
-    let at = if number < 13 {
+    let at = if number < 14 {
         98 * (number as usize)
     } else {
-        1274
+        1372
     };
     say(
         shown::table_text(
@@ -92,7 +92,8 @@ fn say_refusal(number: u64, x: u64, y: u64) -> bool {
               \x18there is no such line: #                                                                         \
               \x1dthe text is not one variation                                                                    \
               \x29line # has no ply # to put a variation at                                                        \
-              \x29line #, ply # already carries a variation                                                        ",
+              \x29line #, ply # already carries a variation                                                        \
+              \x59line # starts at ply 0; --plain writes the text without it and without the lines after it        ",
             at,
         ),
         x,

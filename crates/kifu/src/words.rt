@@ -1,8 +1,11 @@
 // The words that the tool is told by, and how it is used.
+use converter::Mode;
 use libc::STDERR_FILENO;
 use libc::STDOUT_FILENO;
 use text::Cursor;
 use text::Number;
+ghost use Prim.Native.Nat.{_≤_};
+ghost use Rattle.io.specs.Counts.{Counts};
 
 // What is asked for.
 pub enum Word {
@@ -22,6 +25,54 @@ pub enum Word {
 pub enum Line {
     Numbered(u64),
     NoNumber,
+}
+
+// Whether the word at a place is --plain.
+fn is_plain_at(i: usize) -> bool {
+    let mut w = io::buffer();
+    let n = os::arg(i, &mut w);
+    if os::errno() != 0 {
+        return false;
+    }
+    check::same(&w[..n], b"--plain")
+}
+
+// The place of the first --plain behind the first word, among as many words as there can be; past them where there is none.
+fn plain_place() -> usize {
+    if is_plain_at(2) {
+        return 2;
+    }
+    if is_plain_at(3) {
+        return 3;
+    }
+    if is_plain_at(4) {
+        return 4;
+    }
+    if is_plain_at(5) { 5 } else { 6 }
+}
+
+// Whether the text is asked for as to_kif writes it.
+pub(crate) fn is_plain() -> bool {
+    plain_place() < 6
+}
+
+// The mode that is asked for: without --plain the one that loses nothing and that other programs read.
+pub(crate) fn mode() -> Mode {
+    if is_plain() {
+        return Mode::Plain;
+    }
+    Mode::Shared
+}
+
+// Word k, --plain not counted.
+pub(crate) fn arg(k: usize, w: &mut [u8]) -> usize
+    requires { ⌜ k ≤ 4 ⌝ }
+    ensures { λ r. ⌜ Counts r (now (w .exit)) ⌝ }
+{
+    if plain_place() <= k {
+        return os::arg(k + 1, w);
+    }
+    os::arg(k, w)
 }
 
 // What the first word asks for, of the words for an edit and for help.
@@ -61,8 +112,32 @@ pub(crate) fn word_of(w: &[u8]) -> Word {
     later_word_of(w)
 }
 
+// Whether a word writes a text, so that --plain may stand behind it.
+fn writes(word: Word) -> bool {
+    match word {
+        Word::Tidy => true,
+        Word::Text => true,
+        Word::Put => true,
+        Word::Cut => true,
+        _ => false,
+    }
+}
+
+// Whether there are as many words as it takes.
+pub(crate) fn is_complete(word: Word) -> bool {
+    if is_plain() {
+        if !writes(word) {
+            return false;
+        }
+        return os::arg_count() == count(word) + 1;
+    }
+    os::arg_count() == count(word)
+}
+
 // How many words there are with it, the program's name and itself among them.
-pub(crate) fn count(word: Word) -> usize {
+fn count(word: Word) -> usize
+    ensures { λ r. ⌜ r ≤ 5 ⌝ }
+{
     match word {
         Word::Help => 2,
         Word::Block => 4,
@@ -86,7 +161,7 @@ fn number_in(w: &[u8]) -> Line {
 // The line that the third word numbers.
 fn third() -> Line {
     let mut w = io::buffer();
-    let n = os::arg(3, &mut w);
+    let n = arg(3, &mut w);
     if os::errno() != 0 {
         return Line::NoNumber;
     }
@@ -106,31 +181,31 @@ pub(crate) fn line_of(word: Word) -> Line {
 fn use_of(word: Word) -> usize {
     match word {
         Word::List => 0,
-        Word::Tidy => 102,
-        Word::Block => 204,
-        Word::Text => 306,
-        Word::Check => 408,
-        Word::Where => 510,
-        Word::Put => 612,
-        Word::Cut => 714,
-        _ => 816,
+        Word::Tidy => 111,
+        Word::Block => 222,
+        Word::Text => 333,
+        Word::Check => 444,
+        Word::Where => 555,
+        Word::Put => 666,
+        Word::Cut => 777,
+        _ => 888,
     }
 }
 
-// How a word is used, in a line: rows of 102 bytes.
+// How a word is used, in a line: rows of 111 bytes.
 fn print_usage(fd: i32, word: Word) -> bool {
     io::write_all(
         fd,
         shown::table_text(
-            b"\x5ekifu list FILE                the lines of play of a KIF file: number, start, entries, parent\n       \
-              \x51kifu tidy FILE                the file read and written anew, to standard output\n                    \
-              \x46kifu block FILE OUT           the file's block, into the new file OUT\n                               \
-              \x4dkifu text BLOCK               a block's file as KIF text, to standard output\n                        \
-              \x50kifu check FILE               how much of the file was taken, and what it holds\n                     \
-              \x49kifu where FILE               where reading of the file stopped, and why\n                            \
-              \x5ckifu put FILE LINE VARIATION  the file with a variation put into a line, to standard output\n         \
-              \x65kifu cut FILE LINE            the file without a line and all that hangs from it, to standard output\n\
-              \x2akifu help                     these lines\n                                                           ",
+            b"\x67kifu list FILE                         the lines of play of a KIF file: number, start, entries, parent\n       \
+              \x5akifu tidy FILE [--plain]               the file read and written anew, to standard output\n                    \
+              \x4fkifu block FILE OUT                    the file's block, into the new file OUT\n                               \
+              \x56kifu text BLOCK [--plain]              a block's file as KIF text, to standard output\n                        \
+              \x59kifu check FILE                        how much of the file was taken, and what it holds\n                     \
+              \x52kifu where FILE                        where reading of the file stopped, and why\n                            \
+              \x65kifu put FILE LINE VARIATION [--plain] the file with a variation put into a line, to standard output\n         \
+              \x6ekifu cut FILE LINE [--plain]           the file without a line and all that hangs from it, to standard output\n\
+              \x33kifu help                              these lines\n                                                           ",
             use_of(word),
         ),
     )
@@ -167,5 +242,9 @@ pub(crate) fn print_help() -> bool {
     print_usage(STDOUT_FILENO, Word::Where);
     print_usage(STDOUT_FILENO, Word::Put);
     print_usage(STDOUT_FILENO, Word::Cut);
-    print_usage(STDOUT_FILENO, Word::Help)
+    print_usage(STDOUT_FILENO, Word::Help);
+    io::write_all(
+        STDOUT_FILENO,
+        b"--plain: the text as shogi-kifu-converter writes it, with notes on what it loses; without it nothing is lost\n",
+    )
 }

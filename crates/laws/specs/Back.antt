@@ -18,16 +18,17 @@ use Rattle.kakinoki.specs.Starts.{startRead}
 use Rattle.kakinoki.specs.declared.Fault.the-variants.{NoFault}
 use Rattle.parser.specs.Parse.{Parsed, parse}
 use Rattle.parser.specs.Read.{fillOf}
-use Rattle.converter.specs.Show.{recordText, handsObstacle, linesObstacle}
-use Rattle.converter.specs.Writing.{writeOf}
+use Rattle.converter.specs.declared.Mode.{Mode}
+use Rattle.converter.specs.declared.Mode.the-variants.{Plain, Whole}
+use Rattle.converter.specs.Said.{saidRecord}
+use Rattle.converter.specs.Show.{handsObstacle}
+use Rattle.converter.specs.Writing.{writeAsOf, writeOf}
 use Rattle.converter.specs.declared.Obstacle.the-variants.{Clear}
 use Rattle.edit.specs.Edit.{playsIn}
 use Rattle.edit.specs.Outcomes.{putInOf, cutOf}
 use Rattle.laws.specs.Blocks.{Bytes, frontOf}
-use Rattle.laws.specs.Whole.{wholeText}
-use Rattle.laws.specs.Left.{left}
 use Rattle.laws.specs.Sayable.{Sayable, ColorsFollow}
-use Rattle.laws.specs.Modes.{Mode, whole, textIn, leftIn, AllWritten, ByHand}
+use Rattle.laws.specs.Modes.{textIn, leftIn, LosesNothing, AllWritten, ByHand}
 
 -- ---- a record once read, then written
 
@@ -50,13 +51,13 @@ pub data OnceRead : List ℕ → Type 0 where
 abbrev pub readInto : ℕ → Record → List ℕ → Outcome
 readInto n r o = record { answer = Done n (length (encode r)); buffer = encode r ++ drop (length (encode r)) o }
 
--- Where `write` is done with a text of at most 65,535 bytes, `fill` takes all of that text and answers the block of what the text leaves of the
--- record, for every buffer that has room for it; and that block holds what is left.
+-- Where `write` is done with a text of at most 65,535 bytes, `fill` takes all of that text and answers the block of what the text says of the
+-- record, for every buffer that has room for it; and that block holds what is said.
 abbrev pub TextReadsBack : List ℕ → Type 0
 TextReadsBack b =
     (o : List ℕ) (n l : ℕ) → writeOf b o .answer ≡ Done n l → n ≤ 65535
-    → (o′ : List ℕ) → length (encode (left (decode b))) ≤ length o′
-    → (fillOf (frontOf n (writeOf b o)) o′ ≡ readInto n (left (decode b)) o′) × (decode (encode (left (decode b))) ≡ left (decode b))
+    → (o′ : List ℕ) → length (encode (saidRecord Plain (decode b))) ≤ length o′
+    → (fillOf (frontOf n (writeOf b o)) o′ ≡ readInto n (saidRecord Plain (decode b)) o′) × (decode (encode (saidRecord Plain (decode b))) ≡ saidRecord Plain (decode b))
 
 -- So for each block that was once read and in which the colours follow their plies.
 abbrev pub ReadsBack : Type 0
@@ -70,15 +71,15 @@ ColorsStay = (b c : List ℕ) → Bytes b → EditsOf b c → ColorsFollow (deco
 abbrev pub EditsReadBack : Type 0
 EditsReadBack = (b c : List ℕ) → OnceRead b → ColorsFollow (decode b) → EditsOf b c → TextReadsBack c
 
--- Nothing more is lost the second time, and the text is then the same.
+-- Nothing more is lost the second time.
 abbrev pub LosesOnce : Type 0
-LosesOnce = (r : Record) → (left (left r) ≡ left r) × (recordText (left r) ≡ recordText r)
+LosesOnce = (r : Record) → saidRecord Plain (saidRecord Plain r) ≡ saidRecord Plain r
 
--- ---- in either mode
-
--- Why one proof does for both: the plain text of a record is the whole text of what is left of it.
+-- And what is left has the same text in the mode that loses nothing.
 abbrev pub PlainIsWhole : Type 0
-PlainIsWhole = (r : Record) → recordText r ≡ wholeText (left r)
+PlainIsWhole = (r : Record) → textIn Whole (saidRecord Plain r) ≡ textIn Plain r
+
+-- ---- in every mode
 
 -- What a reading finds in n bytes that say a record: its header entries, its position, its lines of play without their parents.
 abbrev pub parsedOf : Record → ℕ → Parsed
@@ -87,29 +88,39 @@ parsedOf r n = record { headers = r .headers; position = r .position; plays = pl
 -- A text says, to its last byte, the header entries, the position and the lines of play of what it leaves, and no hand line of it fails.
 abbrev pub SaysBack : Type 0
 SaysBack =
-    (m : Mode) (r : Record) → Formed r → Sayable r → ColorsFollow r → handsObstacle (r .position) ≡ Clear → AllWritten m r
-    → (parse (textIn m r) ≡ parsedOf (leftIn m r) (length (textIn m r))) × (startRead (textIn m r) .fault ≡ NoFault)
+    (mode : Mode) (r : Record) → Formed r → Sayable r → ColorsFollow r → handsObstacle (r .position) ≡ Clear → AllWritten mode r
+    → (parse (textIn mode r) ≡ parsedOf (leftIn mode r) (length (textIn mode r))) × (startRead (textIn mode r) .fault ≡ NoFault)
 
 -- The parents, in a step of its own: these lines of play all hang, and where they did.                 (01, Attaching rule)
 abbrev pub HangsBack : Type 0
 HangsBack =
-    (m : Mode) (r : Record) → Formed r
-    → (allHung (playsIn (leftIn m r .lines)) ≡ all) × (attach (playsIn (leftIn m r .lines)) ≡ leftIn m r .lines)
+    (mode : Mode) (r : Record) → Formed r
+    → (allHung (playsIn (leftIn mode r .lines)) ≡ all) × (attach (playsIn (leftIn mode r .lines)) ≡ leftIn mode r .lines)
 
 -- So the text is read to the block of what it leaves.
 abbrev pub ReadsBackIn : Type 0
 ReadsBackIn =
-    (m : Mode) (r : Record) → Formed r → Sayable r → ColorsFollow r → handsObstacle (r .position) ≡ Clear → AllWritten m r
-    → length (textIn m r) ≤ 65535 → (o : List ℕ) → length (encode (leftIn m r)) ≤ length o
-    → fillOf (textIn m r) o ≡ readInto (length (textIn m r)) (leftIn m r) o
+    (mode : Mode) (r : Record) → Formed r → Sayable r → ColorsFollow r → handsObstacle (r .position) ≡ Clear → AllWritten mode r
+    → length (textIn mode r) ≤ 65535 → (o : List ℕ) → length (encode (leftIn mode r)) ≤ length o
+    → fillOf (textIn mode r) o ≡ readInto (length (textIn mode r)) (leftIn mode r) o
 
--- ---- by hand                                                                                         (02, xi: records made by hand)
+-- ---- where nothing is lost                                                                           (02, xi)
 
--- A sound block that was made by hand, whose colours follow their plies, in which no variation starts at 0, and which the writer does not
--- refuse: its whole text, where it is within the limit, is read to the block itself.
-abbrev pub RestoresByHand : Type 0
-RestoresByHand =
-    (b : List ℕ) → Bytes b → soundb b ≡ true → ByHand (decode b) → ColorsFollow (decode b) → AllWritten whole (decode b)
-    → handsObstacle (decode b .position) ≡ Clear → linesObstacle (decode b .lines) ≡ Clear
-    → length (wholeText (decode b)) ≤ 65535 → (o : List ℕ) → length b ≤ length o
-    → fillOf (wholeText (decode b)) o ≡ record { answer = Done (length (wholeText (decode b))) (length b); buffer = b ++ drop (length b) o }
+-- Where writing in a mode is done with a text of at most 65,535 bytes, which refusal 20 leaves to blocks in which no variation starts at 0,
+-- `fill` takes all of that text and answers the block itself, byte for byte, for every buffer that has room for it.
+abbrev pub Restores : Mode → List ℕ → Type 0
+Restores mode b =
+    (o : List ℕ) (n l : ℕ) → writeAsOf mode b o .answer ≡ Done n l → n ≤ 65535 → (o′ : List ℕ) → length b ≤ length o′
+    → fillOf (frontOf n (writeAsOf mode b o)) o′ ≡ record { answer = Done n (length b); buffer = b ++ drop (length b) o′ }
+
+-- So for a record that was read, and for any edits of one, where each colour follows its ply in what was read.
+abbrev pub ReadRestored : Type 0
+ReadRestored = (mode : Mode) → LosesNothing mode → (b c : List ℕ) → OnceRead b → ColorsFollow (decode b) → EditsOf b c → Restores mode c
+
+-- And for a sound block that was made by hand, where 02's conditions hold.                              (02, xi: records made by hand)
+abbrev pub HandRestored : Type 0
+HandRestored = (mode : Mode) → LosesNothing mode → (b : List ℕ) → Bytes b → soundb b ≡ true → ByHand (decode b) → ColorsFollow (decode b) → Restores mode b
+
+-- No line is left out.
+abbrev pub LeavesNone : Type 0
+LeavesNone = (mode : Mode) → LosesNothing mode → (b o : List ℕ) (n l : ℕ) → writeAsOf mode b o .answer ≡ Done n l → l ≡ 0

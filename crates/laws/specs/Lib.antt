@@ -4,8 +4,6 @@ pub mod Measures
 pub mod Stops
 pub mod Edits
 pub mod Orders
-pub mod Whole
-pub mod Left
 pub mod Sayable
 pub mod Modes
 pub mod Back

@@ -1,4 +1,4 @@
-// What writing a block answers to a request.
+// What writing a block in a mode answers to a request: the buffer's length, the mode's number, the block.
 use crate::request::number;
 use crate::request::put_three;
 ghost use Prim.Native.Nat.{_≤_};
@@ -15,7 +15,11 @@ pub(crate) fn write(request: &[u8], out: &mut [u8]) -> usize
     if out.len() - 24 < room {
         return 0;
     }
-    let f = jkf::figures_of(converter::write(lent::rest(request, 8), &mut out[24..24 + room]));
+    let f = jkf::figures_of(converter::write_as(
+        lent::rest(request, 16),
+        converter::mode_of(number(request, 8)),
+        &mut out[24..24 + room],
+    ));
     put_three(out, f.number, f.first, f.second);
     24 + room
 }

@@ -8,6 +8,7 @@ use Rattle.lent.proofs.Writes.{as-text, then, wrote-length, sum-fits, within}
 use Rattle.block.specs.PositionBytes.{positionIn}
 use Rattle.block.specs.Decode.{decode}
 use Rattle.converter.specs.Diagrams.{positionText}
+use Rattle.converter.specs.Said.{saidLines}
 use Rattle.converter.specs.Show.{linesText}
 use Rattle.lent.proofs.Room.{room-after, room-as}
 use Rattle.converter.proofs.Showing.{record-is, record-room}
@@ -18,7 +19,7 @@ put-headers-requires : tie.Need-put-headers-requires
 put-headers-requires c κs =
     let v = c .before .before .before .pre in
     let b = now (c .before .before .before .args .b) in
-    (v .0 .sound, record-room b (v .1) .0)
+    (v .0 .sound, record-room (c .before .before .before .args .mode) b (v .1) .0)
 
 sub-put-position : tie.Need-sub-put-position
 sub-put-position c = within (c .before .before .put-headers .ensures)
@@ -35,7 +36,7 @@ position-of-requires c κs = tt
 put-position-requires : tie.Need-put-position-requires
 put-position-requires c κs =
     let b = now (c .before .before .before .before .before .before .before .before .args .b) in
-    let h = record-room b (c .before .before .before .before .before .before .before .before .pre .1) .1 in
+    let h = record-room (c .before .before .before .before .before .before .before .before .args .mode) b (c .before .before .before .before .before .before .before .before .pre .1) .1 in
     room-as (ap positionText (c .position-of .ensures)) (room-after (positionText (positionIn (drop 28 b))) (c .before .before .before .before .put-headers .ensures) h)
 
 add-m : tie.Need-add-m
@@ -55,12 +56,12 @@ put-moves-requires c κs =
     let v = c .before .before .before .before .before .before .before .before .before .before .before .before .pre in
     let b = now (c .before .before .before .before .before .before .before .before .before .before .before .before .args .b) in
     let w = then (c .before .before .before .before .before .before .before .before .put-headers .ensures) (as-text (ap positionText (c .before .before .before .before .position-of .ensures)) (c .before .before .before .put-position .ensures)) in
-    (v .0, room-after (linesText (decode b .lines)) w (record-room b (v .1) .2))
+    (v .0, room-after (linesText (saidLines (c .before .before .before .before .before .before .before .before .before .before .before .before .args .mode) (decode b .lines))) w (record-room (c .before .before .before .before .before .before .before .before .before .before .before .before .args .mode) b (v .1) .2))
 
 returns : tie.Need-returns
 returns c =
     let w = then (c .before .before .before .before .before .before .before .before .before .before .before .put-headers .ensures) (as-text (ap positionText (c .before .before .before .before .before .before .before .position-of .ensures)) (c .before .before .before .before .before .before .put-position .ensures)) in
-    as-text (sym (record-is (now (c .before .before .before .before .before .before .before .before .before .before .before .before .before .before .before .args .b)))) (then w (c .before .before .put-moves .ensures))
+    as-text (sym (record-is (c .before .before .before .before .before .before .before .before .before .before .before .before .before .before .before .args .mode) (now (c .before .before .before .before .before .before .before .before .before .before .before .before .before .before .before .args .b)))) (then w (c .before .before .put-moves .ensures))
 
 add-result : tie.Need-add-result
 add-result c = sum-fits (returns c) (c .before .before .before .before .before .before .before .before .before .before .before .before .before .before .before .good .0 .0)

@@ -8,7 +8,8 @@ use denote.Ref.{now}
 use lib.ListN.{length, drop}
 use Rattle.jkf.specs.declared.Answer.the-variants.{Done, BufferShort}
 use Rattle.block.specs.Decode.{decode}
-use Rattle.converter.specs.Show.{recordText, leftOut}
+use Rattle.converter.specs.Said.{leftOut, saidRecord}
+use Rattle.converter.specs.Show.{recordText}
 use Rattle.converter.proofs.Blocked.{left-out-is}
 use Rattle.converter.proofs.Showing.{too-short, has-room}
 use borrow.Author.Needs.{needs}
@@ -23,7 +24,7 @@ returns : tie.Need-returns
 returns c =
     let b = now (c .before .before .before .before .args .b) in
     let o = now (c .before .before .before .before .args .out) in
-    let t = recordText (decode b) in
+    let t = recordText (saidRecord (c .before .before .before .before .args .mode) (decode b)) in
     let e = c .before .text-length .ensures in
     let h : length o < length t = omega (arith, e) in
     told (too-short t (leftOut (decode b .lines)) o h) (ap BufferShort e, refl)
@@ -34,8 +35,8 @@ put-record-requires c κs = (c .before .before .before .before .before .pre, ome
 lines-in-requires : tie.Need-lines-in-requires
 lines-in-requires c κs = tt
 
-sub-t11 : tie.Need-sub-t11
-sub-t11 c = omega (arith, c .lines-in .ensures .0, c .before .before .before .before .before .before .before .before .before .pre .most)
+sub-t12 : tie.Need-sub-t12
+sub-t12 c = omega (arith, c .lines-in .ensures .0, c .before .before .before .before .before .before .before .before .before .pre .most)
 
 same-length : tie.Need-same-length
 same-length c = search needs
@@ -45,7 +46,7 @@ returns-2 c =
     let a = c .before .before .before .before .before .before .before .before .before .args in
     let b = now (a .b) in
     let o = now (a .out) in
-    let t = recordText (decode b) in
+    let t = recordText (saidRecord (a .mode) (decode b)) in
     let v = c .before .before .before .before .before .before .before .before .before .pre in
     let e = c .before .before .before .before .before .before .text-length .ensures in
     let w = c .before .before .before .put-record .ensures in
@@ -61,6 +62,6 @@ write-all-spec =
     returns
     put-record-requires
     lines-in-requires
-    sub-t11
+    sub-t12
     same-length
     returns-2)

@@ -23,14 +23,14 @@ write-all-requires c κs = search needs
 
 returns : tie.Need-returns
 returns c =
-    told (lines-refused (decode (now (c .before .before .before .before .before .before .args .b))) (now (c .before .before .before .before .before .before .args .out)) _ _ (sym (c .before .before .before .lines-obstacle .ensures) ∙ c .before .line .given .1)) (refl, refl)
+    told (lines-refused (c .before .before .before .before .before .before .args .mode) (decode (now (c .before .before .before .before .before .before .args .b))) (now (c .before .before .before .before .before .before .args .out)) _ _ (sym (c .before .before .before .lines-obstacle .ensures) ∙ c .before .line .given .1)) (refl, refl)
 
 same-length : tie.Need-same-length
 same-length c = search needs
 
 returns-2 : tie.Need-returns-2
 returns-2 c =
-    told (lines-clear (decode (now (c .before .before .before .before .before .before .before .before .before .args .b))) (now (c .before .before .before .before .before .before .before .before .before .args .out)) (sym (c .before .before .before .before .before .before .lines-obstacle .ensures) ∙ c .before .before .before .before .enum-told .given .1)) (c .before .before .write-all .ensures)
+    told (lines-clear (c .before .before .before .before .before .before .before .before .before .args .mode) (decode (now (c .before .before .before .before .before .before .before .before .before .args .b))) (now (c .before .before .before .before .before .before .before .before .before .args .out)) (sym (c .before .before .before .before .before .before .lines-obstacle .ensures) ∙ c .before .before .before .before .enum-told .given .1)) (c .before .before .write-all .ensures)
 
 pub write-lines-spec : {M : Type 1} → statement M
 write-lines-spec =

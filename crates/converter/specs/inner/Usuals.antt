@@ -12,7 +12,11 @@ use Rattle.spell.specs.Tables.{moveKinds}
 use Rattle.spell.specs.Spell.{spelled}
 use Rattle.block.specs.EntryBytes.{targetIn, originIn, moveIn}
 use Rattle.jkf.specs.declared.Clock.the-variants.{Hms, Ms}
-use Rattle.converter.specs.Entries.{targetText, promoteText, originText, moveWidth, nowText, totalText, timePadding}
+use Rattle.jkf.specs.declared.Origin.the-variants.{From}
+use Rattle.spell.specs.Words.{promotes}
+use Rattle.converter.specs.declared.Mode.{Mode}
+use Rattle.converter.specs.Said.{saidMark, saidOrigin}
+use Rattle.converter.specs.Entries.{targetText, promoteText, originText, moveWidth, clockText, timePadding}
 
 -- ---- the row
 
@@ -43,6 +47,10 @@ pub record SpelledClocks (row : List ℕ) : Type 0 where
   pub minutes : getD row 13 0 ≤ 99
   pub seconds : getD row 14 0 ≤ 99
 
+-- 成 behind the kind, or nothing.
+abbrev pub promotedText : List ℕ → List ℕ
+promotedText row = pick (eqb (getD row 3 0) 2) promotes []
+
 -- A move of this form.
 pub record UsualRow (row : List ℕ) : Type 0 where
   pub whole : 15 ≤ length row
@@ -51,6 +59,11 @@ pub record UsualRow (row : List ℕ) : Type 0 where
   pub name : SpelledKind row
   pub origin : SpelledOrigin row
   pub clocks : SpelledClocks row
+
+-- A mode says it so: with 成 or without a mark, and with its origin in brackets.
+pub record SaidSo (mode : Mode) (row : List ℕ) : Type 0 where
+  pub mark : promoteText (saidMark mode (getD row 3 0)) ≡ promotedText row
+  pub origin : saidOrigin mode (From (getD row 6 0) (getD row 7 0)) ≡ From (getD row 6 0) (getD row 7 0)
 
 -- A kind that is written with two characters: 成香, 成桂, 成銀, or one with 成 behind it.
 abbrev pub isLong : List ℕ → Bool
@@ -69,9 +82,13 @@ startText ply row = (padded 4 32 ply ++ (32 ∷ [])) ++ targetText (targetIn row
 -- The kind, its promotion and the origin, padded.
 unfoldable pub nameText : List ℕ → List ℕ
 nameText row =
-    ((spelled moveKinds (getD row 2 0) ++ promoteText (getD row 3 0)) ++ originText (originIn row)) ++ timePadding (moveWidth (moveIn row))
+    ((spelled moveKinds (getD row 2 0) ++ promotedText row) ++ originText (originIn row)) ++ timePadding (moveWidth (moveIn row))
 
 -- The time and LF.
 unfoldable pub clocksText : List ℕ → List ℕ
 clocksText row =
-    (nowText (Ms (getD row 10 0) (getD row 11 0)) ++ totalText (Hms (getD row 12 0) (getD row 13 0) (getD row 14 0))) ++ (10 ∷ [])
+    (((40 ∷ []) ++ clockText 32 47 (Ms (getD row 10 0) (getD row 11 0))) ++ clockText 48 41 (Hms (getD row 12 0) (getD row 13 0) (getD row 14 0))) ++ (10 ∷ [])
+
+-- The three.
+abbrev pub usualLine : ℕ → List ℕ → List ℕ
+usualLine ply row = (startText ply row ++ nameText row) ++ clocksText row

@@ -88,6 +88,12 @@ enum-known-a-12 c = c .match .keys14
 figured-requires-14 : tie.Need-figured-requires-14
 figured-requires-14 c κs = tt
 
+enum-known-a-13 : tie.Need-enum-known-a-13
+enum-known-a-13 c = c .match .keys15
+
+figured-requires-15 : tie.Need-figured-requires-15
+figured-requires-15 c κs = tt
+
 returns : tie.Need-returns
 unfolding figures
 returns c = rw (c .before .before .a .given .1) (c .figured .ensures)
@@ -144,6 +150,10 @@ returns-14 : tie.Need-returns-14
 unfolding figures
 returns-14 c = rw (c .before .before .a12 .given .1) (c .figured14 .ensures)
 
+returns-15 : tie.Need-returns-15
+unfolding figures
+returns-15 c = rw (c .before .before .a13 .given .1) (c .figured15 .ensures)
+
 pub figures-of-spec : {M : Type 1} → statement M
 figures-of-spec =
     tie.close
@@ -176,6 +186,8 @@ figures-of-spec =
     figured-requires-13
     enum-known-a-12
     figured-requires-14
+    enum-known-a-13
+    figured-requires-15
     returns
     returns-2
     returns-3
@@ -189,4 +201,5 @@ figures-of-spec =
     returns-11
     returns-12
     returns-13
-    returns-14)
+    returns-14
+    returns-15)

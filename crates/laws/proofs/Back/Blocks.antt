@@ -3,42 +3,38 @@
 -- Assumes nothing.
 use Prim.Native.Nat.{ℕ, _<_}
 use native.Mathlib.Omega.{arith}
-use mathlib.Core.Path.{_≡_, refl, sym, ap, _∙_, subst}
-use mathlib.Core.List.{List}
-use lib.ListN.{length, take, drop}
-use lib.Seq.{take-at}
-use lib.Dec.{ltb}
-use Rattle.lists.proofs.Laws.{by-pick}
-use Rattle.jkf.specs.Answers.{figures, Outcome}
-use Rattle.jkf.specs.declared.Answer.{Answer}
-use Rattle.jkf.specs.declared.Answer.the-variants.{Done, BufferShort, NotSound, HandCount, CannotWrite}
+use mathlib.Core.Path.{sym, ap, ap₂, _∙_, subst}
+use mathlib.Core.List.{List, _++_}
+use lib.ListN.{length, drop}
+use Rattle.jkf.specs.Answers.{Outcome}
+use Rattle.jkf.specs.declared.Answer.the-variants.{Done}
 use Rattle.jkf.specs.Model.{Record}
 use Rattle.block.specs.Encode.{encode}
 use Rattle.block.specs.Decode.{decode}
 use Rattle.block.specs.inner.Sounds.{Sound}
-use Rattle.block.specs.Sound.{soundb}
 use Rattle.block.specs.Formed.{Formed}
 use Rattle.parser.specs.Parse.{parse, recordOf}
 use Rattle.plays.specs.Plays.{plyAt}
 use Rattle.parser.specs.Read.{fillOf}
-use Rattle.converter.specs.Show.{recordText, onObstacle, handsObstacle, linesObstacle, text, refused, showLines, show, leftOut}
-use Rattle.converter.specs.Writing.{textStored, shownOf, writeOf}
-use Rattle.converter.specs.declared.Obstacle.{Obstacle}
-use Rattle.converter.specs.declared.Obstacle.the-variants.{At, Clear}
+use Rattle.converter.specs.declared.Mode.{Mode}
+use Rattle.converter.specs.declared.Mode.the-variants.{Plain}
+use Rattle.converter.specs.Said.{saidRecord}
 use Rattle.edit.specs.Edit.{playsIn, placeOf, variationOf}
 use Rattle.laws.specs.Blocks.{Bytes}
-use Rattle.laws.specs.Back.{EditOf, put, cut, EditsOf, none, then as after, OnceRead, read, then, readInto, ReadsBack, EditsReadBack}
-use Rattle.laws.proofs.Back.Colors.{colors-stay}
+use Rattle.laws.specs.Modes.{textIn, LosesNothing}
+use Rattle.laws.specs.Sayable.{Sayable, ColorsFollow}
+use Rattle.laws.specs.Back.{EditOf, put, cut, EditsOf, none, then as after, OnceRead, read, then, readInto, ReadsBack, EditsReadBack, Restores, ReadRestored}
 use Rattle.laws.proofs.Decoded.{decode-encode}
+use Rattle.laws.proofs.Encoded.{encode-decode}
 use Rattle.laws.proofs.Made.{sound-encode}
-use Rattle.laws.proofs.Forming.{refused as not-done, read-done}
+use Rattle.laws.proofs.Forming.{read-done}
 use Rattle.laws.proofs.Formed.{decode-formed}
 use Rattle.laws.proofs.EditsDone.{put-done, cut-done}
-use Rattle.laws.specs.Left.{left}
-use Rattle.laws.specs.Sayable.{Sayable}
+use Rattle.laws.proofs.Back.Colors.{colors-stay}
 use Rattle.laws.proofs.Back.ReadPlays.{entries-sayable}
 use Rattle.laws.proofs.Back.Keeps.{read-sayable, fresh-sayable, put-sayable, without-sayable}
-use Rattle.laws.proofs.Back.Records.{plain-back, plain-said, plain-bytes}
+use Rattle.laws.proofs.Back.Records.{all-back, plain-back, plain-said, plain-bytes}
+use Rattle.laws.proofs.Back.Written.{Wrote, write-says, all-later}
 
 -- ---- the blocks of which reading back is promised
 
@@ -70,44 +66,6 @@ once-sayable (read s o t n bs e) =
     subst SayableBlock (sym front) (sayable-encode (recordOf (parse s)) formed (read-sayable s))
 once-sayable (then h e) = edit-sayable (once-sayable h) e
 
--- ---- a writing that is done
-
-record Wrote (r : Record) (n : ℕ) (after : List ℕ) : Type 0 where
-  pub clear : handsObstacle (r .position) ≡ Clear
-  pub front : take n after ≡ recordText r
-  pub count : n ≡ length (recordText r)
-
-module _ (o : List ℕ) (n l : ℕ) where
-  abbrev Says : Record → Outcome → Type 0
-  Says r x = x .answer ≡ Done n l → Wrote r n (x .buffer)
-
-  filled-says : (r : Record) → handsObstacle (r .position) ≡ Clear → Says r (textStored (recordText r) (leftOut (r .lines)) o)
-  unfolding textStored figures
-  filled-says r c =
-      by-pick (Says r) (ltb (length o) (length (recordText r))) _ _ (λ _ e. not-done (BufferShort (length (recordText r))) n l (omega arith) e)
-      (λ _ e. let q : length (recordText r) ≡ n = ap (λ (x : Answer). figures x .first) e in
-      record { clear = c; front = take-at (recordText r) (drop (length (recordText r)) o) n q; count = sym q })
-
-  lines-say : (r : Record) → handsObstacle (r .position) ≡ Clear → Says r (shownOf (showLines r) o)
-  unfolding showLines shownOf figures
-  lines-say r c = go (linesObstacle (r .lines))
-    where
-      go : (x : Obstacle) → Says r (shownOf (onObstacle x (λ i j. refused (CannotWrite i j)) (text (recordText r) (leftOut (r .lines)))) o)
-      go (At i j) e = not-done (CannotWrite i j) n l (omega arith) e
-      go Clear e = filled-says r c e
-
-  shown-says : (r : Record) → Says r (shownOf (show r) o)
-  unfolding show shownOf figures
-  shown-says r = go (handsObstacle (r .position)) refl
-    where
-      go : (x : Obstacle) → handsObstacle (r .position) ≡ x → Says r (shownOf (onObstacle x (λ i j. refused (HandCount i j)) (showLines r)) o)
-      go (At i j) q e = not-done (HandCount i j) n l (omega arith) e
-      go Clear q e = lines-say r q e
-
-  write-says : (b : List ℕ) → Says (decode b) (writeOf b o)
-  unfolding writeOf figures
-  write-says b = by-pick (Says (decode b)) (soundb b) _ _ (λ _. shown-says (decode b)) (λ _ e. not-done NotSound n l (omega arith) e)
-
 -- ---- reading back
 
 pub reads-back : ReadsBack
@@ -115,12 +73,12 @@ reads-back b h c o n l e short o′ room =
     let w = once-sayable h in
     let r = decode b in
     let g = decode-formed b (w .bytes) (w .sound) in
-    let d = write-says o n l b e in
+    let d = write-says o n l Plain b e in
     let m = d .count in
-    let back = plain-back r g (w .sayable) c (d .clear) (omega arith) o′ room in (
-      ap (λ (t : List ℕ). fillOf t o′) (d .front) ∙ back ∙ ap (λ (k : ℕ). readInto k (left r) o′) (sym m),
-      decode-encode (left r) (subst Formed (plain-said r g (w .sayable) c (d .clear))
-          (read-done (recordText r) o′ (plain-bytes r g (w .sayable) c (d .clear)) (length (recordText r)) (length (encode (left r))) (ap (λ (x : Outcome). x .answer) back) .1)),
+    let back = plain-back r g (w .sayable) c (d .hands) (omega arith) o′ room in (
+      ap (λ (t : List ℕ). fillOf t o′) (d .front) ∙ back ∙ ap (λ (k : ℕ). readInto k (saidRecord Plain r) o′) (sym m),
+      decode-encode (saidRecord Plain r) (subst Formed (plain-said r g (w .sayable) c (d .hands))
+          (read-done (textIn Plain r) o′ (plain-bytes r g (w .sayable) c (d .hands)) (length (textIn Plain r)) (length (encode (saidRecord Plain r))) (ap (λ (x : Outcome). x .answer) back) .1)),
     )
 
 once-edited : {b c : List ℕ} → OnceRead b → EditsOf b c → OnceRead c
@@ -129,3 +87,22 @@ once-edited h (after es e) = then (once-edited h es) e
 
 pub edits-read-back : EditsReadBack
 edits-read-back b c h f es = reads-back c (once-edited h es) (colors-stay b c (once-sayable h .bytes) es f)
+
+-- ---- where nothing is lost                                                                           (02, xi)
+
+-- a sound block is restored where its record can be said, of which a writing that is done may tell
+pub restored : {mode : Mode} → LosesNothing mode → (b : List ℕ) → Bytes b → Sound b → ((n l : ℕ) (x : List ℕ) → Wrote mode (decode b) n l x → Sayable (decode b)) → ColorsFollow (decode b)
+    → Restores mode b
+restored {mode} m b bs s says c o n l e short o′ room =
+    let d = write-says o n l mode b e in
+    let q = d .count in
+    let i = encode-decode b s bs in
+    let k = ap length i in
+    ap (λ (t : List ℕ). fillOf t o′) (d .front)
+    ∙ all-back (decode b) (decode-formed b bs s) (says n l _ d) c (d .hands) m (all-later m (decode b) (d .starts)) (omega arith) o′ (omega arith)
+    ∙ ap₂ (λ (k : ℕ) (x : List ℕ). record { answer = Done k (length x); buffer = x ++ drop (length x) o′ }) (sym q) i
+
+pub read-restored : ReadRestored
+read-restored mode m b c h f es =
+    let w = once-sayable (once-edited h es) in
+    restored m c (w .bytes) (w .sound) (λ _ _ _ _. w .sayable) (colors-stay b c (once-sayable h .bytes) es f)

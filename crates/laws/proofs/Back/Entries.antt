@@ -1,8 +1,8 @@
 -- Comments, and move lines with their comments, read back one after the other.
 -- Assumes nothing.
 use Prim.Native.Nat.{ℕ, _+_, _-_, _≤_}
-use mathlib.Core.Path.{_≡_, refl, sym, _∙_}
-use mathlib.Core.List.{List, [], _∷_, _++_, append-assoc}
+use mathlib.Core.Path.{_≡_, refl, _∙_}
+use mathlib.Core.List.{List, [], _∷_, _++_, map, append-assoc}
 use mathlib.Core.Bool.{Bool, true, false, false≢true, not}
 use lib.ListN.{getD, take, drop}
 use lib.Dec.{eqb}
@@ -22,10 +22,12 @@ use Rattle.moves.specs.declared.MoveLine.the-variants.{NoLine}
 use Rattle.moves.specs.Fits.{EntryFits}
 use Rattle.plays.specs.Plays.{commentsAt, entriesAt, plyAt}
 use Rattle.plays.proofs.Items.{comments-more, comments-none, entries-more, entries-none}
-use Rattle.converter.specs.Entries.{starText, remarkText, remarksText}
-use Rattle.laws.specs.Whole.{wholeLine, wholeNoted, wholeEntries}
+use Rattle.converter.specs.Entries.{entryLine, starText, remarkText, remarksText, notedText, entriesText}
+use Rattle.converter.specs.declared.Mode.{Mode}
+use Rattle.converter.specs.Said.{saidNoted}
+use Rattle.laws.specs.Modes.{LosesNothing}
 use Rattle.laws.specs.Sayable.{everyByte, OneLine, Follows}
-use Rattle.laws.proofs.Back.Leaves.{byte-fails, blanks-none, digits-fail, tail-reads, break-reads, decimal-reads, padded-blanks, padded-off}
+use Rattle.laws.proofs.Back.Leaves.{pick-neither, byte-fails, blanks-none, digits-fail, tail-reads, break-reads, decimal-reads, padded-blanks, padded-off}
 use Rattle.laws.proofs.Back.MoveLines.{line-reads}
 
 -- ---- comments
@@ -33,13 +35,6 @@ use Rattle.laws.proofs.Back.MoveLines.{line-reads}
 -- what begins a comment line
 abbrev pub isMark : ℕ → Bool
 isMark b = pick (eqb b 42) true (eqb b 38)
-
-marks : (b : ℕ) → isMark b ≡ false → (eqb b 42 ≡ false) × (eqb b 38 ≡ false)
-marks b h = go (eqb b 42) h
-  where
-    go : (u : Bool) → pick u true (eqb b 38) ≡ false → (u ≡ false) × (eqb b 38 ≡ false)
-    go true h = absurd (false≢true (sym h))
-    go false h = (refl, h)
 
 -- a comment line and where it ends
 remark-came : (t : List ℕ) → OneLine t → {s : List ℕ} {at : ℕ} (r : List ℕ) → Stands s at (remarkText t ++ r) → {B : Type 0}
@@ -66,7 +61,7 @@ remark-came t h {s} {at} r st k = go t (eqb (getD t 0 0) 38) refl h st k
 
 remark-stops : {s : List ℕ} {at : ℕ} (r : List ℕ) → Stands s at r → Off isMark r → commentLineAt s at ≡ NoRemark
 unfolding commentLineAt keptAt
-remark-stops r st o = let (p, q) = marks (getD r 0 0) o in rw (byte-fails 42 [] st p, byte-fails 38 [] st q)
+remark-stops r st o = let (p, q) = pick-neither (eqb (getD r 0 0) 42) (eqb (getD r 0 0) 38) o in rw (byte-fails 42 [] st p, byte-fails 38 [] st q)
 
 pub comments-read : (cs : List (List ℕ)) → All OneLine cs → Reads commentsAt (λ e. ended e cs) (remarksText cs) (Off isMark)
 unfolding remarksText concat
@@ -97,38 +92,40 @@ pub record After (r : List ℕ) : Type 0 where
   pub blanks : Off isBlank r
   pub digits : Off isDigit r
 
-line-off : (f : ℕ → Bool) → f 32 ≡ false → range (λ b. not (f b)) 48 10 ≡ true → (ply : ℕ) (e : Noted) (r : List ℕ) → Off f (wholeNoted ply e ++ r)
-unfolding wholeNoted wholeLine
+line-off : (f : ℕ → Bool) → f 32 ≡ false → range (λ b. not (f b)) 48 10 ≡ true → (ply : ℕ) (e : Noted) (r : List ℕ) → Off f (notedText ply e ++ r)
+unfolding notedText entryLine
 line-off f h k ply e r = simp append-assoc (padded-off f 4 ply _ h k)
 
 -- entries begin with a blank or a digit
-pub entries-off : (f : ℕ → Bool) → f 32 ≡ false → range (λ b. not (f b)) 48 10 ≡ true → (ply : ℕ) (es : List Noted) (r : List ℕ) → Off f r → Off f (wholeEntries ply es ++ r)
-unfolding wholeEntries
+pub entries-off : (f : ℕ → Bool) → f 32 ≡ false → range (λ b. not (f b)) 48 10 ≡ true → (ply : ℕ) (es : List Noted) (r : List ℕ) → Off f r → Off f (entriesText ply es ++ r)
+unfolding entriesText
 entries-off f h k ply [] r o = o
-entries-off f h k ply (e ∷ es) r o = rw append-assoc (line-off f h k ply e (wholeEntries (ply + 1) es ++ r))
+entries-off f h k ply (e ∷ es) r o = rw append-assoc (line-off f h k ply e (entriesText (ply + 1) es ++ r))
 
 line-stops : {s : List ℕ} {at : ℕ} (r : List ℕ) → Stands s at r → After r → moveLineAt s at ≡ NoLine
 unfolding moveLineAt
 line-stops r st a = rw (blanks-none st (a .blanks), digits-fail 18446744073709551615 st (a .digits))
 
-pub entries-read : (ply : ℕ) (es : List Noted) → EntriesFit ply es → Reads entriesAt (λ e. ended e es) (wholeEntries ply es) After
-unfolding wholeEntries wholeNoted
-entries-read ply [] done = record { run = λ s at r st a. record { end = at; is = entries-none s at (line-stops r st a); left = st } }
-entries-read ply (e ∷ es) (also f fs) = record {
-  run = λ s at r st a. first f fs s at r st a (entries-read (ply + 1) es fs);
+pub entries-read : {mode : Mode} → LosesNothing mode → (ply : ℕ) (es : List Noted) → EntriesFit ply es
+    → Reads entriesAt (λ e. ended e es) (entriesText ply (map (saidNoted mode) es)) After
+unfolding entriesText notedText saidNoted
+entries-read n ply [] done = record { run = λ s at r st a. record { end = at; is = entries-none s at (line-stops r st a); left = st } }
+entries-read {mode} n ply (e ∷ es) (also f fs) = record {
+  run = λ s at r st a. first f fs s at r st a (entries-read n (ply + 1) es fs);
 }
   where
-    first : NotedFits ply e → EntriesFit (ply + 1) es → (s : List ℕ) (at : ℕ) (r : List ℕ) → Stands s at ((wholeNoted ply e ++ wholeEntries (ply + 1) es) ++ r) → After r
-        → Reads entriesAt (λ n. ended n es) (wholeEntries (ply + 1) es) After → Came (entriesAt s at) (λ n. ended n (e ∷ es)) s r
+    first : NotedFits ply e → EntriesFit (ply + 1) es → (s : List ℕ) (at : ℕ) (r : List ℕ)
+        → Stands s at ((notedText ply (saidNoted mode e) ++ entriesText (ply + 1) (map (saidNoted mode) es)) ++ r) → After r
+        → Reads entriesAt (λ n. ended n es) (entriesText (ply + 1) (map (saidNoted mode) es)) After → Came (entriesAt s at) (λ n. ended n (e ∷ es)) s r
     first f fs s at r st a ih =
-        then (line-reads ply (e .what) (f .number) (f .entry) (f .color)) (simp append-assoc at st) tt λ e₁ i₁ l₁.
-        then (comments-read (e .comments) (f .comments)) l₁ (entries-off isMark refl refl (ply + 1) es r (a .marks)) λ e₂ i₂ l₂.
+        then (line-reads n ply (e .what) (f .number) (f .entry) (f .color)) (simp append-assoc at st) tt λ e₁ i₁ l₁.
+        then (comments-read (e .comments) (f .comments)) l₁ (entries-off isMark refl refl (ply + 1) (map (saidNoted mode) es) r (a .marks)) λ e₂ i₂ l₂.
         then ih l₂ a λ e₃ i₃ l₃.
         record { end = e₃; is = entries-more s at ply (e .what) (cursor e₁) i₁ ∙ rw (i₂, i₃); left = l₃ }
 
 -- the number that is printed first
-pub ply-came : (ply : ℕ) (e : Noted) (es : List Noted) → ply ≤ 18446744073709551615 → {s : List ℕ} {at : ℕ} (r : List ℕ) → Stands s at (wholeEntries ply (e ∷ es) ++ r) → plyAt s at ≡ ply
-unfolding plyAt wholeEntries wholeNoted wholeLine
+pub ply-came : (ply : ℕ) (e : Noted) (es : List Noted) → ply ≤ 18446744073709551615 → {s : List ℕ} {at : ℕ} (r : List ℕ) → Stands s at (entriesText ply (e ∷ es) ++ r) → plyAt s at ≡ ply
+unfolding plyAt entriesText notedText entryLine
 ply-came ply e es n r st =
     came (padded-blanks 4 ply _ (simp append-assoc at st)) λ e₀ i₀ l₀.
     then (decimal-reads ply n) l₀ refl λ e₁ i₁ l₁.

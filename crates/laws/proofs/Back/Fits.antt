@@ -10,7 +10,7 @@ use mathlib.Core.List.{List, [], _∷_, map}
 use mathlib.Core.Bool.{Bool, true, false, false≢true}
 use lib.ListN.{length, getD, replicate, length-append}
 use lib.Dec.{eqb, ltb}
-use borrow.Author.Tests.{ne-eqb, eqb-true, eqb-false, ltb-false, lt-ltb, le-ltb}
+use borrow.Author.Tests.{eqb-true, eqb-false, ltb-false, lt-ltb, le-ltb}
 use Rattle.lists.specs.All.{All, none, next, Led, leads}
 use Rattle.lists.specs.Pick.{pick}
 use Rattle.lists.specs.Test.{claim, each, _and_, _equals_, flag}
@@ -33,8 +33,8 @@ use Rattle.sorted.specs.declared.Order.the-variants.{Less, Equal, Greater}
 use Rattle.sorted.proofs.Orders.{Chain, bytes-chain}
 use Rattle.parser.specs.Parse.{byHeader}
 use Rattle.plays.specs.Plays.{noted}
-use Rattle.lists.proofs.Laws.{by-pick}
-use Rattle.converter.specs.Show.{shown, handObstacle, handsObstacle}
+use Rattle.converter.specs.Said.{shown}
+use Rattle.converter.specs.Show.{handObstacle, handsObstacle}
 use Rattle.converter.specs.declared.Obstacle.the-variants.{At, Clear}
 use Rattle.edit.specs.Edit.{playsIn}
 use Rattle.parser.proofs.Alls.{index-all}
@@ -46,6 +46,7 @@ use Rattle.laws.proofs.Back.Lines.{LineFits}
 use Rattle.laws.proofs.Back.Information.{Side, black, white}
 use Rattle.laws.proofs.Back.Starts.{presetAt, diagramOf}
 use Rattle.laws.proofs.Back.Texts.{PositionFits, named, drawn, LinesFit, fit, RecordFits}
+use Rattle.laws.proofs.Back.Shown.{shown-all, shown-later}
 
 -- ---- entries
 
@@ -55,12 +56,12 @@ entries-fitted ply (next {l = l} s ss) (then c cs) h =
     let n : ply ≤ 18446744073709551615 = omega arith in
     also (record { number = n; entry = s .entry; color = c; comments = s .comments }) (entries-fitted (ply + 1) ss cs (omega arith))
 
-line-fitted : (l : Line) → 1 ≤ length (l .entries) → All NotedSayable (l .entries) → Colored (l .start) (l .entries) → l .start + length (l .entries) ≤ 18446744073709551615 → LineFits l
-line-fitted l n s c h = go (l .entries) refl n (entries-fitted (l .start) s c h)
+line-fitted : (l : Line) → 0 < l .start → 1 ≤ length (l .entries) → All NotedSayable (l .entries) → Colored (l .start) (l .entries) → l .start + length (l .entries) ≤ 18446744073709551615 → LineFits l
+line-fitted l z n s c h = go (l .entries) refl n (entries-fitted (l .start) s c h)
   where
     go : (es : List Noted) → l .entries ≡ es → 1 ≤ length es → EntriesFit (l .start) (l .entries) → LineFits l
     go [] e n f = absurd (omega arith)
-    go (x ∷ xs) e n f = record { first = x; others = xs; some = e; entries = f }
+    go (x ∷ xs) e n f = record { later = z; first = x; others = xs; some = e; entries = f }
 
 -- ---- the position
 
@@ -179,24 +180,13 @@ record Known (l : Line) : Type 0 where
   pub some : 1 ≤ length (l .entries)
   pub low : l .start + length (l .entries) ≤ 18446744073709551615
 
-lines-fitted : {ls : List Line} → All Known ls → All (λ l. All NotedSayable (l .entries)) ls → All (λ l. Colored (l .start) (l .entries)) ls → All LineFits ls
-lines-fitted none ss cs = none
-lines-fitted (next {x = l} k ks) (next s ss) (next c cs) = next (line-fitted l (k .some) s c (k .low)) (lines-fitted ks ss cs)
+lines-fitted : {ls : List Line} → All (λ l. 0 < l .start) ls → All Known ls → All (λ l. All NotedSayable (l .entries)) ls → All (λ l. Colored (l .start) (l .entries)) ls → All LineFits ls
+lines-fitted none ks ss cs = none
+lines-fitted (next {x = l} z zs) (next k ks) (next s ss) (next c cs) = next (line-fitted l z (k .some) s c (k .low)) (lines-fitted zs ks ss cs)
 
-all-unmap : {A B : Type 0} {P : B → Type 0} (f : A → B) (l : List A) → All P (map f l) → All (λ x. P (f x)) l
+pub all-unmap : {A B : Type 0} {P : B → Type 0} (f : A → B) (l : List A) → All P (map f l) → All (λ x. P (f x)) l
 all-unmap f [] h = none
 all-unmap f (x ∷ l) (next p h) = next p (all-unmap f l h)
-
--- the lines that are shown are the first of them
-pub shown-all : {P : Line → Type 0} {ls : List Line} → All P ls → All P (shown ls)
-unfolding shown
-shown-all none = none
-shown-all {P} (next {x = l} {l = ls} p h) = by-pick (λ (k : List Line). All P k) (eqb (l .start) 0) [] (l ∷ shown ls) (λ _. none) (λ _. next p (shown-all h))
-
-pub shown-same : {ls : List Line} → All (λ l. 0 < l .start) ls → shown ls ≡ ls
-unfolding shown
-shown-same none = refl
-shown-same (next {x = l} {l = ls} p h) = rw (ne-eqb (l .start) 0 (λ e. omega arith), shown-same h)
 
 main-is : (l : Line) {cs : List (List ℕ)} {es : List Noted} → l .start ≡ 0 → l .parent ≡ 0 → l .entries ≡ noted Slot cs ∷ es → l ≡ record { start = 0; parent = 0; entries = noted Slot cs ∷ es }
 main-is l {cs} {es} a b c = ap₂ (λ (x y : ℕ). record { start = x; parent = y; entries = l .entries }) a b ∙ ap (λ (z : List Noted). record { start = 0; parent = 0; entries = z }) c
@@ -259,7 +249,8 @@ all-fitted (l ∷ ls) n f (next k ks) (leads s ss) (next c cs) = go (l .entries)
         let c₁ : Colored 1 es = subst (λ (p : ℕ). Colored (p + 1) es) (first .0) (later-colored c) in
         let n₁ : 1 + length es ≤ 18446744073709551615 = omega (arith, k .low, ap length e) in
         subst (λ (l : Line). LinesFit (l ∷ shown ls)) (sym q)
-        (fit (t .comments) (entries-fitted 1 ts c₁ n₁) (lines-fitted (shown-all ks) (shown-all (all-unmap _ ls ss)) (shown-all (all-unmap _ ls cs))) (λ y. alone (length es) (ap length e) y ls f))
+        (fit (t .comments) (entries-fitted 1 ts c₁ n₁)
+        (lines-fitted (shown-later ls) (shown-all ks) (shown-all (all-unmap _ ls ss)) (shown-all (all-unmap _ ls cs))) (λ y. alone (length es) (ap length e) y ls f))
 
 pub record-fitted : (r : Record) → Formed r → Sayable r → ColorsFollow r → handsObstacle (r .position) ≡ Clear → RecordFits (shownRecord r)
 record-fitted r g s c o =

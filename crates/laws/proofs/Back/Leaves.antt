@@ -5,7 +5,7 @@ use native.Mathlib.Nat.{add-zero}
 use native.Mathlib.Omega.{arith}
 use mathlib.Core.Path.{_≡_, refl, sym, _∙_, ap}
 use mathlib.Core.List.{List, [], _∷_, _++_, append-assoc}
-use mathlib.Core.Bool.{Bool, true, false, not}
+use mathlib.Core.Bool.{Bool, true, false, not, false≢true}
 use lib.ListN.{length, getD, replicate, length-append, length-drop, drop}
 use lib.Dec.{eqb, ltb}
 use borrow.Author.Tests.{ne-eqb, eq-eqb, le-ltb, le-leb, ltb-true, ltb-false, not-true}
@@ -61,7 +61,16 @@ digit-is f h b t = let (p, q) = digit-bounds b t in range-at f 10 48 b h p q
 pub digit-off : (f : ℕ → Bool) → range (λ b. not (f b)) 48 10 ≡ true → (b : ℕ) → isDigit b ≡ true → f b ≡ false
 digit-off f h b t = not-true (f b) (digit-is (λ b. not (f b)) h b t)
 
+-- what is of neither of two classes
+pub pick-neither : (t u : Bool) → pick t true u ≡ false → (t ≡ false) × (u ≡ false)
+pick-neither true u h = absurd (false≢true (sym h))
+pick-neither false u h = (refl, h)
+
 -- ---- a byte string that does not stand there
+
+pub tag-absent : (a : List ℕ) {s : List ℕ} {at : ℕ} {r : List ℕ} → Stands s at r → prefixFrom a r ≡ false → tagAt a s at ≡ Absent
+unfolding tagAt standsAt
+tag-absent a st h = rw (st .rest, h)
 
 pub tag-fails : (a t : List ℕ) → clash a t ≡ false → {s : List ℕ} {at : ℕ} (r : List ℕ) → Stands s at (t ++ r) → tagAt a s at ≡ Absent
 unfolding tagAt

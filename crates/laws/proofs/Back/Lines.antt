@@ -1,6 +1,6 @@
 -- Lines of play read back. A line takes the head of the next one with it: an empty line and 変化 are one skip line.
 -- Assumes nothing.
-use Prim.Native.Nat.{ℕ, _≤_}
+use Prim.Native.Nat.{ℕ, _≤_, _<_}
 use native.Mathlib.Omega.{arith}
 use mathlib.Core.Path.{_≡_, refl, ap, _∙_}
 use mathlib.Core.List.{List, [], _∷_, _++_, map, append-assoc}
@@ -27,9 +27,11 @@ use Rattle.spell.specs.Words.{black, white}
 use Rattle.plays.specs.Plays.{noted, entriesAt, skippedAt, skipsAt, variationsAt, pastMain, mainAt, playsAt}
 use Rattle.plays.proofs.Items.{skips-none}
 use Rattle.plays.proofs.Variations.{variations-more, variations-none, main-is, main-none}
-use Rattle.converter.specs.Entries.{remarksText}
-use Rattle.converter.specs.Show.{numberLine, variationTag, variationHead}
-use Rattle.laws.specs.Whole.{wholeNoted, wholeEntries, wholeVariation, wholeLine}
+use Rattle.converter.specs.Entries.{entryLine, remarksText, notedText, entriesText}
+use Rattle.converter.specs.Show.{numberLine, variationTag, variationHead, variationText}
+use Rattle.converter.specs.declared.Mode.{Mode}
+use Rattle.converter.specs.Said.{saidNoted, saidLine}
+use Rattle.laws.specs.Modes.{LosesNothing, whole}
 use Rattle.laws.specs.Sayable.{everyByte, OneLine}
 use Rattle.laws.proofs.Back.Leaves.{all-append, all-of, digit-is, decimal-digits, line-end-reads, padded-off, byte-2, in-text}
 use Rattle.laws.proofs.Back.Entries.{isMark, comments-read, EntriesFit, done, also, After, entries-off, entries-read, ply-came}
@@ -113,8 +115,9 @@ skipped-none s at h = rw h
 
 -- ---- lines of play
 
--- a variation that can be read back: some entries, which are fit
+-- a variation that can be read back: a start past 0, and some entries, which are fit
 pub record LineFits (l : Line) : Type 0 where
+  pub later : 0 < l .start
   pub first : Noted
   pub others : List Noted
   pub some : l .entries ≡ first ∷ others
@@ -123,25 +126,21 @@ pub record LineFits (l : Line) : Type 0 where
 abbrev pub asPlay : Line → Play
 asPlay l = play (l .start) (l .entries)
 
-entries-move : (ply : ℕ) (e : Noted) (es : List Noted) (r : List ℕ) → isMove (getD (wholeEntries ply (e ∷ es) ++ r) 0 0) ≡ true
-unfolding wholeEntries wholeNoted wholeLine
+entries-move : (ply : ℕ) (e : Noted) (es : List Noted) (r : List ℕ) → isMove (getD (entriesText ply (e ∷ es) ++ r) 0 0) ≡ true
+unfolding entriesText notedText entryLine
 entries-move ply e es r = not-false _ (simp append-assoc (padded-off (λ b. not (isMove b)) 4 ply _ refl refl))
 
 nil-after : After []
 nil-after = record { marks = refl; blanks = refl; digits = refl }
 
-variations-after : (ls : List Line) → After (concat wholeVariation ls)
-unfolding concat wholeVariation variationHead
+variations-after : (ls : List Line) → After (concat variationText ls)
+unfolding concat variationText variationHead
 variations-after [] = nil-after
 variations-after (l ∷ ls) = record { marks = refl; blanks = refl; digits = refl }
 
-none-length : (es : List Noted) → length es ≡ 0 → es ≡ []
-none-length [] h = refl
-none-length (e ∷ es) h = absurd (omega arith)
-
 entries-end : {s : List ℕ} {at : ℕ} → Stands s at [] → entriesAt s at ≡ ended at []
-unfolding wholeEntries
-entries-end {s} {at} st = then (entries-read 1 [] done) st nil-after λ e i l. i ∙ ap (λ (n : ℕ). ended n []) (stands-one l st)
+unfolding entriesText
+entries-end {s} {at} st = then (entries-read whole 1 [] done) st nil-after λ e i l. i ∙ ap (λ (n : ℕ). ended n []) (stands-one l st)
 
 variations-end : {s : List ℕ} {at : ℕ} → Stands s at [] → variationsAt s at ≡ ended at []
 variations-end {s} {at} st =
@@ -149,19 +148,19 @@ variations-end {s} {at} st =
     variations-none s at (ap (λ (a : ℕ). length (entriesAt s a .state)) z ∙ ap (λ (r : Ended (List Noted)). length (r .state)) (entries-end st))
 
 -- variations, from the head of the first on, which the line before has taken
-pub variations-came : (ls : List Line) → All LineFits ls → {s : List ℕ} {at : ℕ} → Stands s at (concat wholeVariation ls)
+pub variations-came : {mode : Mode} → LosesNothing mode → (ls : List Line) → All LineFits ls → {s : List ℕ} {at : ℕ} → Stands s at (concat variationText (map (saidLine mode) ls))
     → Came (variationsAt s (skippedAt s at)) (λ e. ended e (map asPlay ls)) s []
-unfolding concat wholeVariation
-variations-came [] none {s} {at} st = record { end = at; is = rw (skipped-none s at (skip-ends st)) (variations-end st); left = st }
-variations-came (l ∷ ls) (next f fs) {s} {at} st =
+unfolding concat variationText saidLine
+variations-came n [] none {s} {at} st = record { end = at; is = rw (skipped-none s at (skip-ends st)) (variations-end st); left = st }
+variations-came {mode} n (l ∷ ls) (next f fs) {s} {at} st =
     then (head-skips (l .start)) (simp append-assoc at st) tt λ e₀ i₀ l₀.
     let k : skippedAt s at ≡ e₀ = skipped-at s at e₀ i₀ in
-    let m : Stands s e₀ (wholeEntries (l .start) (f .first ∷ f .others) ++ concat wholeVariation ls) = rw (f .some) at l₀ in
-    let z = skips-none s e₀ (skip-fails _ m (entries-move (l .start) (f .first) (f .others) _)) in
-    let p = ply-came (l .start) (f .first) (f .others) (low (l .start) (l .entries) (f .first) (f .others) (f .some) (f .entries)) _ m in
-    then (entries-read (l .start) (l .entries) (f .entries)) l₀ (variations-after ls) λ e₁ i₁ l₁.
+    let m : Stands s e₀ (entriesText (l .start) (map (saidNoted mode) (f .first ∷ f .others)) ++ concat variationText (map (saidLine mode) ls)) = rw (f .some) at l₀ in
+    let z = skips-none s e₀ (skip-fails _ m (entries-move (l .start) (saidNoted mode (f .first)) (map (saidNoted mode) (f .others)) _)) in
+    let p = ply-came (l .start) (saidNoted mode (f .first)) (map (saidNoted mode) (f .others)) (low (l .start) (l .entries) (f .first) (f .others) (f .some) (f .entries)) _ m in
+    then (entries-read n (l .start) (l .entries) (f .entries)) l₀ (variations-after (map (saidLine mode) ls)) λ e₁ i₁ l₁.
     let some : length (entriesAt s (skipsAt s e₀) .state) ≡ 0 → ⊥ = λ q. filled (f .first) (f .others) (rw (z, i₁, f .some) at q) in
-    came (variations-came ls fs l₁) λ e₂ i₂ l₂.
+    came (variations-came n ls fs l₁) λ e₂ i₂ l₂.
     record { end = e₂; is = rw k (variations-more s e₀ some ∙ rw (z, i₁, p, i₂)); left = l₂ }
   where
     filled : (x : Noted) (xs : List Noted) → length (x ∷ xs) ≡ 0 → ⊥
@@ -172,26 +171,27 @@ variations-came (l ∷ ls) (next f fs) {s} {at} st =
     low ply (y ∷ ys) x xs e (also g gs) = g .number
 
 -- all lines: the comments of the slot, the main line, and the variations; without moves in the main line there is none
-pub plays-came : (cs : List (List ℕ)) (es : List Noted) (ls : List Line) → All OneLine cs → EntriesFit 1 es → All LineFits ls → (length es ≡ 0 → ls ≡ [])
-    → {s : List ℕ} {at : ℕ} → Stands s at ((numberLine ++ (remarksText cs ++ wholeEntries 1 es)) ++ concat wholeVariation ls)
+pub plays-came : {mode : Mode} → LosesNothing mode → (cs : List (List ℕ)) (es : List Noted) (ls : List Line) → All OneLine cs → EntriesFit 1 es → All LineFits ls
+    → (length es ≡ 0 → ls ≡ []) → {s : List ℕ} {at : ℕ}
+    → Stands s at ((numberLine ++ (remarksText cs ++ entriesText 1 (map (saidNoted mode) es))) ++ concat variationText (map (saidLine mode) ls))
     → Came (playsAt s at) (λ e. ended e (play 0 (noted Slot cs ∷ es) ∷ map asPlay ls)) s []
-unfolding playsAt mainAt wholeEntries concat
-plays-came cs es ls g f fs alone {s} {at} st =
+unfolding playsAt mainAt entriesText concat
+plays-came {mode} n cs es ls g f fs alone {s} {at} st =
     then number-skips (simp append-assoc at st) tt λ e₀ i₀ l₀.
-    then (comments-read cs g) l₀ (entries-off isMark refl refl 1 es _ (variations-after ls .marks)) λ e₁ i₁ l₁.
-    then (entries-read 1 es f) l₁ (variations-after ls) λ e₂ i₂ l₂.
+    then (comments-read cs g) l₀ (entries-off isMark refl refl 1 (map (saidNoted mode) es) _ (variations-after (map (saidLine mode) ls) .marks)) λ e₁ i₁ l₁.
+    then (entries-read n 1 es f) l₁ (variations-after (map (saidLine mode) ls)) λ e₂ i₂ l₂.
     came (main es ls alone fs e₁ e₂ i₂ l₁ l₂) λ e₃ i₃ l₃.
     record { end = e₃; is = rw (skipped-at s at e₀ i₀, i₁, i₂, i₃); left = l₃ }
   where
     main : (es : List Noted) (ls : List Line) → (length es ≡ 0 → ls ≡ []) → All LineFits ls → (a e : ℕ) → entriesAt s a ≡ ended e es
-        → Stands s a (wholeEntries 1 es ++ concat wholeVariation ls) → Stands s e (concat wholeVariation ls)
+        → Stands s a (entriesText 1 (map (saidNoted mode) es) ++ concat variationText (map (saidLine mode) ls)) → Stands s e (concat variationText (map (saidLine mode) ls))
         → Came (variationsAt s (pastMain s a)) (λ n. ended n (map asPlay ls)) s []
     main [] [] alone fs a e i st su = record { end = a; is = rw (main-none s a (rw i)) (variations-end st); left = st }
     main [] (l ∷ ls) alone fs a e i st su = let z : _≡_ {A = List Line} (l ∷ ls) [] = alone refl in let y : _≡_ {A = ℕ} 0 1 = cc in absurd (omega arith)
     main (x ∷ es) ls alone fs a e i st su =
         let some : length (entriesAt s a .state) ≡ 0 → ⊥ = λ q. filled x es (rw i at q) in
         let k : pastMain s a ≡ skippedAt s e = main-is s a some ∙ rw i in
-        came (variations-came ls fs su) λ e₂ i₂ l₂.
+        came (variations-came n ls fs su) λ e₂ i₂ l₂.
         record { end = e₂; is = rw (k, i₂); left = l₂ }
       where
         filled : (x : Noted) (xs : List Noted) → length (x ∷ xs) ≡ 0 → ⊥

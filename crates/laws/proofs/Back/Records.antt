@@ -1,4 +1,5 @@
--- What was written reads back: `fill` of the text answers the block of what is left of the record.
+-- What was written reads back: `fill` of a text that loses nothing answers the block of the record, and of the plain text, which is such a text of
+-- what it says, the block of that.
 -- Assumes nothing.
 use Prim.Native.Nat.{ℕ, _+_, _*_, _≤_, _<_}
 use native.Mathlib.Omega.{arith}
@@ -16,12 +17,13 @@ use Rattle.block.specs.Encode.{concat, encode, entriesOf, commentsOf, commentTe
 use Rattle.block.specs.Formed.{Formed}
 use Rattle.block.proofs.Tabling.{concat-append}
 use Rattle.block.proofs.Lengths.{block-length}
-use Rattle.kakinoki.specs.Starts.{startRead}
-use Rattle.kakinoki.specs.declared.Fault.the-variants.{NoFault}
 use Rattle.filling.specs.Filling.{atFront}
 use Rattle.parser.specs.Parse.{parse, recordOf, needed}
 use Rattle.parser.specs.Read.{filledWith, readStored, earlyOf, faultless, fillOf}
-use Rattle.converter.specs.Show.{recordText, handsObstacle}
+use Rattle.converter.specs.declared.Mode.{Mode}
+use Rattle.converter.specs.declared.Mode.the-variants.{Plain, Whole}
+use Rattle.converter.specs.Said.{saidNoted, saidLine, saidLines, saidRecord}
+use Rattle.converter.specs.Show.{handsObstacle}
 use Rattle.converter.specs.declared.Obstacle.the-variants.{Clear}
 use Rattle.edit.specs.Edit.{playsIn}
 use Rattle.edit.specs.inner.Splicing.{Lines}
@@ -30,16 +32,16 @@ use Rattle.parser.proofs.Alls.{index-all}
 use Rattle.laws.proofs.Decoded.{formed-fits, decode-encode}
 use Rattle.laws.proofs.Made.{sound-encode}
 use Rattle.laws.proofs.Fields.{fits}
-use Rattle.laws.specs.Whole.{wholeText}
-use Rattle.laws.specs.Left.{leftNoted, leftLine, leftLines, left}
+use Rattle.laws.specs.Modes.{textIn, LosesNothing, whole}
 use Rattle.laws.specs.Sayable.{Sayable, ColorsFollow}
-use Rattle.laws.specs.Back.{parsedOf}
+use Rattle.laws.specs.Back.{parsedOf, readInto}
 use Rattle.laws.proofs.Back.Texts.{RecordFits, parse-back}
-use Rattle.laws.proofs.Back.Plain.{plain-is}
-use Rattle.laws.proofs.Back.Fits.{shown-all, shown-same, shownLines, record-fitted}
+use Rattle.laws.proofs.Back.SaidTwice.{plain-is-whole}
+use Rattle.laws.proofs.Back.Shown.{shown-all, shown-same}
+use Rattle.laws.proofs.Back.Fits.{shownLines, record-fitted}
 use Rattle.laws.proofs.Back.Characters.{Chars, chars-well, well-chars, chars-small}
 use Rattle.laws.proofs.Back.WellFormed.{NotesValid, LinesValid, HeaderValid, text-chars}
-use Rattle.laws.proofs.Back.Left.{left-fits, taken-of, Attached, left-attached}
+use Rattle.laws.proofs.Back.Said.{said-fits, taken-of, Attached, said-attached}
 
 -- ---- texts are valid
 
@@ -62,20 +64,25 @@ headers-valid : (r : Record) → Formed r → All HeaderValid (r .headers)
 headers-valid r g =
     index-all HeaderValid (record { key = []; value = [] }) (r .headers) (λ k h. record { key = well-chars _ (g .headers k h .0); value = well-chars _ (g .headers k h .1 .0) })
 
-notes-left : {es : List Noted} → NotesValid es → NotesValid (map leftNoted es)
-unfolding leftNoted
-notes-left none = none
-notes-left (next p h) = next p (notes-left h)
+module _ (mode : Mode) where
+  notes-said : {es : List Noted} → NotesValid es → NotesValid (map (saidNoted mode) es)
+  unfolding saidNoted
+  notes-said none = none
+  notes-said (next p h) = next p (notes-said h)
 
-lines-left : {ls : List Line} → LinesValid ls → LinesValid (map leftLine ls)
-unfolding leftLine
-lines-left none = none
-lines-left (next p h) = next (notes-left p) (lines-left h)
+  lines-said : {ls : List Line} → LinesValid ls → LinesValid (map (saidLine mode) ls)
+  unfolding saidLine
+  lines-said none = none
+  lines-said (next p h) = next (notes-said p) (lines-said h)
 
-left-valid : {ls : List Line} → LinesValid ls → LinesValid (leftLines ls)
-unfolding leftLines leftLine
-left-valid none = none
-left-valid (next p h) = next (notes-left p) (lines-left (shown-all h))
+  said-valid : {ls : List Line} → LinesValid ls → LinesValid (saidLines mode ls)
+  unfolding saidLines saidLine
+  said-valid none = none
+  said-valid (next p h) = next (notes-said p) (lines-said (shown-all h))
+
+  said-chars : (r : Record) → All HeaderValid (r .headers) → LinesValid (r .lines) → Chars (textIn mode r)
+  unfolding saidRecord
+  said-chars r hs ls = text-chars (saidRecord mode r) hs (said-valid ls)
 
 -- ---- the block is no longer
 
@@ -83,28 +90,28 @@ map-append : {A B : Type 0} (f : A → B) (l m : List A) → map f (l ++ m) ≡ 
 map-append f [] m = refl
 map-append f (x ∷ l) m = ap (λ k. f x ∷ k) (map-append f l m)
 
-entries-left : (ls : List Line) → entriesOf (map leftLine ls) ≡ map leftNoted (entriesOf ls)
-unfolding concat leftLine
-entries-left [] = refl
-entries-left (l ∷ ls) = ap (λ (k : List Noted). map leftNoted (l .entries) ++ k) (entries-left ls) ∙ sym (map-append leftNoted (l .entries) (entriesOf ls))
+entries-said : (ls : List Line) → entriesOf (map (saidLine Plain) ls) ≡ map (saidNoted Plain) (entriesOf ls)
+unfolding concat saidLine
+entries-said [] = refl
+entries-said (l ∷ ls) = ap (λ (k : List Noted). map (saidNoted Plain) (l .entries) ++ k) (entries-said ls) ∙ sym (map-append (saidNoted Plain) (l .entries) (entriesOf ls))
 
-comments-left : (es : List Noted) → commentsOf (map leftNoted es) ≡ commentsOf es
-unfolding concat leftNoted
-comments-left [] = refl
-comments-left (e ∷ es) = ap (λ (k : List (List ℕ)). e .comments ++ k) (comments-left es)
+comments-said : (es : List Noted) → commentsOf (map (saidNoted Plain) es) ≡ commentsOf es
+unfolding concat saidNoted
+comments-said [] = refl
+comments-said (e ∷ es) = ap (λ (k : List (List ℕ)). e .comments ++ k) (comments-said es)
 
 -- what lines, entries and comments take
 abbrev weight : List Line → ℕ
 weight ls = 8 * length ls + 20 * length (entriesOf ls) + 4 * length (commentsOf (entriesOf ls)) + length (commentText (commentsOf (entriesOf ls)))
 
-weight-left : (ls : List Line) → weight (map leftLine ls) ≡ weight ls
-weight-left ls =
-    let e : commentsOf (entriesOf (map leftLine ls)) ≡ commentsOf (entriesOf ls) = ap commentsOf (entries-left ls) ∙ comments-left (entriesOf ls) in
+weight-said : (ls : List Line) → weight (map (saidLine Plain) ls) ≡ weight ls
+weight-said ls =
+    let e : commentsOf (entriesOf (map (saidLine Plain) ls)) ≡ commentsOf (entriesOf ls) = ap commentsOf (entries-said ls) ∙ comments-said (entriesOf ls) in
     omega (
       arith,
-      length-map ls leftLine,
-      ap length (entries-left ls),
-      length-map (entriesOf ls) leftNoted,
+      length-map ls (saidLine Plain),
+      ap length (entries-said ls),
+      length-map (entriesOf ls) (saidNoted Plain),
       ap length e,
       ap (λ (cs : List (List ℕ)). length (commentText cs)) e,
     )
@@ -126,12 +133,12 @@ weight-append a b =
       length-append (commentText (commentsOf (entriesOf a))) (commentText (commentsOf (entriesOf b))),
     )
 
-weight-less : (ls : List Line) → 1 ≤ length ls → weight (leftLines ls) ≤ weight ls
+weight-less : (ls : List Line) → 1 ≤ length ls → weight (saidLines Plain ls) ≤ weight ls
 weight-less ls h =
     let t = taken-of ls h in
-    omega (arith, ap weight (t .is), weight-left (take (t .n) ls), weight-append (take (t .n) ls) (drop (t .n) ls), ap weight (take-append-drop (t .n) ls))
+    omega (arith, ap weight (t .is), weight-said (take (t .n) ls), weight-append (take (t .n) ls) (drop (t .n) ls), ap weight (take-append-drop (t .n) ls))
 
--- ---- a text that is whole is read
+-- ---- a text in which nothing is lost is read
 
 -- how long a block of these header entries and lines is
 abbrev longBy : List Header → List Line → ℕ
@@ -146,25 +153,25 @@ module _ (r : Record) (f : RecordFits r) (one : r .version ≡ 1) (a : Attached 
   unfolding needed
   needed-back n = ap (longBy (r .headers)) (a .same)
 
-  module _ (short : length (wholeText r) ≤ 65535) (fits : longBy (r .headers) (r .lines) ≤ 65535) (o : List ℕ) (room : longBy (r .headers) (r .lines) ≤ length o) where
+  module _ (fits : longBy (r .headers) (r .lines) ≤ 65535) (o : List ℕ) (room : longBy (r .headers) (r .lines) ≤ length o) where
     -- what `fill` answers
-    abbrev answered : Outcome
-    answered = record { answer = Done (length (wholeText r)) (longBy (r .headers) (r .lines)); buffer = atFront (encode r) o }
+    abbrev answered : ℕ → Outcome
+    answered n = record { answer = Done n (longBy (r .headers) (r .lines)); buffer = atFront (encode r) o }
 
-    filled-back : filledWith (parsedOf r (length (wholeText r))) o ≡ answered
+    filled-back : (n : ℕ) → filledWith (parsedOf r n) o ≡ answered n
     unfolding filledWith
-    filled-back = rw (a .lines .hung, needed-back (length (wholeText r)), record-back (length (wholeText r)))
+    filled-back n = rw (a .lines .hung, needed-back n, record-back n)
 
-    stored-back : readStored (parsedOf r (length (wholeText r))) o ≡ answered
+    stored-back : (n : ℕ) → readStored (parsedOf r n) o ≡ answered n
     unfolding readStored
-    stored-back = rw (needed-back (length (wholeText r)), le-ltb 65535 (longBy (r .headers) (r .lines)) fits, le-ltb (length o) (longBy (r .headers) (r .lines)) room) filled-back
+    stored-back n = rw (needed-back n, le-ltb 65535 (longBy (r .headers) (r .lines)) fits, le-ltb (length o) (longBy (r .headers) (r .lines)) room) (filled-back n)
 
-    pub whole-read : fillOf (wholeText r) o ≡ answered
+    pub text-read : {mode : Mode} → LosesNothing mode → length (textIn mode r) ≤ 65535 → fillOf (textIn mode r) o ≡ answered (length (textIn mode r))
     unfolding fillOf earlyOf faultless
-    whole-read =
-        let (p, q) = parse-back r f in
-        let w : wellFormedBytes (wholeText r) ≡ length (wholeText r) = chars-well (text-chars r hs ls) in
-        rw (le-ltb 65535 (length (wholeText r)) short, w, le-ltb (length (wholeText r)) (length (wholeText r)) (omega arith), q, p) stored-back
+    text-read {mode} n short =
+        let (p, q) = parse-back n r f in
+        let w : wellFormedBytes (textIn mode r) ≡ length (textIn mode r) = chars-well (said-chars mode r hs ls) in
+        rw (le-ltb 65535 (length (textIn mode r)) short, w, le-ltb (length (textIn mode r)) (length (textIn mode r)) (omega arith), q, p) (stored-back (length (textIn mode r)))
 
 -- ---- a well-formed record
 
@@ -178,12 +185,9 @@ formed-attached r g =
     }
 
 module _ (r : Record) (g : Formed r) (s : Sayable r) (c : ColorsFollow r) (h : handsObstacle (r .position) ≡ Clear) where
-  -- what is left is fit to be read back, and so is all of it where no variation starts at 0
-  left-fit : RecordFits (left r)
-  left-fit = left-fits r (record-fitted r g s c h)
-
-  whole-fit : All (λ l. 0 < l .start) (drop 1 (r .lines)) → RecordFits r
-  whole-fit z = subst RecordFits (shown-is (r .lines) z) (record-fitted r g s c h)
+  -- it is fit to be read back where no variation starts at 0, and what the plain text says of it always is
+  pub all-fit : All (λ l. 0 < l .start) (drop 1 (r .lines)) → RecordFits r
+  all-fit z = subst RecordFits (shown-is (r .lines) z) (record-fitted r g s c h)
     where
       with : List Line → Record
       with ls = record { version = r .version; headers = r .headers; position = r .position; lines = ls }
@@ -192,44 +196,47 @@ module _ (r : Record) (g : Formed r) (s : Sayable r) (c : ColorsFollow r) (h : h
       shown-is [] z = refl
       shown-is (l ∷ ls) z = ap (λ (k : List Line). with (l ∷ k)) (shown-same z)
 
-  -- what the texts say
-  pub whole-says : All (λ l. 0 < l .start) (drop 1 (r .lines)) → (parse (wholeText r) ≡ parsedOf r (length (wholeText r))) × (startRead (wholeText r) .fault ≡ NoFault)
-  whole-says z = parse-back r (whole-fit z)
+  pub plain-fit : RecordFits (saidRecord Plain r)
+  plain-fit = said-fits r (record-fitted r g s c h)
 
-  pub plain-says : (parse (recordText r) ≡ parsedOf (left r) (length (recordText r))) × (startRead (recordText r) .fault ≡ NoFault)
-  plain-says = rw (plain-is r) (parse-back (left r) left-fit)
-
-  -- the whole text                                                                                       (02, xi)
-  pub whole-back : All (λ l. 0 < l .start) (drop 1 (r .lines)) → length (wholeText r) ≤ 65535 → (o : List ℕ) → length (encode r) ≤ length o
-      → fillOf (wholeText r) o ≡ record { answer = Done (length (wholeText r)) (length (encode r)); buffer = encode r ++ drop (length (encode r)) o }
-  whole-back z short o room =
+  -- a text that loses nothing                                                                            (02, xi)
+  pub all-back : {mode : Mode} → LosesNothing mode → All (λ l. 0 < l .start) (drop 1 (r .lines)) → length (textIn mode r) ≤ 65535 → (o : List ℕ)
+      → length (encode r) ≤ length o → fillOf (textIn mode r) o ≡ readInto (length (textIn mode r)) r o
+  all-back {mode} n z short o room =
       let w = formed-fits r g in
-      let n : length (encode r) ≡ longBy (r .headers) (r .lines) = block-length r (w .whole) in
-      whole-read r (whole-fit z) (g .version) (formed-attached r g) (headers-valid r g) (comments-valid r g) short (omega (arith, g .short)) o (omega arith)
-      ∙ ap (λ (k : ℕ). record { answer = Done (length (wholeText r)) k; buffer = atFront (encode r) o }) (sym n)
+      let e : length (encode r) ≡ longBy (r .headers) (r .lines) = block-length r (w .whole) in
+      text-read r (all-fit z) (g .version) (formed-attached r g) (headers-valid r g) (comments-valid r g) (omega (arith, g .short)) o (omega arith) n short
+      ∙ ap (λ (k : ℕ). record { answer = Done (length (textIn mode r)) k; buffer = atFront (encode r) o }) (sym e)
+
+  plain-attached : Attached (saidRecord Plain r .lines)
+  unfolding saidRecord
+  plain-attached = said-attached (r .lines) (g .some) (formed-attached r g)
+
+  plain-valid : LinesValid (saidRecord Plain r .lines)
+  unfolding saidRecord
+  plain-valid = said-valid Plain (comments-valid r g)
 
   -- the plain text                                                                                       (01, Writing, and what is lost)
-  pub plain-back : length (recordText r) ≤ 65535 → (o : List ℕ) → length (encode (left r)) ≤ length o
-      → fillOf (recordText r) o ≡ record { answer = Done (length (recordText r)) (length (encode (left r))); buffer = encode (left r) ++ drop (length (encode (left r))) o }
-  unfolding left
+  pub plain-back : length (textIn Plain r) ≤ 65535 → (o : List ℕ) → length (encode (saidRecord Plain r)) ≤ length o
+      → fillOf (textIn Plain r) o ≡ readInto (length (textIn Plain r)) (saidRecord Plain r) o
+  unfolding saidRecord
   plain-back short o room =
       let w = formed-fits r g in
-      let n : length (encode (left r)) ≡ longBy (r .headers) (leftLines (r .lines)) = block-length (left r) (w .whole) in
-      let m : longBy (r .headers) (leftLines (r .lines)) ≤ 65535 = omega (arith, weight-less (r .lines) (g .some), fits r w) in
-      rw (plain-is r)
-      (whole-read (left r) left-fit (g .version) (left-attached (r .lines) (g .some) (formed-attached r g)) (headers-valid r g)
-      (left-valid (comments-valid r g)) (subst (λ (t : List ℕ). length t ≤ 65535) (plain-is r) short) m o (omega arith)
-      ∙ ap (λ (k : ℕ). record { answer = Done (length (wholeText (left r))) k; buffer = atFront (encode (left r)) o }) (sym n))
+      let e : length (encode (saidRecord Plain r)) ≡ longBy (r .headers) (saidLines Plain (r .lines)) = block-length (saidRecord Plain r) (w .whole) in
+      let m : longBy (r .headers) (saidLines Plain (r .lines)) ≤ 65535 = omega (arith, weight-less (r .lines) (g .some), fits r w) in
+      rw (← plain-is-whole r)
+      (text-read (saidRecord Plain r) plain-fit (g .version) plain-attached (headers-valid r g) plain-valid m o (omega arith) whole
+      (subst (λ (t : List ℕ). length t ≤ 65535) (sym (plain-is-whole r)) short)
+      ∙ ap (λ (k : ℕ). record { answer = Done (length (textIn Whole (saidRecord Plain r))) k; buffer = atFront (encode (saidRecord Plain r)) o }) (sym e))
 
   -- the record that it says
-  pub plain-said : recordOf (parse (recordText r)) ≡ left r
-  unfolding left
+  pub plain-said : recordOf (parse (textIn Plain r)) ≡ saidRecord Plain r
+  unfolding saidRecord
   plain-said =
-      rw (plain-is r)
-      (ap recordOf (parse-back (left r) left-fit .0)
-      ∙ record-back (left r) left-fit (g .version) (left-attached (r .lines) (g .some) (formed-attached r g)) (headers-valid r g) (left-valid (comments-valid r g)) (length (wholeText (left r))))
+      rw (← plain-is-whole r)
+      (ap recordOf (parse-back whole (saidRecord Plain r) plain-fit .0)
+      ∙ record-back (saidRecord Plain r) plain-fit (g .version) plain-attached (headers-valid r g) plain-valid (length (textIn Whole (saidRecord Plain r))))
 
   -- its bytes are bytes
-  pub plain-bytes : (k : ℕ) → getD (recordText r) k 0 < 256
-  unfolding left
-  plain-bytes = subst (λ (t : List ℕ). (k : ℕ) → getD t k 0 < 256) (sym (plain-is r)) (chars-small (text-chars (left r) (headers-valid r g) (left-valid (comments-valid r g))))
+  pub plain-bytes : (k : ℕ) → getD (textIn Plain r) k 0 < 256
+  plain-bytes = chars-small (said-chars Plain r (headers-valid r g) (comments-valid r g))

@@ -1,4 +1,4 @@
--- The whole text reads back: its header, its position and its lines of play, to the last byte.
+-- The text of a record reads back where nothing is lost: its header, its position and its lines of play, to the last byte.
 -- Assumes nothing.
 use Prim.Native.Nat.{ℕ, _≤_}
 use native.Mathlib.Omega.{arith}
@@ -7,7 +7,7 @@ use mathlib.Core.List.{List, [], _∷_, _++_, map, append-assoc}
 use mathlib.Core.Bool.{true}
 use lib.ListN.{length, getD}
 use Rattle.lists.specs.All.{All}
-use Rattle.converter.specs.Entries.{remarksText}
+use Rattle.converter.specs.Entries.{remarksText, entriesText}
 use Rattle.lists.proofs.Stand.{Stands, came, stands-same}
 use Rattle.jkf.specs.declared.Position.{Position}
 use Rattle.jkf.specs.declared.Entry.the-variants.{Slot}
@@ -22,15 +22,19 @@ use Rattle.plays.specs.Plays.{noted}
 use Rattle.parser.specs.Parse.{byHeader, parse}
 use Rattle.converter.specs.Headers.{headersText}
 use Rattle.converter.specs.Diagrams.{presetLine, boardText, turnText, diagramText, positionText, handLineText}
-use Rattle.converter.specs.Show.{numberLine}
+use Rattle.converter.specs.Show.{numberLine, mainText, variationText, linesText, recordText}
+use Rattle.converter.specs.declared.Mode.{Mode}
+use Rattle.converter.specs.Said.{saidEntry, saidNoted, saidLine, saidLines, saidRecord}
 use Rattle.laws.specs.Back.{parsedOf}
-use Rattle.laws.specs.Whole.{wholeEntries, wholeMain, wholeVariation, wholeLines, wholeText}
+use Rattle.laws.specs.Modes.{textIn, LosesNothing}
 use Rattle.laws.specs.Sayable.{OneLine, HeaderSayable}
 use Rattle.laws.proofs.Back.Entries.{EntriesFit}
 use Rattle.laws.proofs.Back.Lines.{LineFits, asPlay, plays-came}
 use Rattle.laws.proofs.Back.Information.{Side}
 use Rattle.laws.proofs.Back.Starts.{Starts, presetAt, diagramOf, preset-starts, diagram-starts}
 use Rattle.laws.proofs.Back.Leaves.{at-end}
+use Rattle.laws.proofs.Firsts.{all-so}
+use Rattle.laws.proofs.Back.Shown.{shown-same}
 
 -- a preset, or a diagram with at most 99 of a kind in a hand
 pub data PositionFits : Position → Type 0 where
@@ -63,22 +67,24 @@ start-came hs up g (drawn {turn} {cells} {hands} d c cs n few) s r st =
     (stands-same (parts (headersText hs) (presetLine 16) (handLineText hands 1) (boardText cells) (handLineText hands 0) (turnText turn) (numberLine ++ r)) st)
 
 -- a text that begins as a record's does and has its lines
-parse-came : (hs : List Header) (p : Position) (cs : List (List ℕ)) (es : List Noted) (ls : List Line) → Ascending byHeader hs → All HeaderSayable hs → PositionFits p
-    → All OneLine cs → EntriesFit 1 es → All LineFits ls → (length es ≡ 0 → ls ≡ []) → (s : List ℕ)
-    → Stands s 0 ((headersText hs ++ positionText p) ++ (numberLine ++ ((remarksText cs ++ wholeEntries 1 es) ++ concat wholeVariation ls)))
+parse-came : {mode : Mode} → LosesNothing mode → (hs : List Header) (p : Position) (cs : List (List ℕ)) (es : List Noted) (ls : List Line)
+    → Ascending byHeader hs → All HeaderSayable hs → PositionFits p → All OneLine cs → EntriesFit 1 es → All LineFits ls → (length es ≡ 0 → ls ≡ []) → (s : List ℕ)
+    → Stands s 0 ((headersText hs ++ positionText p) ++ (numberLine ++ ((remarksText cs ++ entriesText 1 (map (saidNoted mode) es)) ++ concat variationText (map (saidLine mode) ls))))
     → (parse s ≡ record { headers = hs; position = p; plays = play 0 (noted Slot cs ∷ es) ∷ map asPlay ls; taken = length s }) × (startRead s .fault ≡ NoFault)
 unfolding parse
-parse-came hs p cs es ls up g f o h k alone s st =
+parse-came n hs p cs es ls up g f o h k alone s st =
     let b = start-came hs up g f s _ st in
-    came (plays-came cs es ls o h k alone (b .left)) λ e i l.
+    came (plays-came n cs es ls o h k alone (b .left)) λ e i l.
     (rw (b .headers, b .position, b .next, i, at-end l), b .fault)
 
-lines-back : (hs : List Header) (p : Position) {ls : List Line} → Ascending byHeader hs → All HeaderSayable hs → PositionFits p → LinesFit ls
-    → (parse ((headersText hs ++ positionText p) ++ wholeLines ls) ≡ record { headers = hs; position = p; plays = map asPlay ls; taken = length ((headersText hs ++ positionText p) ++ wholeLines ls) })
-    × (startRead ((headersText hs ++ positionText p) ++ wholeLines ls) .fault ≡ NoFault)
-unfolding wholeLines wholeMain
-lines-back hs p up g f (fit {cs} {es} {ls} o h k alone) = parse-came hs p cs es ls up g f o h k alone _ (all-there _)
+lines-back : {mode : Mode} → LosesNothing mode → (hs : List Header) (p : Position) {ls : List Line} → Ascending byHeader hs → All HeaderSayable hs → PositionFits p → LinesFit ls
+    → (parse ((headersText hs ++ positionText p) ++ linesText (saidLines mode ls))
+    ≡ record { headers = hs; position = p; plays = map asPlay ls; taken = length ((headersText hs ++ positionText p) ++ linesText (saidLines mode ls)) })
+    × (startRead ((headersText hs ++ positionText p) ++ linesText (saidLines mode ls)) .fault ≡ NoFault)
+unfolding linesText mainText saidLines saidLine saidNoted saidEntry
+lines-back n hs p up g f (fit {cs} {es} {ls} o h k alone) = rw (shown-same (all-so (λ l g. g .later) k)) (parse-came n hs p cs es ls up g f o h k alone _ (all-there _))
 
-pub parse-back : (r : Record) → RecordFits r → (parse (wholeText r) ≡ parsedOf r (length (wholeText r))) × (startRead (wholeText r) .fault ≡ NoFault)
-unfolding wholeText
-parse-back r f = lines-back (r .headers) (r .position) (f .ascending) (f .headers) (f .position) (f .lines)
+pub parse-back : {mode : Mode} → LosesNothing mode → (r : Record) → RecordFits r
+    → (parse (textIn mode r) ≡ parsedOf r (length (textIn mode r))) × (startRead (textIn mode r) .fault ≡ NoFault)
+unfolding recordText saidRecord
+parse-back n r f = lines-back n (r .headers) (r .position) (f .ascending) (f .headers) (f .position) (f .lines)

@@ -18,7 +18,7 @@ use Rattle.jkf.specs.declared.Time.the-variants.{Untimed, Timed}
 use Rattle.moves.specs.Moves.{figureAt, hmsAt, msAt, clockAt, spacedAt, clocksAt, timing, timeAt}
 use Rattle.moves.specs.declared.Clocked.the-variants.{Shows}
 use Rattle.moves.specs.Fits.{ClockFits, hmsFits, msFits, TimeFits, untimedFits, timedFits}
-use Rattle.laws.specs.Whole.{clockText, wholeTime}
+use Rattle.converter.specs.Entries.{clockText, timeText}
 use Rattle.laws.proofs.Back.Leaves.{byte-fails, blanks-none, blanks-read, Digits, digits-read, decimal-digits, zeros-digits, digits-off, padded-blanks}
 
 -- digits and a colon; digits and no colon
@@ -75,8 +75,8 @@ bracket : Closes 41
 bracket = record { digit = refl; colon = refl; blank = refl }
 
 -- a time with blanks before it, or none, before a break
-pub time-reads : (w : ℕ) (t : Time) → TimeFits t → Reads (λ s at. timeAt s (blanksAt s at)) (λ e. timing t (cursor e)) (wholeTime w t) (λ r. getD r 0 0 ≡ 10)
-unfolding timeAt clocksAt wholeTime
+pub time-reads : (w : ℕ) (t : Time) → TimeFits t → Reads (λ s at. timeAt s (blanksAt s at)) (λ e. timing t (cursor e)) (timeText w t) (λ r. getD r 0 0 ≡ 10)
+unfolding timeAt clocksAt timeText
 time-reads w Untimed untimedFits = record {
   run = λ s at r st c.
       let o : Off isBlank r = rw c in

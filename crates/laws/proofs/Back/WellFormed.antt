@@ -35,10 +35,9 @@ use Rattle.spell.specs.Words.{sameWord, promotes, declines, drops, presetTag, t
 use Rattle.parser.proofs.Alls.{all-any}
 use Rattle.converter.specs.Headers.{headerLine, linesOf, headersText, range}
 use Rattle.converter.specs.Diagrams.{presetLine, heldText, held, allHeld, handLineText, cellText, cellsText, boardRow, boardRows, boardText, turnText, diagramText, positionText}
-use Rattle.converter.specs.Entries.{targetText, originText, specialText, widthOf, starText, remarkText, remarksText}
-use Rattle.converter.specs.Show.{numberLine, variationTag, plyTag, slotComments, variationHead}
+use Rattle.converter.specs.Entries.{targetText, promoteText, originText, moveText, specialText, widthOf, clockText, timeText, playText, entryLine, starText, remarkText, remarksText, notedText, entriesText}
+use Rattle.converter.specs.Show.{numberLine, variationTag, plyTag, slotComments, mainText, variationHead, variationText, linesText, recordText}
 use Rattle.laws.specs.Sayable.{everyByte}
-use Rattle.laws.specs.Whole.{markText, wholeMove, clockText, wholeTime, wholePlay, wholeLine, wholeNoted, wholeEntries, wholeMain, wholeVariation, wholeLines, wholeText}
 use Rattle.laws.proofs.Back.Leaves.{all-of, all-replicate, digit-is, decimal-digits}
 use Rattle.laws.proofs.Back.Characters.{Chars, empty, chars-append, chars-concat, well-chars, ascii-chars, spelled-chars}
 use Rattle.laws.proofs.Back.Starts.{numbered-all}
@@ -128,8 +127,8 @@ unfolding targetText
 target-chars Same = chars-append (word 9) (word 1)
 target-chars (Square x y) = chars-append (file-chars x) (numeral-chars y)
 
-mark-chars : (p : ℕ) → Chars (markText p)
-unfolding markText
+mark-chars : (p : ℕ) → Chars (promoteText p)
+unfolding promoteText
 mark-chars p = by-pick Chars (eqb p 2) promotes _ (λ _. word 10) (λ _. by-pick Chars (eqb p 1) declines [] (λ _. word 11) (λ _. empty))
 
 origin-chars : (o : Origin) → Chars (originText o)
@@ -137,8 +136,8 @@ unfolding originText
 origin-chars Unknown = word 12
 origin-chars (From x y) = chars-append (chars-append (chars-append (byte 40 refl) (decimal-chars x)) (decimal-chars y)) (byte 41 refl)
 
-play-chars : (e : Entry) → Chars (wholePlay e)
-unfolding wholePlay wholeMove specialText
+play-chars : (e : Entry) → Chars (playText e)
+unfolding playText moveText specialText
 play-chars Slot = empty
 play-chars (Moved m) = chars-append (chars-append (chars-append (target-chars (m .to)) (move-kind-chars (m .piece))) (mark-chars (m .promote))) (origin-chars (m .from))
 play-chars (End s t) = special-chars (specialNumber s)
@@ -155,13 +154,13 @@ total-chars (Hms h m s) =
     chars-append (chars-append (chars-append (padded-zeros 2 h) (byte 58 refl)) (chars-append (padded-zeros 2 m) (byte 58 refl))) (chars-append (padded-zeros 2 s) (byte 41 refl))
 total-chars (Ms m s) = chars-append (chars-append (padded-zeros 2 m) (byte 58 refl)) (chars-append (padded-zeros 2 s) (byte 41 refl))
 
-time-chars : (w : ℕ) (t : Time) → Chars (wholeTime w t)
-unfolding wholeTime
+time-chars : (w : ℕ) (t : Time) → Chars (timeText w t)
+unfolding timeText
 time-chars w Untimed = empty
-time-chars w (Timed now total) = chars-append (chars-append (spaces (13 - w)) (chars-append (byte 40 refl) (now-chars now))) (total-chars total)
+time-chars w (Timed now total) = chars-append (chars-append (chars-append (spaces (13 - w)) (byte 40 refl)) (now-chars now)) (total-chars total)
 
-line-chars : (ply : ℕ) (e : Entry) → Chars (wholeLine ply e)
-unfolding wholeLine
+line-chars : (ply : ℕ) (e : Entry) → Chars (entryLine ply e)
+unfolding entryLine
 line-chars ply e = chars-append (chars-append (chars-append (chars-append (padded-spaces 4 ply) (byte 32 refl)) (play-chars e)) (time-chars (widthOf e) (timeOf e))) line-feed
 
 remark-chars : (c : List ℕ) → Chars c → Chars (remarkText c)
@@ -176,35 +175,35 @@ remarks-chars (next {x = c} p h) = chars-append (remark-chars c p) (remarks-char
 abbrev pub NotesValid : List Noted → Type 0
 NotesValid = All (λ e. All Chars (e .comments))
 
-entries-chars : (ply : ℕ) {es : List Noted} → NotesValid es → Chars (wholeEntries ply es)
-unfolding wholeEntries wholeNoted
+entries-chars : (ply : ℕ) {es : List Noted} → NotesValid es → Chars (entriesText ply es)
+unfolding entriesText notedText
 entries-chars ply none = empty
 entries-chars ply (next {x = e} p h) = chars-append (chars-append (line-chars ply (e .what)) (remarks-chars p)) (entries-chars (ply + 1) h)
 
 -- ---- lines
 
-main-chars : (l : Line) → NotesValid (l .entries) → Chars (wholeMain l)
-unfolding wholeMain
+main-chars : (l : Line) → NotesValid (l .entries) → Chars (mainText l)
+unfolding mainText
 main-chars l v = go v
   where
-    go : {es : List Noted} → NotesValid es → Chars (remarksText (slotComments es) ++ wholeEntries 1 (drop 1 es))
+    go : {es : List Noted} → NotesValid es → Chars (remarksText (slotComments es) ++ entriesText 1 (drop 1 es))
     go none = chars-append (remarks-chars none) (entries-chars 1 none)
     go (next p h) = chars-append (remarks-chars p) (entries-chars 1 h)
 
-variation-chars : (l : Line) → NotesValid (l .entries) → Chars (wholeVariation l)
-unfolding wholeVariation variationHead
+variation-chars : (l : Line) → NotesValid (l .entries) → Chars (variationText l)
+unfolding variationText variationHead
 variation-chars l v = chars-append (chars-append (chars-append (chars-append line-feed (word 15)) (decimal-chars (l .start))) (word 16)) (entries-chars (l .start) v)
 
 abbrev pub LinesValid : List Line → Type 0
 LinesValid = All (λ l. NotesValid (l .entries))
 
-variations-chars : {ls : List Line} → LinesValid ls → Chars (concat wholeVariation ls)
+variations-chars : {ls : List Line} → LinesValid ls → Chars (concat variationText ls)
 unfolding concat
 variations-chars none = empty
 variations-chars (next {x = l} p h) = chars-append (variation-chars l p) (variations-chars h)
 
-lines-chars : {ls : List Line} → LinesValid ls → Chars (wholeLines ls)
-unfolding wholeLines
+lines-chars : {ls : List Line} → LinesValid ls → Chars (linesText ls)
+unfolding linesText
 lines-chars none = empty
 lines-chars (next {x = l} p h) = chars-append (chars-append (word 14) (main-chars l p)) (variations-chars h)
 
@@ -283,6 +282,6 @@ position-chars p =
 
 -- ---- the whole
 
-pub text-chars : (r : Record) → All HeaderValid (r .headers) → LinesValid (r .lines) → Chars (wholeText r)
-unfolding wholeText
+pub text-chars : (r : Record) → All HeaderValid (r .headers) → LinesValid (r .lines) → Chars (recordText r)
+unfolding recordText
 text-chars r h l = chars-append (chars-append (headers-chars h) (position-chars (r .position))) (lines-chars l)

@@ -7,21 +7,23 @@ use mathlib.Core.Bool.{true, false}
 use denote.Ref.{now}
 use borrow.Author.Tests.{not-true, not-false}
 use Rattle.block.specs.EntryBytes.{entryIn}
-use Rattle.block.specs.Decode.{run, notedIn}
+use Rattle.block.specs.Decode.{run}
 use Rattle.converter.specs.Entries.{canWrite}
 use Rattle.converter.specs.Show.{entryObstacle}
+use Rattle.converter.specs.Said.{saidEntry, saidNoted}
+use Rattle.converter.specs.inner.Lines.{notedSaid}
 use Rattle.converter.proofs.Blocked.{entry-first, entry-more, entry-none}
 use Rattle.converter.proofs.checks.entry_obstacle.Statement.{statement}
 use Rattle.converter.proofs.checks.entry_obstacle.Tie as tie
 
 abbrev Inv-loop : tie.InvT-loop
-Inv-loop b line first count i₀ i = (i ≤ count) × (entryObstacle line 0 (run (notedIn b) first count) ≡ entryObstacle line i (run (notedIn b) (first + i) (count - i)))
+Inv-loop b mode line first count i₀ i = (i ≤ count) × (entryObstacle line 0 (run (notedSaid mode b) first count) ≡ entryObstacle line i (run (notedSaid mode b) (first + i) (count - i)))
 
 abbrev μ-loop : tie.MeasureT-loop
-μ-loop b line first count i₀ i = count - i
+μ-loop b mode line first count i₀ i = count - i
 
 loop-holds : tie.Need-loop-holds Inv-loop μ-loop
-loop-holds c = (omega arith, entry-first (c .before .args .line) (notedIn (now (c .before .args .b))) (c .before .args .first) (c .before .args .count) 0)
+loop-holds c = (omega arith, entry-first (c .before .args .line) (notedSaid (c .before .args .mode) (now (c .before .args .b))) (c .before .args .first) (c .before .args .count) 0)
 
 add-row-of : tie.Need-add-row-of Inv-loop μ-loop
 add-row-of c = omega (arith, c .before .before .before .pre)
@@ -36,12 +38,13 @@ row-fits-requires : tie.Need-row-fits-requires Inv-loop μ-loop
 row-fits-requires c κs = tt
 
 returns : tie.Need-returns Inv-loop μ-loop
+unfolding saidNoted
 returns c =
     let l = c .before .before .before .before .loop in
     let a = c .before .before .before .before .before .before .args in
     let b = now (a .b) in
-    let w : canWrite (notedIn b (a .first + l .i) .what) ≡ false = ap (λ l. canWrite (entryIn l)) (sym (c .before .before .row-of .ensures)) ∙ sym (c .before .row-fits .ensures) ∙ not-true _ (c .if1 .taken) in
-    sym (l .inv .1 ∙ entry-more (a .line) (notedIn b) (a .first) (a .count) (l .i) (c .before .before .before .loop-test .taken) ∙ rw w)
+    let w : canWrite (notedSaid (a .mode) b (a .first + l .i) .what) ≡ false = ap (λ l. canWrite (saidEntry (a .mode) (entryIn l))) (sym (c .before .before .row-of .ensures)) ∙ sym (c .before .row-fits .ensures) ∙ not-true _ (c .if1 .taken) in
+    sym (l .inv .1 ∙ entry-more (a .line) (notedSaid (a .mode) b) (a .first) (a .count) (l .i) (c .before .before .before .loop-test .taken) ∙ rw w)
 
 add-i : tie.Need-add-i Inv-loop μ-loop
 add-i c = omega arith
@@ -50,17 +53,18 @@ loop-less : tie.Need-loop-less Inv-loop μ-loop
 loop-less c = omega arith
 
 loop-again : tie.Need-loop-again Inv-loop μ-loop
+unfolding saidNoted
 loop-again c =
     let l = c .before .before .before .before .loop in
     let a = c .before .before .before .before .before .before .args in
     let b = now (a .b) in
-    let w : canWrite (notedIn b (a .first + l .i) .what) ≡ true = ap (λ l. canWrite (entryIn l)) (sym (c .before .before .row-of .ensures)) ∙ sym (c .before .row-fits .ensures) ∙ not-false _ (c .if1 .left) in
-    (omega arith, l .inv .1 ∙ entry-more (a .line) (notedIn b) (a .first) (a .count) (l .i) (c .before .before .before .loop-test .taken) ∙ rw w)
+    let w : canWrite (notedSaid (a .mode) b (a .first + l .i) .what) ≡ true = ap (λ l. canWrite (saidEntry (a .mode) (entryIn l))) (sym (c .before .before .row-of .ensures)) ∙ sym (c .before .row-fits .ensures) ∙ not-false _ (c .if1 .left) in
+    (omega arith, l .inv .1 ∙ entry-more (a .line) (notedSaid (a .mode) b) (a .first) (a .count) (l .i) (c .before .before .before .loop-test .taken) ∙ rw w)
 
 returns-2 : tie.Need-returns-2 Inv-loop μ-loop
 returns-2 c =
     let a = c .before .before .before .args in
-    sym (c .before .loop .inv .1 ∙ entry-none (a .line) (notedIn (now (a .b))) (a .first) (a .count) (c .before .loop .i) (c .loop-test .left))
+    sym (c .before .loop .inv .1 ∙ entry-none (a .line) (notedSaid (a .mode) (now (a .b))) (a .first) (a .count) (c .before .loop .i) (c .loop-test .left))
 
 pub entry-obstacle-spec : {M : Type 1} → statement M
 entry-obstacle-spec =

@@ -2,6 +2,7 @@
 -- Assumes nothing.
 use denote.Ref.{now}
 use Rattle.converter.specs.Entries.{canWrite}
+use Rattle.converter.specs.Said.{saidEntry}
 use Rattle.converter.proofs.Usually.{usual-fits}
 use mathlib.Core.Path.{_∙_, ap}
 use Rattle.converter.proofs.checks.row_fits.Statement.{statement}
@@ -11,18 +12,23 @@ is-usual-requires : tie.Need-is-usual-requires
 is-usual-requires c κs = tt
 
 returns : tie.Need-returns
-returns c = usual-fits (now (c .before .before .before .args .row)) (c .before .is-usual .ensures (c .if1 .taken))
+returns c =
+    let (u, v) = c .before .is-usual .ensures (c .if1 .taken) in
+    usual-fits (now (c .before .before .before .args .row)) u v
 
 entry-in-requires : tie.Need-entry-in-requires
 entry-in-requires c κs = tt
+
+said-entry-requires : tie.Need-said-entry-requires
+said-entry-requires c κs = tt
 
 can-write-requires : tie.Need-can-write-requires
 can-write-requires c κs = tt
 
 returns-2 : tie.Need-returns-2
-returns-2 c = c .can-write .ensures ∙ ap canWrite (c .before .entry-in .ensures)
+returns-2 c = c .can-write .ensures ∙ ap canWrite (c .before .said-entry .ensures ∙ ap (saidEntry (c .before .before .before .before .before .before .args .mode)) (c .before .before .entry-in .ensures))
 
 pub row-fits-spec : {M : Type 1} → statement M
 row-fits-spec =
     tie.close
-    (tie.spec is-usual-requires returns entry-in-requires can-write-requires returns-2)
+    (tie.spec is-usual-requires returns entry-in-requires said-entry-requires can-write-requires returns-2)

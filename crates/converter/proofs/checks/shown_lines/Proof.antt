@@ -7,7 +7,7 @@ use mathlib.Core.List.{_++_}
 use denote.Ref.{now}
 use borrow.Author.Needs.{needs}
 use Rattle.block.specs.Decode.{run, lineIn, startOf}
-use Rattle.converter.specs.Show.{shown}
+use Rattle.converter.specs.Said.{shown}
 use Rattle.converter.proofs.Blocked.{shown-first, shown-more, shown-stop, shown-none}
 use Rattle.converter.proofs.checks.shown_lines.Statement.{statement}
 use Rattle.converter.proofs.checks.shown_lines.Tie as tie

@@ -7,7 +7,8 @@ use denote.Ref.{now}
 use borrow.Author.Needs.{needs}
 use borrow.Fn.Kinds.{In}
 use borrow.Fn.PlainCycle.{Measures, is, falls, and}
-use Rattle.block.specs.Decode.{run, lineIn}
+use Rattle.block.specs.Decode.{run}
+use Rattle.converter.specs.inner.Lines.{lineSaid}
 use Rattle.block.specs.Encode.{concat}
 use Rattle.lent.proofs.Writes.{as-text, nothing, then}
 use Rattle.block.proofs.Tabling.{concat-none}
@@ -22,7 +23,7 @@ use Rattle.converter.proofs.kif.+put_variations.{statement}
 use Rattle.converter.proofs.kif.+put_variations.Tie.{close}
 
 abbrev μ-put-variations : Measures 2 put-variations-kinds.ps ℕ
-μ-put-variations κs a = a .1 .1 .1 .0
+μ-put-variations κs a = a .1 .1 .1 .1 .0
 
 abbrev put-variations-at : ℕ → In 2 put-variations-kinds.ps
 put-variations-at t =
@@ -48,7 +49,7 @@ put-variations-returns : (t : ℕ) → put-variations-lts.Need-returns (
 ) (put-variations-at t) put-variations.Post
 put-variations-returns t c =
     let a = c .before .before .before .args in
-    let f = lineIn (now (a .b)) in
+    let f = lineSaid (a .mode) (now (a .b)) in
     as-text (sym (ap (λ (n : ℕ). concat variationText (run f (a .k) n)) (c .if1 .taken) ∙ concat-none variationText f (a .k))) (nothing _)
 
 put-variations-put-variation-requires : (t : ℕ) → put-variations-lts.Need-put-variation-requires (
@@ -59,7 +60,7 @@ put-variations-put-variation-requires : (t : ℕ) → put-variations-lts.Need-pu
 ) (put-variations-at t) put-variations.Post
 put-variations-put-variation-requires t c κs =
     let a = c .before .before .before .before .args in
-    let f = lineIn (now (a .b)) in
+    let f = lineSaid (a .mode) (now (a .b)) in
     let p = c .before .before .before .before .pre .1 in
     let h = room-as (sym (concat-first variationText f (a .k) (a .n) (omega arith))) (p .2) in
     (p .0, omega arith, room-front (variationText (f (a .k))) (concat variationText (run f (a .k + 1) (a .n - 1))) h)
@@ -113,7 +114,7 @@ put-variations-put-variations-requires : (t : ℕ) → put-variations-lts.Need-p
 ) (put-variations-at t) put-variations.Post
 put-variations-put-variations-requires t c κs =
     let a = c .before .before .before .before .before .before .before .before .args in
-    let f = lineIn (now (a .b)) in
+    let f = lineSaid (a .mode) (now (a .b)) in
     let p = c .before .before .before .before .before .before .before .before .pre .1 in
     let h = room-as (sym (concat-first variationText f (a .k) (a .n) (omega arith))) (p .2) in
     (omega arith, (p .0, omega arith, room-after (concat variationText (run f (a .k + 1) (a .n - 1))) (c .before .before .before .put-variation .ensures) h))
@@ -142,7 +143,7 @@ put-variations-returns-2 : (t : ℕ) → put-variations-lts.Need-returns-2 (
 ) (put-variations-at t) put-variations.Post
 put-variations-returns-2 t c =
     let a = c .before .before .before .before .before .before .before .before .before .before .before .args in
-    as-text (sym (concat-first variationText (lineIn (now (a .b))) (a .k) (a .n) (omega arith))) (then (c .before .before .before .before .before .before .put-variation .ensures) (c .before .before .put-variations .ensures))
+    as-text (sym (concat-first variationText (lineSaid (a .mode) (now (a .b))) (a .k) (a .n) (omega arith))) (then (c .before .before .before .before .before .before .put-variation .ensures) (c .before .before .put-variations .ensures))
 
 pub +put-variations-spec : {M : Type 1} → statement M
 +put-variations-spec = close μ-put-variations λ t. put-variations-lts.spec (

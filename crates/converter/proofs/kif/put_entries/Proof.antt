@@ -9,23 +9,24 @@ use denote.Ref.{now}
 use borrow.Author.Needs.{needs}
 use Rattle.lent.proofs.Writes.{as-text, nothing, wrote-length, within, sum-fits, then}
 use Rattle.lent.specs.Bytes.{Wrote}
-use Rattle.block.specs.Decode.{run, notedIn}
+use Rattle.block.specs.Decode.{run}
 use Rattle.converter.specs.Entries.{notedText, entriesText}
+use Rattle.converter.specs.inner.Lines.{notedSaid}
 use Rattle.converter.proofs.Runs.{entries-none, entries-front, entries-step}
 use Rattle.lent.proofs.Room.{room-left}
 use Rattle.converter.proofs.kif.put_entries.Statement.{statement}
 use Rattle.converter.proofs.kif.put_entries.Tie as tie
 
 abbrev Inv-loop : tie.InvT-loop
-Inv-loop out₀ b ply first count at₀ i₀ out at i = (i ≤ count) × Wrote (entriesText ply (run (notedIn b) first i)) out₀ out at
+Inv-loop out₀ b mode ply first count at₀ i₀ out at i = (i ≤ count) × Wrote (entriesText ply (run (notedSaid mode b) first i)) out₀ out at
 
 abbrev μ-loop : tie.MeasureT-loop
-μ-loop out₀ b ply first count at₀ i₀ out at i = count - i
+μ-loop out₀ b mode ply first count at₀ i₀ out at i = count - i
 
 loop-holds : tie.Need-loop-holds Inv-loop μ-loop
 loop-holds c =
     let a = c .before .before .args in
-    (zero-le, as-text (sym (entries-none (a .ply) (notedIn (now (a .b))) (a .first))) (nothing _))
+    (zero-le, as-text (sym (entries-none (a .ply) (notedSaid (a .mode) (now (a .b))) (a .first))) (nothing _))
 
 sub-put-noted : tie.Need-sub-put-noted Inv-loop μ-loop
 sub-put-noted c = within (c .before .loop .inv .1)
@@ -46,8 +47,8 @@ put-noted-requires : tie.Need-put-noted-requires Inv-loop μ-loop
 put-noted-requires c κs =
     let a = c .before .before .before .before .before .args in
     let l = c .before .before .loop in
-    let h = entries-front (a .ply) (notedIn (now (a .b))) (a .first) (l .i) (a .count) (omega arith) in
-    (c .before .before .before .before .before .pre .0, omega arith, room-left (length (notedText (a .ply + l .i) (notedIn (now (a .b)) (a .first + l .i)))) (l .inv .1) (omega (arith, l .inv .1 .count, c .before .before .before .before .before .pre .3)))
+    let h = entries-front (a .ply) (notedSaid (a .mode) (now (a .b))) (a .first) (l .i) (a .count) (omega arith) in
+    (c .before .before .before .before .before .pre .0, omega arith, room-left (length (notedText (a .ply + l .i) (notedSaid (a .mode) (now (a .b)) (a .first + l .i)))) (l .inv .1) (omega (arith, l .inv .1 .count, c .before .before .before .before .before .pre .3)))
 
 add-at : tie.Need-add-at Inv-loop μ-loop
 add-at c = sum-fits (then (c .before .before .before .before .before .loop .inv .1) (c .before .before .put-noted .ensures)) (c .before .before .before .before .before .before .before .before .good .0 .0)
@@ -62,7 +63,7 @@ loop-again : tie.Need-loop-again Inv-loop μ-loop
 loop-again c =
     let a = c .before .before .before .before .before .before .before .before .args in
     let l = c .before .before .before .before .before .loop in
-    (omega arith, entries-step (a .ply) (notedIn (now (a .b))) (a .first) (l .i) (l .inv .1) (c .before .before .put-noted .ensures))
+    (omega arith, entries-step (a .ply) (notedSaid (a .mode) (now (a .b))) (a .first) (l .i) (l .inv .1) (c .before .before .put-noted .ensures))
 
 same-length : tie.Need-same-length Inv-loop μ-loop
 same-length c =

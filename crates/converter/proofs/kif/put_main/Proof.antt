@@ -10,6 +10,7 @@ use Rattle.block.specs.Decode.{run, notedIn, entryCount}
 use Rattle.lent.proofs.Writes.{as-text, then, wrote-length, sum-fits, within}
 use Rattle.block.proofs.Within.{entries-within, some-line, some-entry}
 use Rattle.converter.specs.Entries.{remarksText, entriesText}
+use Rattle.converter.specs.inner.Lines.{notedSaid}
 use Rattle.converter.proofs.Playing.{main-text}
 use Rattle.lent.proofs.Room.{room-after, room-as, room-front}
 use Rattle.converter.proofs.kif.put_main.Statement.{statement}
@@ -18,12 +19,13 @@ use Rattle.converter.proofs.kif.put_main.Tie as tie
 put-comments-requires : tie.Need-put-comments-requires
 put-comments-requires c κs =
     let b = now (c .before .before .before .args .b) in
+    let m = c .before .before .before .args .mode in
     let s = c .before .before .before .pre .0 in
-    let h = room-as (main-text b s refl) (c .before .before .before .pre .1) in
+    let h = room-as (main-text m b s refl) (c .before .before .before .pre .1) in
     let l = some-line b s in (
       s,
       omega (arith, entries-within b s 0 l, some-entry b s 0 l),
-      room-front (remarksText (notedIn b 0 .comments)) (entriesText 1 (run (notedIn b) 1 (entryCount b 0 - 1))) h,
+      room-front (remarksText (notedIn b 0 .comments)) (entriesText 1 (run (notedSaid m b) 1 (entryCount b 0 - 1))) h,
     )
 
 sub-put-entries : tie.Need-sub-put-entries
@@ -41,24 +43,26 @@ entry-count-requires c κs = search needs
 sub-put-entries-2 : tie.Need-sub-put-entries-2
 sub-put-entries-2 c =
     let b = now (c .before .before .before .before .before .before .before .before .args .b) in
+    let m = c .before .before .before .before .before .before .before .before .args .mode in
     let s = c .before .before .before .before .before .before .before .before .pre .0 in
     omega (arith, some-entry b s 0 (some-line b s))
 
 put-entries-requires : tie.Need-put-entries-requires
 put-entries-requires c κs =
     let b = now (c .before .before .before .before .before .before .before .before .args .b) in
+    let m = c .before .before .before .before .before .before .before .before .args .mode in
     let s = c .before .before .before .before .before .before .before .before .pre .0 in
-    let h = room-as (main-text b s (c .entry-count .ensures .0)) (c .before .before .before .before .before .before .before .before .pre .1) in
+    let h = room-as (main-text m b s (c .entry-count .ensures .0)) (c .before .before .before .before .before .before .before .before .pre .1) in
     let l = some-line b s in (
       s,
       omega (arith, entries-within b s 0 l, some-entry b s 0 l),
       omega arith,
-      room-after (entriesText 1 (run (notedIn b) 1 (c .entry-count .result - 1))) (c .before .before .before .before .put-comments .ensures) h,
+      room-after (entriesText 1 (run (notedSaid m b) 1 (c .entry-count .result - 1))) (c .before .before .before .before .put-comments .ensures) h,
     )
 
 returns : tie.Need-returns
 returns c =
-    as-text (main-text (now (c .before .before .before .before .before .before .before .before .before .before .before .args .b)) (c .before .before .before .before .before .before .before .before .before .before .before .pre .0) (c .before .before .before .entry-count .ensures .0)) (then (c .before .before .before .before .before .before .before .put-comments .ensures) (c .before .before .put-entries .ensures))
+    as-text (main-text (c .before .before .before .before .before .before .before .before .before .before .before .args .mode) (now (c .before .before .before .before .before .before .before .before .before .before .before .args .b)) (c .before .before .before .before .before .before .before .before .before .before .before .pre .0) (c .before .before .before .entry-count .ensures .0)) (then (c .before .before .before .before .before .before .before .put-comments .ensures) (c .before .before .put-entries .ensures))
 
 add-result : tie.Need-add-result
 add-result c = sum-fits (returns c) (c .before .before .before .before .before .before .before .before .before .before .before .good .0 .0)

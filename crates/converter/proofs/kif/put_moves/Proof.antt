@@ -7,10 +7,11 @@ use Prim.Native.Nat.{_-_}
 use native.Mathlib.Omega.{arith}
 use mathlib.Core.List.{_++_}
 use denote.Ref.{now}
-use Rattle.block.specs.Decode.{run, lineIn}
+use Rattle.block.specs.Decode.{run}
 use Rattle.block.specs.Encode.{concat}
 use Rattle.lent.proofs.Writes.{as-text, wrote-all, then, wrote-length, sum-fits, within}
 use Rattle.converter.specs.Show.{numberLine, mainText, variationText}
+use Rattle.converter.specs.inner.Lines.{lineSaid}
 use Rattle.converter.proofs.Playing.{lines-text}
 use Rattle.lent.proofs.Room.{room-after, room-as, room-front}
 use Rattle.converter.proofs.kif.put_moves.Statement.{statement}
@@ -36,9 +37,9 @@ put-main-requires c κs =
     let a = c .before .before .before .before .before .before .before .before .args in
     let b = now (a .b) in
     let p = c .before .before .before .before .before .before .before .before .pre in
-    let t = mainText (lineIn b 0) in
-    let v = concat variationText (run (lineIn b) 1 (a .lines - 1)) in
-    let h = room-front (numberLine ++ t) v (room-as (lines-text b (a .lines) (p .0)) (p .1)) in
+    let t = mainText (lineSaid (a .mode) b 0) in
+    let v = concat variationText (run (lineSaid (a .mode) b) 1 (a .lines - 1)) in
+    let h = room-front (numberLine ++ t) v (room-as (lines-text (a .mode) b (p .0)) (p .1)) in
     (p .0 .sound, room-after t (wrote-all {t = numberLine} (room-front numberLine t h) (c .before .before .before .put-bytes .ensures)) h)
 
 add-m : tie.Need-add-m
@@ -61,9 +62,9 @@ put-variations-requires c κs =
     let a = c .before .before .before .before .before .before .before .before .before .before .before .before .args in
     let b = now (a .b) in
     let p = c .before .before .before .before .before .before .before .before .before .before .before .before .pre in
-    let t = mainText (lineIn b 0) in
-    let v = concat variationText (run (lineIn b) 1 (a .lines - 1)) in
-    let r = room-as (lines-text b (a .lines) (p .0)) (p .1) in
+    let t = mainText (lineSaid (a .mode) b 0) in
+    let v = concat variationText (run (lineSaid (a .mode) b) 1 (a .lines - 1)) in
+    let r = room-as (lines-text (a .mode) b (p .0)) (p .1) in
     let h = room-front numberLine t (room-front (numberLine ++ t) v r) in
     let w = then (wrote-all {t = numberLine} h (c .before .before .before .before .before .before .before .put-bytes .ensures)) (c .before .before .before .put-main .ensures) in
     (p .0 .sound, omega (arith, p .0 .some, p .0 .most), room-after v w r)
@@ -73,9 +74,9 @@ returns c =
     let a = c .before .before .before .before .before .before .before .before .before .before .before .before .before .before .before .args in
     let b = now (a .b) in
     let p = c .before .before .before .before .before .before .before .before .before .before .before .before .before .before .before .pre in
-    let t = mainText (lineIn b 0) in
-    let v = concat variationText (run (lineIn b) 1 (a .lines - 1)) in
-    let e = lines-text b (a .lines) (p .0) in
+    let t = mainText (lineSaid (a .mode) b 0) in
+    let v = concat variationText (run (lineSaid (a .mode) b) 1 (a .lines - 1)) in
+    let e = lines-text (a .mode) b (p .0) in
     let h = room-front numberLine t (room-front (numberLine ++ t) v (room-as e (p .1))) in
     as-text e (then (then (wrote-all {t = numberLine} h (c .before .before .before .before .before .before .before .before .before .before .put-bytes .ensures)) (c .before .before .before .before .before .before .put-main .ensures)) (c .before .before .put-variations .ensures))
 

@@ -8,6 +8,7 @@ use Rattle.block.specs.EntryBytes.{entryIn}
 use Rattle.block.specs.Decode.{run, commentOf, notedIn}
 use Rattle.lent.proofs.Writes.{as-text, then, wrote-length, sum-fits, within}
 use Rattle.converter.specs.Entries.{entryLine, remarksText}
+use Rattle.converter.specs.Said.{saidEntry}
 use Rattle.converter.proofs.Playing.{row-number, noted-text, noted-bare}
 use Rattle.lent.proofs.Room.{room-after, room-as, room-front}
 use borrow.Author.Needs.{needs}
@@ -25,8 +26,8 @@ put-row-requires : tie.Need-put-row-requires
 put-row-requires c κs =
     let s = c .before .before .before .before in
     let b = now (s .args .b) in
-    let h = room-as (noted-text b (s .args .ply) (s .args .k) (c .before .row-of .ensures) refl refl) (s .pre .2) in
-    room-front (entryLine (s .args .ply) (entryIn (now (c .before .row-of .result)))) (remarksText (notedIn b (s .args .k) .comments)) h
+    let h = room-as (noted-text (s .args .mode) b (s .args .ply) (s .args .k) (c .before .row-of .ensures) refl refl) (s .pre .2) in
+    room-front (entryLine (s .args .ply) (saidEntry (s .args .mode) (entryIn (now (c .before .row-of .result))))) (remarksText (notedIn b (s .args .k) .comments)) h
 
 get16-requires : tie.Need-get16-requires
 get16-requires c κs = tt
@@ -36,7 +37,7 @@ returns c =
     let s = c .before .before .before .before .before .before .before .before .before in
     let b = now (s .args .b) in
     let r = c .before .before .before .before .before .before .row-of .ensures in
-    as-text (noted-bare b (s .args .ply) (s .args .k) r (row-number b (s .args .k) 18 r (c .before .get16 .ensures .0)) (c .if1 .taken)) (c .before .before .before .before .put-row .ensures)
+    as-text (noted-bare (s .args .mode) b (s .args .ply) (s .args .k) r (row-number b (s .args .k) 18 r (c .before .get16 .ensures .0)) (c .if1 .taken)) (c .before .before .before .before .put-row .ensures)
 
 same-length : tie.Need-same-length
 same-length c = wrote-length (returns c)
@@ -62,7 +63,7 @@ put-remarks-requires c κs =
     let e = row-number b k 16 r (c .get162 .ensures .0) in
     let f = row-number b k 18 r (c .before .before .before .get16 .ensures .0) in (
       omega (arith, comments-within b (s .pre .0) k (s .pre .1), comments-small b (s .pre .0)),
-      room-after (remarksText (run (commentOf b) (c .get162 .result) (c .before .before .before .get16 .result))) (c .before .before .before .before .before .before .put-row .ensures) (room-as (noted-text b (s .args .ply) k r e f) (s .pre .2)),
+      room-after (remarksText (run (commentOf b) (c .get162 .result) (c .before .before .before .get16 .result))) (c .before .before .before .before .before .before .put-row .ensures) (room-as (noted-text (s .args .mode) b (s .args .ply) k r e f) (s .pre .2)),
     )
 
 returns-2 : tie.Need-returns-2
@@ -73,7 +74,7 @@ returns-2 c =
     let r = c .before .before .before .before .before .before .before .before .before .before .before .row-of .ensures in
     let e = row-number b k 16 r (c .before .before .before .get162 .ensures .0) in
     let f = row-number b k 18 r (c .before .before .before .before .before .before .get16 .ensures .0) in
-    as-text (noted-text b (s .args .ply) k r e f) (then (c .before .before .before .before .before .before .before .before .before .put-row .ensures) (c .before .before .put-remarks .ensures))
+    as-text (noted-text (s .args .mode) b (s .args .ply) k r e f) (then (c .before .before .before .before .before .before .before .before .before .put-row .ensures) (c .before .before .put-remarks .ensures))
 
 add-result : tie.Need-add-result
 add-result c = sum-fits (returns-2 c) (c .before .before .before .before .before .before .before .before .before .before .before .before .before .before .good .0 .0)

@@ -1,10 +1,11 @@
--- Nothing, or the timePadding and two clocks one after another, each with its room.
+-- Nothing, or the padding with its bracket and two clocks one after another, each with its room.
 -- Assumes nothing.
 use native.Mathlib.Nat.{le-refl}
 use mathlib.Core.Path.{sym, ap}
 use borrow.Author.Needs.{needs}
 use Rattle.lent.proofs.Writes.{as-text, nothing, then, wrote-length, sum-fits, within}
-use Rattle.converter.specs.Entries.{nowText, totalText, timePadding, timeText}
+use mathlib.Core.List.{[], _∷_, _++_}
+use Rattle.converter.specs.Entries.{clockText, timePadding, timeText}
 use Rattle.converter.proofs.Worded.{three, room-of}
 use Rattle.converter.proofs.kif.put_time.Statement.{statement}
 use Rattle.converter.proofs.kif.put_time.Tie as tie
@@ -22,44 +23,44 @@ put-padding-requires c κs =
     let t = c .before .before .time .given in
     let w = c .before .before .before .before .before .args .width in
     let h = room-of (timeText w) (t .1) (c .before .before .before .before .before .pre .1) in
-    three (timePadding w) (nowText (t .0 .0)) (totalText (t .0 .1 .0)) h .0
+    three (timePadding w ++ (40 ∷ [])) (clockText 32 47 (t .0 .0)) (clockText 48 41 (t .0 .1 .0)) h .0
 
-sub-put-now : tie.Need-sub-put-now
-sub-put-now c = within (c .before .before .put-padding .ensures)
+sub-put-clock : tie.Need-sub-put-clock
+sub-put-clock c = within (c .before .before .put-padding .ensures)
 
-part-put-now-start : tie.Need-part-put-now-start
-part-put-now-start c = sub-put-now c
+part-put-clock-start : tie.Need-part-put-clock-start
+part-put-clock-start c = sub-put-clock c
 
-part-put-now-end : tie.Need-part-put-now-end
-part-put-now-end c = le-refl _
+part-put-clock-end : tie.Need-part-put-clock-end
+part-put-clock-end c = le-refl _
 
-put-now-requires : tie.Need-put-now-requires
+put-clock-requires : tie.Need-put-clock-requires
 unfolding timeText
-put-now-requires c κs =
+put-clock-requires c κs =
     let t = c .before .before .before .before .before .before .time .given in
     let w = c .before .before .before .before .before .before .before .before .before .args .width in
     let h = room-of (timeText w) (t .1) (c .before .before .before .before .before .before .before .before .before .pre .1) in
-    room-after (nowText (t .0 .0)) (c .before .before .before .put-padding .ensures) (three (timePadding w) (nowText (t .0 .0)) (totalText (t .0 .1 .0)) h .1)
+    room-after (clockText 32 47 (t .0 .0)) (c .before .before .before .put-padding .ensures) (three (timePadding w ++ (40 ∷ [])) (clockText 32 47 (t .0 .0)) (clockText 48 41 (t .0 .1 .0)) h .1)
 
 add-m : tie.Need-add-m
-add-m c = sum-fits (then (c .before .before .before .before .before .before .put-padding .ensures) (c .before .before .put-now .ensures)) (c .before .before .before .before .before .before .before .before .before .before .before .before .good .0 .0)
+add-m c = sum-fits (then (c .before .before .before .before .before .before .put-padding .ensures) (c .before .before .put-clock .ensures)) (c .before .before .before .before .before .before .before .before .before .before .before .before .good .0 .0)
 
-sub-put-total : tie.Need-sub-put-total
-sub-put-total c = within (then (c .before .before .before .before .before .before .put-padding .ensures) (c .before .before .put-now .ensures))
+sub-put-clock-2 : tie.Need-sub-put-clock-2
+sub-put-clock-2 c = within (then (c .before .before .before .before .before .before .put-padding .ensures) (c .before .before .put-clock .ensures))
 
-part-put-total-start : tie.Need-part-put-total-start
-part-put-total-start c = sub-put-total c
+part-put-clock-start-2 : tie.Need-part-put-clock-start-2
+part-put-clock-start-2 c = sub-put-clock-2 c
 
-part-put-total-end : tie.Need-part-put-total-end
-part-put-total-end c = le-refl _
+part-put-clock-end-2 : tie.Need-part-put-clock-end-2
+part-put-clock-end-2 c = le-refl _
 
-put-total-requires : tie.Need-put-total-requires
+put-clock-requires-2 : tie.Need-put-clock-requires-2
 unfolding timeText
-put-total-requires c κs =
+put-clock-requires-2 c κs =
     let t = c .before .before .before .before .before .before .before .before .before .before .time .given in
     let w = c .before .before .before .before .before .before .before .before .before .before .before .before .before .args .width in
     let h = room-of (timeText w) (t .1) (c .before .before .before .before .before .before .before .before .before .before .before .before .before .pre .1) in
-    room-after (totalText (t .0 .1 .0)) (then (c .before .before .before .before .before .before .before .put-padding .ensures) (c .before .before .before .put-now .ensures)) h
+    room-after (clockText 48 41 (t .0 .1 .0)) (then (c .before .before .before .before .before .before .before .put-padding .ensures) (c .before .before .before .put-clock .ensures)) h
 
 returns : tie.Need-returns
 unfolding timeText
@@ -69,7 +70,7 @@ returns c =
 returns-2 : tie.Need-returns-2
 unfolding timeText
 returns-2 c =
-    as-text (ap (timeText (c .before .before .before .before .before .before .before .before .before .before .before .before .before .before .before .before .args .width)) (sym (c .before .before .before .before .before .before .before .before .before .before .before .before .before .time .given .1))) (then (then (c .before .before .before .before .before .before .before .before .before .before .put-padding .ensures) (c .before .before .before .before .before .before .put-now .ensures)) (c .before .before .put-total .ensures))
+    as-text (ap (timeText (c .before .before .before .before .before .before .before .before .before .before .before .before .before .before .before .before .args .width)) (sym (c .before .before .before .before .before .before .before .before .before .before .before .before .before .time .given .1))) (then (then (c .before .before .before .before .before .before .before .before .before .before .put-padding .ensures) (c .before .before .before .before .before .before .put-clock .ensures)) (c .before .before .put-clock2 .ensures))
 
 add-result : tie.Need-add-result
 add-result c = sum-fits (returns-2 c) (c .before .before .before .before .before .before .before .before .before .before .before .before .before .before .before .before .good .0 .0)
@@ -84,15 +85,15 @@ put-time-spec =
     enum-told
     enum-known-time
     put-padding-requires
-    sub-put-now
-    part-put-now-start
-    part-put-now-end
-    put-now-requires
+    sub-put-clock
+    part-put-clock-start
+    part-put-clock-end
+    put-clock-requires
     add-m
-    sub-put-total
-    part-put-total-start
-    part-put-total-end
-    put-total-requires
+    sub-put-clock-2
+    part-put-clock-start-2
+    part-put-clock-end-2
+    put-clock-requires-2
     add-result
     returns
     same-length

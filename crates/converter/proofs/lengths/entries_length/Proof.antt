@@ -1,25 +1,26 @@
--- The loop's invariant: the number is how long the entries passed are, at most 4295032897 each.
+-- The loop's invariant: the number is how long the entries passed are, at most 4295032904 each.
 -- Assumes nothing.
 use native.Mathlib.Omega.{arith}
 use Prim.Native.Nat.{_*_, _-_, _≤_}
 use mathlib.Core.Path.{_≡_, ap, _∙_}
 use lib.ListN.{length}
 use denote.Ref.{now}
-use Rattle.block.specs.Decode.{run, notedIn}
+use Rattle.block.specs.Decode.{run}
 use Rattle.block.proofs.Within.{moves-small}
 use Rattle.converter.specs.Entries.{entriesText}
+use Rattle.converter.specs.inner.Lines.{notedSaid}
 use Rattle.converter.proofs.Counted.{entries-zero, entries-next}
 use Rattle.converter.proofs.lengths.entries_length.Statement.{statement}
 use Rattle.converter.proofs.lengths.entries_length.Tie as tie
 
 abbrev Inv-loop : tie.InvT-loop
-Inv-loop b ply first count n₀ i₀ n i = (i ≤ count) × (n ≡ length (entriesText ply (run (notedIn b) first i))) × (n ≤ 4295032897 * i)
+Inv-loop b mode ply first count n₀ i₀ n i = (i ≤ count) × (n ≡ length (entriesText ply (run (notedSaid mode b) first i))) × (n ≤ 4295032904 * i)
 
 abbrev μ-loop : tie.MeasureT-loop
-μ-loop b ply first count n₀ i₀ n i = count - i
+μ-loop b mode ply first count n₀ i₀ n i = count - i
 
 loop-holds : tie.Need-loop-holds Inv-loop μ-loop
-loop-holds c = (omega arith, entries-zero (c .before .args .ply) (notedIn (now (c .before .args .b))) (c .before .args .first), omega arith)
+loop-holds c = (omega arith, entries-zero (c .before .args .ply) (notedSaid (c .before .args .mode) (now (c .before .args .b))) (c .before .args .first), omega arith)
 
 add-noted-length : tie.Need-add-noted-length Inv-loop μ-loop
 add-noted-length c = omega (arith, moves-small (now (c .before .before .before .args .b)) (c .before .before .before .pre .0))
@@ -43,14 +44,14 @@ loop-again : tie.Need-loop-again Inv-loop μ-loop
 loop-again c =
     let a = c .before .before .before .before .args in
     let l = c .before .before .loop in
-    (omega arith, entries-next (a .ply) (notedIn (now (a .b))) (a .first) (l .i) (l .n) (c .noted-length .result) (l .inv .1) (c .noted-length .ensures .0), omega arith)
+    (omega arith, entries-next (a .ply) (notedSaid (a .mode) (now (a .b))) (a .first) (l .i) (l .n) (c .noted-length .result) (l .inv .1) (c .noted-length .ensures .0), omega arith)
 
 returns : tie.Need-returns Inv-loop μ-loop
 returns c =
     let a = c .before .before .before .args in
     let l = c .before .loop in
     let z : l .i ≡ a .count = omega arith in
-    (l .inv .1 ∙ ap (λ i. length (entriesText (a .ply) (run (notedIn (now (a .b))) (a .first) i))) z, omega arith)
+    (l .inv .1 ∙ ap (λ i. length (entriesText (a .ply) (run (notedSaid (a .mode) (now (a .b))) (a .first) i))) z, omega arith)
 
 pub entries-length-spec : {M : Type 1} → statement M
 entries-length-spec =

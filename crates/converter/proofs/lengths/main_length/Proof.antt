@@ -6,9 +6,10 @@ use mathlib.Core.Path.{ap}
 use lib.ListN.{length}
 use borrow.Author.Needs.{needs}
 use denote.Ref.{now}
-use Rattle.block.specs.Decode.{run, notedIn}
+use Rattle.block.specs.Decode.{run}
 use Rattle.block.proofs.Within.{some-line, some-entry, first-none, entries-within, moves-small}
 use Rattle.converter.specs.Entries.{entriesText}
+use Rattle.converter.specs.inner.Lines.{notedSaid}
 use Rattle.converter.proofs.Counted.{main-parts}
 use Rattle.converter.proofs.lengths.main_length.Statement.{statement}
 use Rattle.converter.proofs.lengths.main_length.Tie as tie
@@ -41,8 +42,9 @@ returns : tie.Need-returns
 returns c =
     let b = now (c .before .before .before .before .args .b) in
     let s = c .before .before .before .before .pre in
-    let e = ap (λ n. length (entriesText 1 (run (notedIn b) 1 (n - 1)))) (c .before .entry-count .ensures .0) in
-    omega (arith, main-parts b s, entries-within b s 0 (some-line b s), moves-small b s)
+    let m = c .before .before .before .before .args .mode in
+    let e = ap (λ n. length (entriesText 1 (run (notedSaid m b) 1 (n - 1)))) (c .before .entry-count .ensures .0) in
+    omega (arith, main-parts m b s, entries-within b s 0 (some-line b s), moves-small b s)
 
 pub main-length-spec : {M : Type 1} → statement M
 main-length-spec =

@@ -7,6 +7,7 @@ use denote.Ref.{now}
 use Rattle.block.specs.EntryBytes.{entryIn}
 use Rattle.block.specs.Decode.{run, commentOf}
 use Rattle.converter.specs.Entries.{entryLine, remarksText}
+use Rattle.converter.specs.Said.{saidEntry}
 use Rattle.converter.proofs.Playing.{row-number, noted-text, noted-bare}
 use borrow.Author.Needs.{needs}
 use Rattle.block.proofs.Within.{comments-within, comments-small}
@@ -30,7 +31,7 @@ returns c =
     let s = c .before .before .before .before .before in
     let b = now (s .args .b) in
     let r = c .before .before .before .row-of .ensures in
-    let e = noted-bare b (s .args .ply) (s .args .k) r (row-number b (s .args .k) 18 r (c .before .get16 .ensures .0)) (c .if1 .taken) in
+    let e = noted-bare (s .args .mode) b (s .args .ply) (s .args .k) r (row-number b (s .args .k) 18 r (c .before .get16 .ensures .0)) (c .if1 .taken) in
     (c .before .before .row-length .ensures .0 ∙ ap length e, omega arith)
 
 get16-requires-2 : tie.Need-get16-requires-2
@@ -58,8 +59,8 @@ returns-2 c =
     let r = c .before .before .before .before .before .row-of .ensures in
     let i = c .before .get162 in
     let n = c .before .before .before .get16 in
-    let t = entryLine ply (entryIn (now (c .before .before .before .before .before .row-of .result))) in
-    let e = ap length (noted-text b ply k r (row-number b k 16 r (i .ensures .0)) (row-number b k 18 r (n .ensures .0))) in
+    let t = entryLine ply (saidEntry (s .args .mode) (entryIn (now (c .before .before .before .before .before .row-of .result)))) in
+    let e = ap length (noted-text (s .args .mode) b ply k r (row-number b k 16 r (i .ensures .0)) (row-number b k 18 r (n .ensures .0))) in
     let l = length-append t (remarksText (run (commentOf b) (i .result) (n .result))) in
     (omega (arith, c .remarks-length .ensures .0, c .before .before .before .before .row-length .ensures .0), omega (arith, n .ensures .1, c .remarks-length .ensures .1, c .before .before .before .before .row-length .ensures .1))
 

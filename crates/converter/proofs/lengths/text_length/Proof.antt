@@ -40,7 +40,7 @@ add-result-3 c = search needs
 returns : tie.Need-returns
 returns c =
     let e = ap (λ p. length (positionText p)) (c .before .before .before .position-of .ensures) in
-    omega (arith, record-parts (now (c .before .before .before .before .before .before .args .b)) (c .before .before .before .before .before .before .args .lines) (c .before .before .before .before .before .before .pre))
+    omega (arith, record-parts (c .before .before .before .before .before .before .args .mode) (now (c .before .before .before .before .before .before .args .b)) (c .before .before .before .before .before .before .args .lines) (c .before .before .before .before .before .before .pre))
 
 pub text-length-spec : {M : Type 1} → statement M
 text-length-spec =

@@ -1,4 +1,4 @@
--- No time is nothing; a time is its padding, none where the width is 13 or more, and its two clocks.
+-- No time is nothing; a time is its padding, none where the width is 13 or more, a bracket and its two clocks.
 -- Assumes nothing.
 use native.Mathlib.Omega.{arith}
 use borrow.Author.Needs.{needs}
@@ -12,14 +12,17 @@ enum-told c = search needs
 enum-known-time : tie.Need-enum-known-time
 enum-known-time c = search needs
 
-now-length-requires : tie.Need-now-length-requires
-now-length-requires c κs = tt
-
-total-length-requires : tie.Need-total-length-requires
-total-length-requires c κs = tt
+clock-length-requires : tie.Need-clock-length-requires
+clock-length-requires c κs = tt
 
 add-n : tie.Need-add-n
 add-n c = search needs
+
+clock-length-requires-2 : tie.Need-clock-length-requires-2
+clock-length-requires-2 c κs = tt
+
+add-n-2 : tie.Need-add-n-2
+add-n-2 c = search needs
 
 sub-result : tie.Need-sub-result
 sub-result c = search needs
@@ -31,10 +34,10 @@ returns : tie.Need-returns
 returns c = (untimed-length (c .before .before .args .width) (c .enum-told .given .1), omega arith)
 
 returns-2 : tie.Need-returns-2
-returns-2 c = omega (arith, timed-length (c .before .before .before .before .before .before .args .width) (c .before .before .before .before .time .given .1))
+returns-2 c = omega (arith, timed-length (c .before .before .before .before .before .before .args .width) (c .before .before .before .before .time .given .1), c .before .before .clock-length .ensures .0 32 47, c .before .clock-length2 .ensures .0 48 41)
 
 returns-3 : tie.Need-returns-3
-returns-3 c = omega (arith, timed-length (c .before .before .before .before .before .before .args .width) (c .before .before .before .before .time .given .1))
+returns-3 c = omega (arith, timed-length (c .before .before .before .before .before .before .args .width) (c .before .before .before .before .time .given .1), c .before .before .clock-length .ensures .0 32 47, c .before .clock-length2 .ensures .0 48 41)
 
 pub time-length-spec : {M : Type 1} → statement M
 time-length-spec =
@@ -42,9 +45,10 @@ time-length-spec =
     (tie.spec
     enum-told
     enum-known-time
-    now-length-requires
-    total-length-requires
+    clock-length-requires
     add-n
+    clock-length-requires-2
+    add-n-2
     sub-result
     add-result
     returns

@@ -6,10 +6,11 @@ use lib.ListN.{length}
 use borrow.Author.Needs.{needs}
 use denote.Ref.{now}
 use Rattle.lent.specs.Numbers.{decimal}
-use Rattle.block.specs.Decode.{run, startOf, notedIn, lineIn}
+use Rattle.block.specs.Decode.{run, startOf}
 use Rattle.block.proofs.Within.{entries-within}
 use Rattle.converter.specs.Entries.{entriesText}
 use Rattle.lent.proofs.Digits.{digits-five}
+use Rattle.converter.specs.inner.Lines.{notedSaid}
 use Rattle.converter.proofs.Counted.{variation-parts}
 use Rattle.converter.proofs.lengths.variation_length.Statement.{statement}
 use Rattle.converter.proofs.lengths.variation_length.Tie as tie
@@ -45,11 +46,12 @@ returns : tie.Need-returns
 returns c =
     let b = now (c .before .before .before .before .before .before .args .b) in
     let k = c .before .before .before .before .before .before .args .k in
+    let m = c .before .before .before .before .before .before .args .mode in
     let d = ap (λ n. length (decimal n)) (c .before .before .before .before .start-of .ensures .0) in
     let e =
-    ap (λ p. length (entriesText p (run (notedIn b) (c .before .before .first-entry .result) (c .before .entry-count .result)))) (c .before .before .before .before .start-of .ensures .0)
-    ∙ ap₂ (λ f n. length (entriesText (startOf b k) (run (notedIn b) f n))) (c .before .before .first-entry .ensures .0) (c .before .entry-count .ensures .0) in
-    omega (arith, variation-parts (lineIn b k), digits-five (c .before .before .before .before .start-of .result) (omega arith))
+    ap (λ p. length (entriesText p (run (notedSaid m b) (c .before .before .first-entry .result) (c .before .entry-count .result)))) (c .before .before .before .before .start-of .ensures .0)
+    ∙ ap₂ (λ f n. length (entriesText (startOf b k) (run (notedSaid m b) f n))) (c .before .before .first-entry .ensures .0) (c .before .entry-count .ensures .0) in
+    omega (arith, variation-parts m b k, digits-five (c .before .before .before .before .start-of .result) (omega arith))
 
 pub variation-length-spec : {M : Type 1} → statement M
 variation-length-spec =

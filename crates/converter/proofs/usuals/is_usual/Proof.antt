@@ -34,19 +34,28 @@ has-origin-requires c κs = search needs
 returns-5 : tie.Need-returns-5
 returns-5 c = λ e. absurd (false≢true e)
 
+is-said-so-requires : tie.Need-is-said-so-requires
+is-said-so-requires c κs = search needs
+
+returns-6 : tie.Need-returns-6
+returns-6 c = λ e. absurd (false≢true e)
+
 has-clocks-requires : tie.Need-has-clocks-requires
 has-clocks-requires c κs = search needs
 
-returns-6 : tie.Need-returns-6
-returns-6 c =
-    λ e. record {
-      whole = omega arith;
-      sort = omega arith;
-      target = c .before .before .before .before .before .before .has-target .ensures (not-false _ (c .before .before .before .before .before .if3 .left));
-      name = c .before .before .before .before .has-name .ensures (not-false _ (c .before .before .before .if4 .left));
-      origin = c .before .before .has-origin .ensures (not-false _ (c .before .if5 .left));
-      clocks = c .has-clocks .ensures e;
-    }
+returns-7 : tie.Need-returns-7
+returns-7 c =
+    λ e. (
+      record {
+        whole = omega arith;
+        sort = omega arith;
+        target = c .before .before .before .before .before .before .before .before .has-target .ensures (not-false _ (c .before .before .before .before .before .before .before .if3 .left));
+        name = c .before .before .before .before .before .before .has-name .ensures (not-false _ (c .before .before .before .before .before .if4 .left));
+        origin = c .before .before .before .before .has-origin .ensures (not-false _ (c .before .before .before .if5 .left));
+        clocks = c .has-clocks .ensures e;
+      },
+      c .before .before .is-said-so .ensures (not-false _ (c .before .if6 .left)),
+    )
 
 pub is-usual-spec : {M : Type 1} → statement M
 is-usual-spec =
@@ -61,5 +70,7 @@ is-usual-spec =
     returns-4
     has-origin-requires
     returns-5
+    is-said-so-requires
+    returns-6
     has-clocks-requires
-    returns-6)
+    returns-7)

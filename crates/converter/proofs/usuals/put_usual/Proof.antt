@@ -1,12 +1,11 @@
--- The three pieces, one after another, are the line (`usual-line`), and where it fits they do.
+-- The three pieces are put one after another, and where the line fits they do.
 -- Assumes nothing.
 use native.Mathlib.Nat.{le-refl}
-use mathlib.Core.Path.{sym}
 use denote.Ref.{now}
-use Rattle.lent.proofs.Writes.{as-text, then, wrote-length, sum-fits, within}
+use Rattle.lent.proofs.Writes.{then, wrote-length, sum-fits, within}
 use Rattle.converter.specs.inner.Usuals.{nameText, clocksText}
 use Rattle.lent.proofs.Room.{room-after}
-use Rattle.converter.proofs.Usually.{usual-line, usual-room}
+use Rattle.converter.proofs.Usually.{usual-room}
 use Rattle.converter.proofs.usuals.put_usual.Statement.{statement}
 use Rattle.converter.proofs.usuals.put_usual.Tie as tie
 
@@ -46,12 +45,11 @@ put-clocks-requires : tie.Need-put-clocks-requires
 put-clocks-requires c κs =
     let s = c .before .before .before .before .before .before .before .before .before .before .before in
     let row = now (s .args .row) in
-    (s .pre .0, room-after (clocksText row) (then (c .before .before .before .before .before .before .before .put-start .ensures) (c .before .before .before .put-name .ensures)) (usual-room row (s .pre .0) (s .args .ply) (s .pre .2) .2))
+    (s .pre .0, room-after (clocksText row) (then (c .before .before .before .before .before .before .before .put-start .ensures) (c .before .before .before .put-name .ensures)) (s .pre .2))
 
 returns : tie.Need-returns
 returns c =
-    let s = c .before .before .before .before .before .before .before .before .before .before .before .before .before .before in
-    as-text (sym (usual-line (now (s .args .row)) (s .pre .0) (s .args .ply))) (then (then (c .before .before .before .before .before .before .before .before .before .before .put-start .ensures) (c .before .before .before .before .before .before .put-name .ensures)) (c .before .before .put-clocks .ensures))
+    then (then (c .before .before .before .before .before .before .before .before .before .before .put-start .ensures) (c .before .before .before .before .before .before .put-name .ensures)) (c .before .before .put-clocks .ensures)
 
 add-result : tie.Need-add-result
 add-result c = sum-fits (returns c) (c .before .before .before .before .before .before .before .before .before .before .before .before .before .before .good .0 .0)
