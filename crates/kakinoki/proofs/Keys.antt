@@ -8,7 +8,7 @@ use mathlib.Core.Bool.{true, false, true≢false}
 use lib.ListN.{length, getD, drop, length-drop, drop-of-length-le}
 use borrow.Author.Tests.{ne-eqb}
 use Rattle.lists.proofs.Laws.{drop-step}
-use Rattle.text.specs.Text.{standsAt, wideColon, endsKey, keyFrom, keyAt}
+use Rattle.text.specs.Text.{prefixFrom, standsAt, wideColon, endsKey, keyFrom, keyAt}
 
 module _ (s : List ℕ) (at : ℕ) where
   pub ends-past : length s ≤ at → endsKey (drop at s) ≡ true
@@ -23,6 +23,10 @@ module _ (s : List ℕ) (at : ℕ) where
   pub ends-colon : at < length s → (getD s at 0 ≡ 10 → ⊥) → (getD s at 0 ≡ 13 → ⊥) → endsKey (drop at s) ≡ standsAt wideColon s at
   unfolding standsAt
   ends-colon h e f = rw (drop-step s at h, ne-eqb _ _ e, ne-eqb _ _ f)
+
+  pub ends-not : at < length s → 13 < getD s at 0 → getD s at 0 < 239 → endsKey (drop at s) ≡ false
+  unfolding prefixFrom
+  ends-not h e f = rw (drop-step s at h, ne-eqb (getD s at 0) 10 (λ k. omega arith), ne-eqb (getD s at 0) 13 (λ k. omega arith), ne-eqb (getD s at 0) 239 (λ k. omega arith))
 
   -- a key ends here: none begins here
   pub key-none : endsKey (drop at s) ≡ true → keyAt s at ≡ []

@@ -97,11 +97,29 @@ fn ends_key(s: &[u8], at: usize) -> bool
     text::stands(s, at, b"\xef\xbc\x9a")
 }
 
+// Past bytes that surely are of the key: one range of them is asked for, which is faster than what may end it.
+fn key_run(s: &[u8], from: usize) -> usize
+    ensures { λ r. ⌜ from + length (keyAt (now (s .entry)) from) ≡ r + length (keyAt (now (s .entry)) r) ⌝ }
+{
+    let mut at = from;
+    while at < s.len() {
+        let b = s[at];
+        if b < 14 {
+            return at;
+        }
+        if 238 < b {
+            return at;
+        }
+        at += 1;
+    }
+    at
+}
+
 // Where the key that begins at a place ends.
 fn key_end(c: Cursor, s: &[u8]) -> Cursor
     ensures { λ r. ⌜ r .at ≡ c .at + length (keyAt (now (s .entry)) (c .at)) ⌝ }
 {
-    let mut at = c.at;
+    let mut at = key_run(s, c.at);
     while !ends_key(s, at) {
         at += 1;
     }

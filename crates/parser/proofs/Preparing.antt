@@ -6,7 +6,7 @@ use native.Mathlib.Nat.{mod-eq-of-lt}
 use native.Mathlib.Omega.{arith}
 use mathlib.Core.Path.{_≡_, refl, sym, ap, _∙_, subst}
 use mathlib.Core.List.{List, [], _∷_, _++_}
-use lib.ListN.{length, getD, take, drop, replicate, length-append, length-replicate}
+use lib.ListN.{length, getD, take, drop, replicate, length-append}
 use lib.Seq.{sets-eq, take-at, take-append-le, length-take-le}
 use borrow.Author.Tests.{le-ltb}
 use Rattle.lent.specs.Stored.{put}
@@ -22,7 +22,7 @@ use Rattle.parser.specs.Read.{faultless, earlyOf}
 use Rattle.parser.specs.declared.Early.{Early}
 use Rattle.parser.specs.declared.Early.the-variants.{Refused, Passed}
 use Rattle.parser.specs.declared.Survey.{Survey}
-use Rattle.parser.specs.inner.Stores.{noPlaces, Prepared, Surveyed, Sorted}
+use Rattle.parser.specs.inner.Stores.{PlacesIn, Prepared, Surveyed, Sorted}
 
 -- ---- numbers of 16 bits, and a list at a buffer's front
 
@@ -63,7 +63,7 @@ leads-then {l} {o} {r} q w =
 -- ---- what was read before the moves
 
 abbrev pub Begun : List ℕ → Start → List ℕ → Type 0
-Begun s start places = (length s ≤ 65535) × (start ≡ startRead s) × (places ≡ put noPlaces 0 (low16 (headerPlaces s)))
+Begun s start places = (length s ≤ 65535) × (start ≡ startRead s) × PlacesIn s places
 
 module _ (s : List ℕ) (start : Start) (places : List ℕ) (b : Begun s start places) where
   places-few : length (headerPlaces s) ≤ 13107
@@ -76,12 +76,12 @@ module _ (s : List ℕ) (start : Start) (places : List ℕ) (b : Begun s start p
   unfolding startRead
   counted = sym (ap (λ (x : Start). x .headers) (b .1))
 
-  room : length (headerPlaces s) ≤ length noPlaces
-  room = simp length-replicate places-few
+  room : length (headerPlaces s) ≤ length (b .2 .before)
+  room = omega (arith, headers-few s, b .2 .room)
 
   places-taken : take (start .headers) places ≡ headerPlaces s
   places-taken =
-      ap (take (start .headers)) (b .2 ∙ ap (put noPlaces 0) places-low) ∙ front-of (headerPlaces s) noPlaces (start .headers) room counted
+      ap (take (start .headers)) (b .2 .said ∙ ap (put (b .2 .before) 0) places-low) ∙ front-of (headerPlaces s) (b .2 .before) (start .headers) room counted
 
   pub taken-count : start .headers ≡ length (take (start .headers) places)
   taken-count = sym counted ∙ sym (ap length places-taken)

@@ -10,13 +10,11 @@ use kakinoki::Fault;
 use kakinoki::Start;
 use text::Cursor;
 ghost use mathlib.Core.Path.{_≡_};
-ghost use Prim.Native.Nat.{_≤_};
+ghost use Prim.Native.Nat.{_*_, _≤_};
 ghost use lib.ListN.{length};
-ghost use Rattle.lent.specs.Stored.{put};
-ghost use Rattle.kakinoki.specs.Informations.{low16};
-ghost use Rattle.kakinoki.specs.Starts.{startRead, headerPlaces};
+ghost use Rattle.kakinoki.specs.Starts.{startRead};
 ghost use Rattle.parser.specs.Read.{faultless, earlyOf};
-ghost use Rattle.parser.specs.inner.Stores.{noPlaces, Prepared, Surveyed, Sorted};
+ghost use Rattle.parser.specs.inner.Stores.{PlacesIn, Prepared, Surveyed, Sorted};
 
 // A text that is refused, of which nothing else is told.
 fn refused(a: Answer) -> Survey
@@ -66,7 +64,7 @@ fn sized(s: &[u8], position: Position, c: Cursor, headers: &[u16]) -> Survey
 
 // What stands before the moves was read without a fault: its header lines are sorted by key.
 fn survey_start(s: &[u8], start: Start, places: &[u16], sorted: &mut [u16]) -> Survey
-    requires { ⌜ (length (now s) ≤ 65535) × (start ≡ startRead (now s)) × (now places ≡ put noPlaces 0 (low16 (headerPlaces (now s)))) ⌝ }
+    requires { ⌜ (length (now s) ≤ 65535) × (start ≡ startRead (now s)) × PlacesIn (now s) (now places) ⌝ }
     requires { ⌜ 13107 ≤ length (now sorted) ⌝ }
     ensures { λ r. ⌜ (r .early ≡ Early.Passed) × Sorted (now (s .entry)) r (now (sorted .exit)) ⌝ }
 {
@@ -76,19 +74,32 @@ fn survey_start(s: &[u8], start: Start, places: &[u16], sorted: &mut [u16]) -> S
     sized(s, position, start.next, &sorted[..kept])
 }
 
-// A text that is not too long and is UTF-8.
+// A text that is not too long and is UTF-8, with a scratch that has room for the places of its header lines.
+fn survey_through(s: &[u8], places: &mut [u16], sorted: &mut [u16]) -> Survey
+    requires { ⌜ (length (now s) ≤ 65535) × (length (now s) ≤ 5 * length (now places)) × (13107 ≤ length (now sorted)) ⌝ }
+    ensures { λ r. ⌜ r .early ≡ faultless (now (s .entry)) ⌝ }
+    ensures { λ r. ⌜ (r .early ≡ Early.Passed → Sorted (now (s .entry)) r (now (sorted .exit))) ⌝ }
+{
+    let start = kakinoki::parse_without_moves(s, places);
+    let fault = start.fault;
+    match fault {
+        Fault::At(at) => refused(Answer::HandLine(at as u64)),
+        Fault::NoFault => survey_start(s, start, places, sorted),
+    }
+}
+
+// The same; a short text takes a short scratch, which takes less time to clear.
 fn survey_text(s: &[u8], sorted: &mut [u16]) -> Survey
     requires { ⌜ (length (now s) ≤ 65535) × (13107 ≤ length (now sorted)) ⌝ }
     ensures { λ r. ⌜ r .early ≡ faultless (now (s .entry)) ⌝ }
     ensures { λ r. ⌜ (r .early ≡ Early.Passed → Sorted (now (s .entry)) r (now (sorted .exit))) ⌝ }
 {
-    let mut places = [0u16; 13107];
-    let start = kakinoki::parse_without_moves(s, &mut places);
-    let fault = start.fault;
-    match fault {
-        Fault::At(at) => refused(Answer::HandLine(at as u64)),
-        Fault::NoFault => survey_start(s, start, &places, sorted),
+    if s.len() <= 16384 {
+        let mut few = [0u16; 3277];
+        return survey_through(s, &mut few, sorted);
     }
+    let mut places = [0u16; 13107];
+    survey_through(s, &mut places, sorted)
 }
 
 // A text, and the places of its header lines by key.

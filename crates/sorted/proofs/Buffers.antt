@@ -4,18 +4,21 @@ use Prim.Native.Nat.{ℕ, _+_, _-_, _≤_, _<_, zero-le}
 use native.Mathlib.Numerals.{add-one}
 use native.Mathlib.Omega.{arith}
 use mathlib.Core.Path.{_≡_, refl, sym, ap, _∙_}
-use mathlib.Core.List.{List, [], _∷_, _++_, append-assoc, append-nil}
-use lib.ListN.{length, getD, drop, take, set, drop-of-length-le, length-drop, length-take, length-append, length-set, take-append-drop, replicate, replicate-append-replicate}
-use lib.Seq.{set-at, take-suc, length-take-le, take-suc-set, take-all, take-at, append-snoc, take-append-le, take-take, drop-at}
+use mathlib.Core.List.{List, [], _∷_, _++_, map, append-assoc, append-nil}
+use lib.ListN.{length, getD, drop, take, set, drop-of-length-le, length-drop, length-take, length-append, length-set, take-append-drop, replicate, replicate-append-replicate, length-map, List·getD-map}
+use lib.Seq.{set-at, take-suc, length-take-le, take-suc-set, take-all, take-at, append-snoc, take-append-le, take-take, drop-at, getD-take}
 use borrow.Author.Tests.{le-ltb}
 use borrow.Rule.Slice.PartMut.{putMid}
+use Rattle.lists.specs.All.{All, none, next}
 use Rattle.lists.proofs.Laws.{drop-step}
 use Rattle.sorted.specs.declared.Order.{Order}
 use Rattle.sorted.specs.declared.Order.the-variants.{Less, Equal, Greater}
-use Rattle.sorted.specs.Sorted.{byKey, enter, enterAll, kept, keptCount, keptBuffer}
+use Rattle.sorted.specs.declared.MergeStep.{MergeStep}
+use Rattle.sorted.specs.Sorted.{enter, enterAll, kept, keptCount, keptBuffer}
 use Rattle.sorted.specs.inner.Orders.{merge, Leads}
+use Rattle.sorted.specs.inner.Packs.{packed, packPlace, byPack, Packable, packs, Packs, stepOf}
 use Rattle.sorted.proofs.Merges.{merge-nil, less, equal, greater}
-use Rattle.sorted.proofs.Kept.{kept-halves, kept-length}
+use Rattle.sorted.proofs.Packs.{packs-length, packs-halves, unpacked}
 
 -- ---- copying
 
@@ -34,10 +37,6 @@ rest : (o : List ℕ) (n : ℕ) → take (length o - n) (drop n o) ≡ drop n o
 rest o n = take-all (length o - n) (drop n o) (simp length-drop (omega arith))
 
 -- ---- merging
-
--- what a comparison of the places read says of the places
-pub told : (s : List ℕ) (x y p q : ℕ) (r w : Order) → x ≡ p → y ≡ q → r ≡ byKey s x y → r ≡ w → byKey s p q ≡ w
-told s x y p q r w e f g h = ap (λ (n : ℕ). byKey s n q) (sym e) ∙ ap (byKey s x) (sym f) ∙ sym g ∙ h
 
 -- what stands in the buffer, and what is left of both runs
 pub record Merging (o : ℕ → ℕ → Order) (a b out : List ℕ) (i j k : ℕ) : Type 0 where
@@ -67,15 +66,24 @@ module _ {o : ℕ → ℕ → Order} {a b out : List ℕ} {i j k : ℕ} (w : Mer
         made = one-more _ out _ _ k v (omega (arith, w .k-in, w .room)) (w .made) e;
       }
 
-  module _ (h : i < length a) (g : j < length b) where
-    pub merging-less : o (getD a i 0) (getD b j 0) ≡ Less → Merging o a b (set out k (getD a i 0)) (i + 1) j (k + 1)
-    merging-less e = merging-more _ _ _ (omega arith) (omega arith) (omega arith) (less o (drop-step a i h) (drop-step b j g) e)
+  -- the step that the first of what is left of both runs asks for
+  pub merging-step : (x y : ℕ) (t : MergeStep) → i < length a → j < length b → x ≡ getD a i 0 → y ≡ getD b j 0 → t ≡ stepOf (o x y) x y
+      → Merging o a b (set out k (t .value)) (i + t .left) (j + t .right) (k + 1)
+  merging-step x y t h g e f q = rw q (go (o x y) refl)
+    where
+      d : drop i a ≡ x ∷ drop (i + 1) a
+      d = drop-step a i h ∙ ap (λ (v : ℕ). v ∷ drop (i + 1) a) (sym e)
 
-    pub merging-equal : o (getD a i 0) (getD b j 0) ≡ Equal → Merging o a b (set out k (getD b j 0)) (i + 1) (j + 1) (k + 1)
-    merging-equal e = merging-more _ _ _ (omega arith) (omega arith) (omega arith) (equal o (drop-step a i h) (drop-step b j g) e)
+      d′ : drop j b ≡ y ∷ drop (j + 1) b
+      d′ = drop-step b j g ∙ ap (λ (v : ℕ). v ∷ drop (j + 1) b) (sym f)
 
-    pub merging-greater : o (getD a i 0) (getD b j 0) ≡ Greater → Merging o a b (set out k (getD b j 0)) i (j + 1) (k + 1)
-    merging-greater e = merging-more _ _ _ (omega arith) (omega arith) (omega arith) (greater o (drop-step a i h) (drop-step b j g) e)
+      plus-zero : (n : ℕ) → n ≡ n + 0
+      plus-zero n = omega arith
+
+      go : (p : Order) → o x y ≡ p → Merging o a b (set out k (stepOf p x y .value)) (i + stepOf p x y .left) (j + stepOf p x y .right) (k + 1)
+      go Less r = merging-more x (i + 1) (j + 0) (omega arith) (omega arith) (omega arith) (less o d d′ r ∙ ap (λ (m : ℕ). x ∷ merge o (drop (i + 1) a) (drop m b)) (plus-zero j))
+      go Equal r = merging-more y (i + 1) (j + 1) (omega arith) (omega arith) (omega arith) (equal o d d′ r)
+      go Greater r = merging-more y (i + 0) (j + 1) (omega arith) (omega arith) (omega arith) (greater o d d′ r ∙ ap (λ (m : ℕ). y ∷ merge o (drop m a) (drop (j + 1) b)) (plus-zero i))
 
   pub left-b : i ≡ length a → merge o a b ≡ take k out ++ take (length b - j) (drop j b)
   unfolding merge
@@ -102,51 +110,81 @@ leads-then l o m p d k r h e f g =
 
 -- ---- sorting: none, one, and two halves
 
-pub kept-none : (s f o : List ℕ) → length f ≡ 0 → Leads (kept s f) o 0
-unfolding kept enterAll
-kept-none s [] o e = record { count = refl; front = refl; fits = zero-le }
-kept-none s (x ∷ f) o e = absurd (omega arith)
+pub packs-none : (s f o : List ℕ) → length f ≡ 0 → Packs s f o 0
+unfolding packs enterAll
+packs-none s [] o e = record { leads = record { count = refl; front = refl; fits = zero-le }; each = none }
+packs-none s (x ∷ f) o e = absurd (omega arith)
 
-pub kept-one : (s f o : List ℕ) → length f ≡ 1 → 1 ≤ length o → Leads (kept s f) (set o 0 (getD f 0 0)) 1
-unfolding kept enterAll enter
-kept-one s [] o e h = absurd (omega arith)
-kept-one s (x ∷ []) [] e h = absurd (omega arith)
-kept-one s (x ∷ []) (y ∷ o) e h = record { count = refl; front = refl; fits = h }
-kept-one s (x ∷ y ∷ f) o e h = absurd (omega arith)
+pub packs-one : (s f o : List ℕ) (v : ℕ) → length f ≡ 1 → 1 ≤ length o → (v ≡ packed s (getD f 0 0)) × Packable s (getD f 0 0) → Packs s f (set o 0 v) 1
+unfolding packs enterAll enter
+packs-one s [] o v e h p = absurd (omega arith)
+packs-one s (x ∷ []) [] v e h p = absurd (omega arith)
+packs-one s (x ∷ []) (y ∷ o) v e h p = record { leads = record { count = refl; front = ap (λ (v : ℕ). v ∷ []) (p .0); fits = h }; each = next (p .1) none }
+packs-one s (x ∷ y ∷ f) o v e h p = absurd (omega arith)
 
 as-leads : {l l′ o : List ℕ} {n : ℕ} → l ≡ l′ → Leads l o n → Leads l′ o n
 as-leads e w = rw e at w
 
+all-both : {P : ℕ → Type 0} (l m : List ℕ) → All P l → All P m → All P (l ++ m)
+all-both [] m none h = h
+all-both (x ∷ l) m (next a g) h = next a (all-both l m g h)
+
+pub packs-in : {s ps o : List ℕ} {r : ℕ} → Packs s ps o r → r ≤ length ps
+packs-in {s} {ps} w = omega (arith, w .leads .count, packs-length s ps)
+
 -- the first h places of f sorted into the front of t, and the others into the front of p
 pub record Halves (s f t p : List ℕ) (i j h : ℕ) : Type 0 where
-  pub first : Leads (kept s (take h f)) t i
-  pub second : Leads (kept s (take (length f - h) (drop h f))) p j
+  pub first : Packs s (take h f) t i
+  pub second : Packs s (take (length f - h) (drop h f)) p j
   pub in-places : h ≤ length f
   pub in-scratch : h ≤ length t
 
 module _ {s f t p : List ℕ} {i j h : ℕ} (w : Halves s f t p i j h) where
   pub first-in : i ≤ h
-  first-in = omega (arith, w .first .count, kept-length s (take h f), length-take h f)
+  first-in = omega (arith, packs-in (w .first), length-take h f)
 
   pub second-in : h + j ≤ length f
-  second-in =
-      let r = take (length f - h) (drop h f) in
-      omega (arith, w .in-places, w .second .count, kept-length s r, length-take (length f - h) (drop h f), length-drop h f)
+  second-in = omega (arith, w .in-places, packs-in (w .second), length-take (length f - h) (drop h f), length-drop h f)
 
-  pub kept-two : {o : List ℕ} {r : ℕ}
-      → Leads (merge (byKey s) (take i (putMid h (length t - h) t p)) (take (h + j - h) (drop h (putMid h (length t - h) t p)))) o r → Leads (kept s f) o r
-  kept-two {o} {r} v =
+  whole : take h f ++ take (length f - h) (drop h f) ≡ f
+  whole = ap (λ (x : List ℕ). take h f ++ x) (rest f h) ∙ take-append-drop h f
+
+  pub packs-two : {o : List ℕ} {r : ℕ}
+      → Leads (merge (byPack s) (take i (putMid h (length t - h) t p)) (take (h + j - h) (drop h (putMid h (length t - h) t p)))) o r → Packs s f o r
+  packs-two {o} {r} v =
       let z = drop (length t - h) (drop h t) in
       let n : length (take h t) ≡ h = length-take-le h t (w .in-scratch) in
       let c : h + j - h ≡ j = omega arith in
-      let e₁ : take i (take h t ++ (p ++ z)) ≡ kept s (take h f)
-      = take-append-le i (take h t) (p ++ z) (omega (arith, first-in)) ∙ take-take i h t first-in ∙ w .first .front in
-      let e₂ : take (h + j - h) (drop h (take h t ++ (p ++ z))) ≡ kept s (take (length f - h) (drop h f))
-      = ap (λ (m : ℕ). take m (drop h (take h t ++ (p ++ z)))) c ∙ ap (take j) (drop-at (take h t) (p ++ z) h n) ∙ take-append-le j p z (w .second .fits) ∙ w .second .front in
-      as-leads (
-      ap (λ (x : List ℕ). merge (byKey s) x (take (h + j - h) (drop h (take h t ++ (p ++ z))))) e₁ ∙ ap (merge (byKey s) (kept s (take h f))) e₂
-      ∙ sym (kept-halves s (take h f) (take (length f - h) (drop h f))) ∙ ap (λ (x : List ℕ). kept s (take h f ++ x)) (rest f h) ∙ ap (kept s) (take-append-drop h f)
-      ) v
+      let e₁ : take i (take h t ++ (p ++ z)) ≡ packs s (take h f)
+      = take-append-le i (take h t) (p ++ z) (omega (arith, first-in)) ∙ take-take i h t first-in ∙ w .first .leads .front in
+      let e₂ : take (h + j - h) (drop h (take h t ++ (p ++ z))) ≡ packs s (take (length f - h) (drop h f))
+      = ap (λ (m : ℕ). take m (drop h (take h t ++ (p ++ z)))) c ∙ ap (take j) (drop-at (take h t) (p ++ z) h n) ∙ take-append-le j p z (w .second .leads .fits) ∙ w .second .leads .front in
+      record {
+        leads = as-leads (
+            ap (λ (x : List ℕ). merge (byPack s) x (take (h + j - h) (drop h (take h t ++ (p ++ z))))) e₁ ∙ ap (merge (byPack s) (packs s (take h f))) e₂
+            ∙ sym (packs-halves s (take h f) (take (length f - h) (drop h f))) ∙ ap (packs s) whole
+            ) v;
+        each = rw whole at (all-both (take h f) (take (length f - h) (drop h f)) (w .first .each) (w .second .each));
+      }
+
+-- ---- unpacking
+
+pub unpack-more : (u o₀ o : List ℕ) (n i : ℕ) → n ≤ length u → n ≤ length o₀ → i < n → o ≡ take i (map packPlace (take n u)) ++ drop i o₀
+    → set o i (packPlace (getD u i 0)) ≡ take (i + 1) (map packPlace (take n u)) ++ drop (i + 1) o₀
+unpack-more u o₀ o n i h g k e =
+    let m : length (map packPlace (take n u)) ≡ n = length-map (take n u) packPlace ∙ length-take-le n u h in
+    let d : getD (map packPlace (take n u)) i 0 ≡ packPlace (getD u i 0) = List·getD-map packPlace (take n u) i 0 ∙ ap packPlace (getD-take n u i 0 k) in
+    ap (set o i) (sym d) ∙ copy-more (map packPlace (take n u)) o₀ o i (omega arith) (omega arith) e
+
+pub unpacked-leads : (s ps u o o′ : List ℕ) (r : ℕ) → Packs s ps u r → r ≤ length o → o′ ≡ map packPlace (take r u) ++ drop r o → Leads (kept s ps) o′ r
+unpacked-leads s ps u o o′ r w h e =
+    let k : map packPlace (take r u) ≡ kept s ps = ap (map packPlace) (w .leads .front) ∙ unpacked s ps (w .each) in
+    let m : length (map packPlace (take r u)) ≡ r = length-map (take r u) packPlace ∙ length-take-le r u (w .leads .fits) in
+    record {
+      count = sym m ∙ ap length k;
+      front = ap (take r) e ∙ take-at (map packPlace (take r u)) (drop r o) r m ∙ k;
+      fits = omega (arith, ap length e, length-append (map packPlace (take r u)) (drop r o));
+    }
 
 -- ---- zeros behind
 

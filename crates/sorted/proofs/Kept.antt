@@ -3,15 +3,15 @@
 use Prim.Native.Nat.{ℕ, _≤_}
 use native.Mathlib.Omega.{arith}
 use mathlib.Core.Path.{_≡_, refl, ap, _∙_, subst}
-use mathlib.Core.List.{List, [], _∷_, _++_}
+use mathlib.Core.List.{List, [], _∷_}
 use lib.ListN.{length}
 use Rattle.lists.specs.All.{All, none, next}
 use Rattle.sorted.specs.declared.Order.{Order}
 use Rattle.sorted.specs.declared.Order.the-variants.{Less, Equal, Greater}
 use Rattle.sorted.specs.Sorted.{onOrder, byKey, enter, enterAll, kept}
-use Rattle.sorted.specs.inner.Orders.{merge, Ascending}
+use Rattle.sorted.specs.inner.Orders.{Ascending}
 use Rattle.sorted.proofs.Orders.{Chain, flip, key-chain, key-flip}
-use Rattle.sorted.proofs.Merges.{enterAll-halves, enterAll-length}
+use Rattle.sorted.proofs.Merges.{enterAll-length}
 
 module _ {A : Type 0} (o : A → A → Order) where
   -- what holds of all that is entered holds of all that stays
@@ -65,8 +65,3 @@ kept-all s ps P h = enterAll-all (byKey s) P [] ps none h
 pub kept-length : (s ps : List ℕ) → length (kept s ps) ≤ length ps
 unfolding kept
 kept-length s ps = omega (arith, enterAll-length (byKey s) [] ps)
-
--- any split of the places will do
-pub kept-halves : (s xs ys : List ℕ) → kept s (xs ++ ys) ≡ merge (byKey s) (kept s xs) (kept s ys)
-unfolding kept
-kept-halves s xs ys = enterAll-halves (byKey s) (key-chain s) xs ys

@@ -57,6 +57,10 @@ key-more s at h = go (endsKey (drop at s)) refl
     go true e = absurd (omega (arith, key-end s at e))
     go false e = key-on s at e
 
+pub no-head : (k : List ℕ) → headOf k ≡ 0 → k ≡ []
+no-head [] e = refl
+no-head (b ∷ k) e = absurd (omega arith)
+
 pub key-past : (s : List ℕ) (at : ℕ) → length s ≤ at → endsKey (drop at s) ≡ true
 key-past s at h = ap endsKey (drop-of-length-le s h)
 

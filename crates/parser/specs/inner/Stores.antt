@@ -1,9 +1,10 @@
 -- What the reader knows of a text before it stores its block.
 -- Assumes nothing: these are definitions.
-use Prim.Native.Nat.{ℕ, _≤_}
+use Prim.Native.Nat.{ℕ, _*_, _≤_}
 use mathlib.Core.Path.{_≡_}
 use mathlib.Core.List.{List}
-use lib.ListN.{length, take, replicate}
+use lib.ListN.{length, take}
+use Rattle.lent.specs.Stored.{put}
 use Rattle.jkf.specs.Attaching.{onHung, attach, allHung}
 use Rattle.jkf.specs.declared.Position.{Position}
 use Rattle.filling.specs.Filling.{ifFits}
@@ -12,13 +13,16 @@ use Rattle.filling.specs.declared.Sizes.{Sizes}
 use Rattle.filling.specs.declared.Walk.{Walk}
 use Rattle.sorted.specs.Sorted.{kept}
 use Rattle.plays.specs.Losses.{playsLost}
+use Rattle.kakinoki.specs.Informations.{low16}
 use Rattle.kakinoki.specs.Starts.{startRead, headerPlaces}
 use Rattle.parser.specs.Parse.{Parsed, parse, needed}
 use Rattle.parser.specs.declared.Survey.{Survey}
 
--- Room for the places of as many header lines as 65,535 bytes can hold.
-abbrev pub noPlaces : List ℕ
-noPlaces = replicate 13107 0
+-- The places of the header lines at the front of a buffer that has room for as many as there can be: a header line has five bytes at least.
+pub record PlacesIn (s places : List ℕ) : Type 0 where
+  pub before : List ℕ
+  pub room : length s ≤ 5 * length before
+  pub said : places ≡ put before 0 (low16 (headerPlaces s))
 
 -- What was read before the moves, and the places of the header lines by key.
 pub record Prepared (s : List ℕ) (p : Position) (at : ℕ) (hs : List ℕ) : Type 0 where

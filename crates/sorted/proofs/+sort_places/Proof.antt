@@ -10,11 +10,12 @@ use denote.Ref.{now}
 use borrow.Author.Needs.{needs}
 use borrow.Fn.Kinds.{In}
 use borrow.Fn.PlainCycle.{Measures, is, falls, and}
-use Rattle.sorted.proofs.Buffers.{kept-none, kept-one, Halves, first-in, second-in, kept-two}
+use Rattle.sorted.proofs.Buffers.{packs-none, packs-one, Halves, first-in, second-in, packs-two}
 use Rattle.sorted.proofs.sort_places.Reads as sort-places
 use Rattle.sorted.proofs.sort_places.Kinds as sort-places-kinds
 use Rattle.sorted.proofs.+sort_places.Lts-sort_places as sort-places-lts
 use Rattle.sorted.proofs.merge_halves.Reads as merge-halves-reads
+use Rattle.sorted.proofs.pack.Reads as pack-reads
 use Rattle.sorted.proofs.+sort_places.{statement}
 use Rattle.sorted.proofs.+sort_places.Tie.{close}
 
@@ -32,6 +33,8 @@ sort-places-below t =
 -- once both halves are sorted: the text, the places, and the halves
 abbrev At : ℕ → Type 0
 At t = sort-places-lts.After-sort-places2 (
+  pack-reads.Asked,
+  pack-reads.Learnt,
   sort-places-below t,
   sort-places.Post,
   merge-halves-reads.Asked,
@@ -50,6 +53,8 @@ halves : (t : ℕ) (c : At t)
 halves t c = record { first = c .before .before .before .before .before .before .before .before .sort-places .ensures; second = c .sort-places2 .ensures; in-places = omega arith; in-scratch = omega arith }
 
 sort-places-returns : (t : ℕ) → sort-places-lts.Need-returns (
+  pack-reads.Asked,
+  pack-reads.Learnt,
   sort-places-below t,
   sort-places.Post,
   merge-halves-reads.Asked,
@@ -57,17 +62,31 @@ sort-places-returns : (t : ℕ) → sort-places-lts.Need-returns (
 ) (sort-places-at t) sort-places.Post
 sort-places-returns t c =
     let a = c .before .before .before .before .before .args in
-    kept-none (now (a .s)) (now (a .from)) _ (c .if1 .taken)
+    packs-none (now (a .s)) (now (a .from)) _ (c .if1 .taken)
 
-sort-places-shared-slice-read-out : (t : ℕ) → sort-places-lts.Need-shared-slice-read-out (
+sort-places-shared-slice-read-pack : (t : ℕ) → sort-places-lts.Need-shared-slice-read-pack (
+  pack-reads.Asked,
+  pack-reads.Learnt,
   sort-places-below t,
   sort-places.Post,
   merge-halves-reads.Asked,
   merge-halves-reads.Learnt,
 ) (sort-places-at t) sort-places.Post
-sort-places-shared-slice-read-out t c = search needs
+sort-places-shared-slice-read-pack t c = search needs
+
+sort-places-pack-requires : (t : ℕ) → sort-places-lts.Need-pack-requires (
+  pack-reads.Asked,
+  pack-reads.Learnt,
+  sort-places-below t,
+  sort-places.Post,
+  merge-halves-reads.Asked,
+  merge-halves-reads.Learnt,
+) (sort-places-at t) sort-places.Post
+sort-places-pack-requires t c κs = tt
 
 sort-places-slice-write-out : (t : ℕ) → sort-places-lts.Need-slice-write-out (
+  pack-reads.Asked,
+  pack-reads.Learnt,
   sort-places-below t,
   sort-places.Post,
   merge-halves-reads.Asked,
@@ -76,6 +95,8 @@ sort-places-slice-write-out : (t : ℕ) → sort-places-lts.Need-slice-write-out
 sort-places-slice-write-out t c = search needs
 
 sort-places-same-length : (t : ℕ) → sort-places-lts.Need-same-length (
+  pack-reads.Asked,
+  pack-reads.Learnt,
   sort-places-below t,
   sort-places.Post,
   merge-halves-reads.Asked,
@@ -84,17 +105,21 @@ sort-places-same-length : (t : ℕ) → sort-places-lts.Need-same-length (
 sort-places-same-length t c = search needs
 
 sort-places-returns-2 : (t : ℕ) → sort-places-lts.Need-returns-2 (
+  pack-reads.Asked,
+  pack-reads.Learnt,
   sort-places-below t,
   sort-places.Post,
   merge-halves-reads.Asked,
   merge-halves-reads.Learnt,
 ) (sort-places-at t) sort-places.Post
 sort-places-returns-2 t c =
-    let a = c .before .before .before .before .before .before .before .args in
-    kept-one (now (a .s)) (now (a .from)) (now (a .out)) (omega arith) (omega arith)
+    let a = c .before .before .before .before .before .before .before .before .args in
+    packs-one (now (a .s)) (now (a .from)) (now (a .out)) _ (omega arith) (omega arith) (c .pack .ensures)
 
 sort-places-slice-aggregate-sort-places :
     (t : ℕ) → sort-places-lts.Need-slice-aggregate-sort-places (
+      pack-reads.Asked,
+      pack-reads.Learnt,
       sort-places-below t,
       sort-places.Post,
       merge-halves-reads.Asked,
@@ -103,6 +128,8 @@ sort-places-slice-aggregate-sort-places :
 sort-places-slice-aggregate-sort-places t c = sym (length-take-le _ (now (c .before .before .before .before .before .before .before .args .from)) (omega arith))
 
 sort-places-sort-places-requires : (t : ℕ) → sort-places-lts.Need-sort-places-requires (
+  pack-reads.Asked,
+  pack-reads.Learnt,
   sort-places-below t,
   sort-places.Post,
   merge-halves-reads.Asked,
@@ -113,6 +140,8 @@ sort-places-sort-places-requires t c κs =
     omega (arith, length-take (length f / 2) f)
 
 sort-places-mul-sort-places : (t : ℕ) → sort-places-lts.Need-mul-sort-places (
+  pack-reads.Asked,
+  pack-reads.Learnt,
   sort-places-below t,
   sort-places.Post,
   merge-halves-reads.Asked,
@@ -121,6 +150,8 @@ sort-places-mul-sort-places : (t : ℕ) → sort-places-lts.Need-mul-sort-places
 sort-places-mul-sort-places t c = search needs
 
 sort-places-sub-sort-places : (t : ℕ) → sort-places-lts.Need-sub-sort-places (
+  pack-reads.Asked,
+  pack-reads.Learnt,
   sort-places-below t,
   sort-places.Post,
   merge-halves-reads.Asked,
@@ -129,6 +160,8 @@ sort-places-sub-sort-places : (t : ℕ) → sort-places-lts.Need-sub-sort-places
 sort-places-sub-sort-places t c = search needs
 
 sort-places-part-sort-places-start : (t : ℕ) → sort-places-lts.Need-part-sort-places-start (
+  pack-reads.Asked,
+  pack-reads.Learnt,
   sort-places-below t,
   sort-places.Post,
   merge-halves-reads.Asked,
@@ -137,6 +170,8 @@ sort-places-part-sort-places-start : (t : ℕ) → sort-places-lts.Need-part-sor
 sort-places-part-sort-places-start t c = search needs
 
 sort-places-part-sort-places-end : (t : ℕ) → sort-places-lts.Need-part-sort-places-end (
+  pack-reads.Asked,
+  pack-reads.Learnt,
   sort-places-below t,
   sort-places.Post,
   merge-halves-reads.Asked,
@@ -145,6 +180,8 @@ sort-places-part-sort-places-end : (t : ℕ) → sort-places-lts.Need-part-sort-
 sort-places-part-sort-places-end t c = search needs
 
 sort-places-mul-sort-places-2 : (t : ℕ) → sort-places-lts.Need-mul-sort-places-2 (
+  pack-reads.Asked,
+  pack-reads.Learnt,
   sort-places-below t,
   sort-places.Post,
   merge-halves-reads.Asked,
@@ -153,6 +190,8 @@ sort-places-mul-sort-places-2 : (t : ℕ) → sort-places-lts.Need-mul-sort-plac
 sort-places-mul-sort-places-2 t c = search needs
 
 sort-places-sub-sort-places-2 : (t : ℕ) → sort-places-lts.Need-sub-sort-places-2 (
+  pack-reads.Asked,
+  pack-reads.Learnt,
   sort-places-below t,
   sort-places.Post,
   merge-halves-reads.Asked,
@@ -161,6 +200,8 @@ sort-places-sub-sort-places-2 : (t : ℕ) → sort-places-lts.Need-sub-sort-plac
 sort-places-sub-sort-places-2 t c = search needs
 
 sort-places-part-sort-places-start-2 : (t : ℕ) → sort-places-lts.Need-part-sort-places-start-2 (
+  pack-reads.Asked,
+  pack-reads.Learnt,
   sort-places-below t,
   sort-places.Post,
   merge-halves-reads.Asked,
@@ -169,6 +210,8 @@ sort-places-part-sort-places-start-2 : (t : ℕ) → sort-places-lts.Need-part-s
 sort-places-part-sort-places-start-2 t c = search needs
 
 sort-places-part-sort-places-end-2 : (t : ℕ) → sort-places-lts.Need-part-sort-places-end-2 (
+  pack-reads.Asked,
+  pack-reads.Learnt,
   sort-places-below t,
   sort-places.Post,
   merge-halves-reads.Asked,
@@ -177,6 +220,8 @@ sort-places-part-sort-places-end-2 : (t : ℕ) → sort-places-lts.Need-part-sor
 sort-places-part-sort-places-end-2 t c = search needs
 
 sort-places-sort-places-requires-2 : (t : ℕ) → sort-places-lts.Need-sort-places-requires-2 (
+  pack-reads.Asked,
+  pack-reads.Learnt,
   sort-places-below t,
   sort-places.Post,
   merge-halves-reads.Asked,
@@ -189,6 +234,8 @@ sort-places-sort-places-requires-2 t c κs =
     omega (arith, length-take (length f - h) (drop h f), length-drop h f, length-take (length t₁ - h) (drop h t₁), length-drop h t₁)
 
 sort-places-add-merge-halves : (t : ℕ) → sort-places-lts.Need-add-merge-halves (
+  pack-reads.Asked,
+  pack-reads.Learnt,
   sort-places-below t,
   sort-places.Post,
   merge-halves-reads.Asked,
@@ -197,6 +244,8 @@ sort-places-add-merge-halves : (t : ℕ) → sort-places-lts.Need-add-merge-halv
 sort-places-add-merge-halves t c = search needs
 
 sort-places-merge-halves-requires : (t : ℕ) → sort-places-lts.Need-merge-halves-requires (
+  pack-reads.Asked,
+  pack-reads.Learnt,
   sort-places-below t,
   sort-places.Post,
   merge-halves-reads.Asked,
@@ -207,6 +256,8 @@ sort-places-merge-halves-requires t c κs =
     omega (arith, first-in w, second-in w)
 
 sort-places-same-length-2 : (t : ℕ) → sort-places-lts.Need-same-length-2 (
+  pack-reads.Asked,
+  pack-reads.Learnt,
   sort-places-below t,
   sort-places.Post,
   merge-halves-reads.Asked,
@@ -215,6 +266,8 @@ sort-places-same-length-2 : (t : ℕ) → sort-places-lts.Need-same-length-2 (
 sort-places-same-length-2 t c = search needs
 
 sort-places-same-length-3 : (t : ℕ) → sort-places-lts.Need-same-length-3 (
+  pack-reads.Asked,
+  pack-reads.Learnt,
   sort-places-below t,
   sort-places.Post,
   merge-halves-reads.Asked,
@@ -223,15 +276,19 @@ sort-places-same-length-3 : (t : ℕ) → sort-places-lts.Need-same-length-3 (
 sort-places-same-length-3 t c = search needs
 
 sort-places-returns-3 : (t : ℕ) → sort-places-lts.Need-returns-3 (
+  pack-reads.Asked,
+  pack-reads.Learnt,
   sort-places-below t,
   sort-places.Post,
   merge-halves-reads.Asked,
   merge-halves-reads.Learnt,
 ) (sort-places-at t) sort-places.Post
-sort-places-returns-3 t c = kept-two (halves t (c .before .before .before .before .before .before .before .before .before)) (c .before .before .merge-halves .ensures)
+sort-places-returns-3 t c = packs-two (halves t (c .before .before .before .before .before .before .before .before .before)) (c .before .before .merge-halves .ensures)
 
 pub +sort-places-spec : {M : Type 1} → statement M
 +sort-places-spec = close μ-sort-places λ t. sort-places-lts.spec (
+  pack-reads.Asked,
+  pack-reads.Learnt,
   sort-places-below t,
   sort-places.Post,
   merge-halves-reads.Asked,
@@ -240,7 +297,8 @@ pub +sort-places-spec : {M : Type 1} → statement M
     (sort-places-at t)
     sort-places.Post
     (sort-places-returns t)
-    (sort-places-shared-slice-read-out t)
+    (sort-places-shared-slice-read-pack t)
+    (sort-places-pack-requires t)
     (sort-places-slice-write-out t)
     (sort-places-same-length t)
     (sort-places-returns-2 t)

@@ -1,4 +1,4 @@
--- Where there is no room nothing is done, as the definition says; else what is sorted through a scratch that has room for all the places is what is promised.
+-- Where there is no room nothing is done, as the definition says; else what is sorted through scratches that have room for all the places is what is promised.
 -- Assumes nothing.
 use mathlib.Core.Path.{refl}
 use borrow.Author.Needs.{needs}
@@ -18,6 +18,9 @@ returns-2 c = simp (le-ltb _ _ (c .before .if1 .left), lt-ltb _ _ (c .if2 .taken
 slice-aggregate-sort-through : tie.Need-slice-aggregate-sort-through
 slice-aggregate-sort-through c = refl
 
+slice-aggregate-sort-through-2 : tie.Need-slice-aggregate-sort-through-2
+slice-aggregate-sort-through-2 c = refl
+
 sort-through-requires : tie.Need-sort-through-requires
 sort-through-requires c κs = search needs
 
@@ -27,8 +30,11 @@ same-length c = search needs
 returns-3 : tie.Need-returns-3
 returns-3 c = search needs
 
-slice-aggregate-sort-through-2 : tie.Need-slice-aggregate-sort-through-2
-slice-aggregate-sort-through-2 c = refl
+slice-aggregate-sort-through-3 : tie.Need-slice-aggregate-sort-through-3
+slice-aggregate-sort-through-3 c = refl
+
+slice-aggregate-sort-through-4 : tie.Need-slice-aggregate-sort-through-4
+slice-aggregate-sort-through-4 c = refl
 
 sort-through-requires-2 : tie.Need-sort-through-requires-2
 sort-through-requires-2 c κs = search needs
@@ -46,10 +52,12 @@ sort-keys-spec =
     returns
     returns-2
     slice-aggregate-sort-through
+    slice-aggregate-sort-through-2
     sort-through-requires
     same-length
     returns-3
-    slice-aggregate-sort-through-2
+    slice-aggregate-sort-through-3
+    slice-aggregate-sort-through-4
     sort-through-requires-2
     same-length-2
     returns-4)

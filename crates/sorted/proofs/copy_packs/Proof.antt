@@ -9,8 +9,8 @@ use lib.Seq.{take-length}
 use denote.Ref.{now}
 use borrow.Author.Needs.{needs}
 use Rattle.sorted.proofs.Buffers.{copy-more}
-use Rattle.sorted.proofs.copy_places.Statement.{statement}
-use Rattle.sorted.proofs.copy_places.Tie as tie
+use Rattle.sorted.proofs.copy_packs.Statement.{statement}
+use Rattle.sorted.proofs.copy_packs.Tie as tie
 
 abbrev Inv-loop : tie.InvT-loop
 Inv-loop from out₀ i₀ out i = (i ≤ length from) × (length out ≡ length out₀) × (length from ≤ length out₀) × (out ≡ take i from ++ drop i out₀)
@@ -56,8 +56,8 @@ returns c =
     let e : l .i ≡ length f = omega arith in
     (e, l .inv .3 ∙ ap (λ (n : ℕ). take n f ++ drop n o) e ∙ ap (λ (x : List ℕ). x ++ drop (length f) o) (take-length f))
 
-pub copy-places-spec : {M : Type 1} → statement M
-copy-places-spec =
+pub copy-packs-spec : {M : Type 1} → statement M
+copy-packs-spec =
     tie.close
     (tie.spec
     Inv-loop
