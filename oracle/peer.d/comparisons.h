@@ -1,4 +1,5 @@
-// What the port makes of a game, held to what OpenShogiLib makes of it. A difference is thrown.
+// What the port makes of a game, held to what OpenShogiLib makes of it. A difference is thrown; without one the answer
+// is how many moves or positions are the same.
 #pragma once
 
 #include "game.h"
@@ -12,4 +13,8 @@ struct Case {
 };
 
 // The text in mode SHARED reads back to the same block, and OpenShogiLib reads the game from it, move for move.
-void shared_text(const Case& given);
+size_t shared_text(const Case& given);
+
+// The port has the positions that OpenShogiLib has: the start, that after every move of the main line and of the
+// variation, and after an ending the one before it.
+size_t positions(const Case& given);

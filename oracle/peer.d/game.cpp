@@ -10,6 +10,7 @@ using osl::NumEffectState;
 namespace {
 
 constexpr size_t LONGEST = 200;
+constexpr size_t LONGEST_BRANCH = 20;
 
 bool could_promote(Move move) {
   const auto side = move.player();
@@ -28,10 +29,9 @@ std::optional<Move> random_move(const NumEffectState& state, std::optional<Move>
   return wished.empty() || rng.one_in(3) ? legal[rng.below(legal.size())] : rng.pick(wished);
 }
 
-// Plays up to so many moves from a position, which becomes what they lead to.
-std::vector<Move> play(NumEffectState& state, size_t plies, Rng& rng) {
+// Plays up to so many moves behind the last one, if there is one, from a position, which becomes what they lead to.
+std::vector<Move> play(NumEffectState& state, std::optional<Move> last, size_t plies, Rng& rng) {
   std::vector<Move> moves;
-  std::optional<Move> last;
   while (moves.size() < plies && (last = random_move(state, last, rng))) {
     state.makeMove(*last);
     moves.push_back(*last);
@@ -43,16 +43,16 @@ std::vector<Move> play(NumEffectState& state, size_t plies, Rng& rng) {
 NumEffectState random_start(Rng& rng) {
   NumEffectState state;
   const size_t plies = 2 * rng.below(LONGEST / 2);
-  return play(state, plies, rng).size() == plies ? state : NumEffectState();
+  return play(state, {}, plies, rng).size() == plies ? state : NumEffectState();
 }
 
-// Another move than a game has at some ply, if one is found at once.
+// Another line of play from some ply of a game on, if one is found at once.
 std::optional<Branch> random_branch(const Game& game, Rng& rng) {
   NumEffectState state = game.start;
   const size_t ply = 1 + rng.below(game.moves.size());
   for (size_t k = 1; k < ply; ++k) state.makeMove(game.moves[k - 1]);
-  const Move other = *random_move(state, game.before(ply), rng);
-  return other == game.moves[ply - 1] ? std::nullopt : std::optional(Branch{ply, other});
+  const auto others = play(state, game.before(ply), 1 + rng.below(LONGEST_BRANCH), rng);
+  return others.front() == game.moves[ply - 1] ? std::nullopt : std::optional(Branch{ply, others});
 }
 
 }  // namespace
@@ -87,7 +87,7 @@ Game random_game(Rng& rng) {
   Game game;
   if (rng.one_in(4)) game.start = random_start(rng);
   NumEffectState state = game.start;
-  game.moves = play(state, 1 + rng.below(LONGEST), rng);
+  game.moves = play(state, {}, 1 + rng.below(LONGEST), rng);
   if (!game.moves.empty() && rng.one_in(4)) game.branch = random_branch(game, rng);
   return game;
 }

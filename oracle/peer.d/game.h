@@ -18,10 +18,10 @@ const char* name(Trait trait);
 // Whether a move is this, behind the move before it, if there is one.
 bool is(Trait trait, osl::Move move, std::optional<osl::Move> before);
 
-// Another legal move at a ply, which is counted from 1.
+// Legal moves from a ply on, which is counted from 1; the first is another than the game has there.
 struct Branch {
   size_t ply;
-  osl::Move move;
+  std::vector<osl::Move> moves;
 };
 
 struct Game {

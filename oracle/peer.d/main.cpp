@@ -2,6 +2,7 @@
 #include <cstdlib>
 #include <iostream>
 #include <map>
+#include <optional>
 
 #include "comparisons.h"
 #include "text.h"
@@ -10,10 +11,16 @@ namespace {
 
 struct Comparison {
   const char* name;
-  void (*compare)(const Case&);
+  const char* counted;
+  size_t (*compare)(const Case&);
 };
 
-constexpr Comparison COMPARISONS[] = {{"shared text", shared_text}};
+constexpr Comparison COMPARISONS[] = {
+    {"shared text", "moves", shared_text},
+#ifdef WITH_POSITIONS
+    {"positions", "positions", positions},
+#endif
+};
 
 class Tally {
  public:
@@ -23,6 +30,13 @@ class Tally {
     moves += game.moves.size();
     for (size_t ply = 1; ply <= game.moves.size(); ++ply)
       for (const Trait trait : TRAITS) traits[trait] += is(trait, game.moves[ply - 1], game.before(ply));
+  }
+
+  void add(const Comparison& comparison, size_t count) { alike[comparison.name] += count; }
+
+  void tell_alike() {
+    for (const Comparison& comparison : COMPARISONS)
+      std::cout << comparison.name << ": " << alike[comparison.name] << " " << comparison.counted << " are the same\n";
   }
 
   // A trait that no move had is a failure: the games then show nothing of it.
@@ -42,25 +56,28 @@ class Tally {
  private:
   size_t passed = 0, failed = 0, moves = 0;
   std::map<Trait, size_t> traits;
+  std::map<std::string, size_t> alike;
 };
 
-// Whether a comparison of a game's text finds no difference; one that is found is told.
-bool agrees(const Comparison& comparison, const Game& game, const std::string& text, const std::string& file) {
+using Count = std::optional<size_t>;
+
+// How much a comparison of a game's text finds the same; nothing where there is a difference, which is told.
+Count same_in(const Comparison& comparison, const Game& game, const std::string& text, const std::string& file) {
   try {
-    comparison.compare({game, block_of(text), file});
-    return true;
+    return comparison.compare({game, block_of(text), file});
   } catch (const Failure& failure) {
     std::cout << comparison.name << ": " << failure.what() << "\n";
-    return false;
+    return {};
   }
 }
 
 // All comparisons of a game; the first text of a run that fails is shown.
 void compare(const Game& game, const std::string& text, const std::string& file, Tally& tally) {
   for (const Comparison& comparison : COMPARISONS) {
-    const bool agreed = agrees(comparison, game, text, file);
-    if (!agreed && tally.all_passed()) std::cout << text;
-    tally.count(agreed);
+    const Count same = same_in(comparison, game, text, file);
+    if (!same && tally.all_passed()) std::cout << text;
+    tally.count(same.has_value());
+    tally.add(comparison, same.value_or(0));
   }
 }
 
@@ -75,6 +92,7 @@ int main(int, char** words) {
     compare(game, kif_text(game, rng), words[3], tally);
     tally.add(game);
   }
+  tally.tell_alike();
   tally.count_traits();
   tally.report();
   return tally.all_passed() ? EXIT_SUCCESS : EXIT_FAILURE;

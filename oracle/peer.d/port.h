@@ -17,3 +17,12 @@ std::string block_of(const std::string& text);
 
 // The text of a block in a mode, which must leave no line out.
 std::string text_of(const std::string& block, uint64_t mode);
+
+// The length of a position, which is laid out as a block's diagram is.
+constexpr size_t POSITION = 100;
+
+// The position after an entry of a line of a block.
+std::string position_after(const std::string& block, uint64_t line, uint64_t entry);
+
+// How many entries a line of a block has.
+size_t entry_count(const std::string& block, uint64_t line);

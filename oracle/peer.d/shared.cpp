@@ -45,7 +45,7 @@ void same(const std::string& what, const std::string& ours, const std::string& t
 
 }  // namespace
 
-void shared_text(const Case& given) {
+size_t shared_text(const Case& given) {
   const std::string text = text_of(given.block, SHARED);
   if (block_of(text) != given.block) throw Failure("the shared text reads back to another block");
   const osl::KakinokiFile read = read_by_peer(cp932(text), given.file);
@@ -53,4 +53,5 @@ void shared_text(const Case& given) {
   const auto moves = read.moves();
   same("the number of moves", shown(given.game.moves.size()), shown(moves.size()));
   for (size_t k = 0; k < moves.size(); ++k) same("move " + shown(k + 1), shown(given.game.moves[k]), shown(moves[k]));
+  return moves.size();
 }

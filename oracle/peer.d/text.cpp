@@ -112,6 +112,17 @@ std::string numbered(size_t number, const std::string& words, Rng& rng) {
   return text;
 }
 
+// Moves as lines numbered from here on, behind the move before them, if there is one.
+std::string numbered_moves(size_t number, const std::vector<Move>& moves, std::optional<Move> before, Rng& rng) {
+  std::string text;
+  for (const Move move : moves) {
+    text += numbered(number, move_words(move, before), rng);
+    before = move;
+    ++number;
+  }
+  return text;
+}
+
 std::string head(const Game& game, Rng& rng) {
   std::string text;
   for (const auto line : HEADERS) text += rng.one_in(2) ? line : "";
@@ -125,16 +136,12 @@ std::string head(const Game& game, Rng& rng) {
 
 std::string kif_text(const Game& game, Rng& rng) {
   std::string text = head(game, rng);
-  size_t ply = 1;
-  for (const Move move : game.moves) {
-    text += numbered(ply, move_words(move, game.before(ply)), rng);
-    ++ply;
-  }
+  text += numbered_moves(1, game.moves, {}, rng);
   const std::string ending = rng.pick(ENDINGS);
-  if (!ending.empty()) text += numbered(ply, ending, rng);
-  if (const auto branch = game.branch) {
+  if (!ending.empty()) text += numbered(game.moves.size() + 1, ending, rng);
+  if (const auto& branch = game.branch) {
     text += "\n" + printed("変化：%zu手\n", branch->ply);
-    text += numbered(branch->ply, move_words(branch->move, game.before(branch->ply)), rng);
+    text += numbered_moves(branch->ply, branch->moves, game.before(branch->ply), rng);
   }
   return text;
 }

@@ -18,6 +18,7 @@ pub enum Call {
     WriteAs { block: Vec<u8>, mode: u64 },
     PutIn { block: Vec<u8>, line: u64, text: Vec<u8>, from_text: bool },
     Cut { block: Vec<u8>, line: u64, from_text: bool },
+    Position { block: Vec<u8>, line: u64, entry: u64 },
     Pair { block: Vec<u8>, one: Asked, other: Asked },
     Comment { block: Vec<u8>, k: u64 },
     Key { block: Vec<u8>, k: u64 },
@@ -38,6 +39,7 @@ impl Call {
             Call::WriteAs { block, mode } => judge::write_as(block, *mode),
             Call::PutIn { block, line, text, .. } => judge::put_in(block, *line, text),
             Call::Cut { block, line, .. } => judge::cut(block, *line),
+            Call::Position { block, line, entry } => judge::position(block, *line, *entry),
             Call::Pair { block, one, .. } => judge::put_in(block, one.0, &one.1),
             Call::Comment { block, k } => Outcome::Answered(judge::comment(block, *k).0),
             Call::Key { block, k } => Outcome::Answered(judge::key(block, *k).0),
@@ -84,6 +86,7 @@ impl fmt::Display for Call {
             Call::WriteAs { block, mode } => write!(f, "write_as {} {mode}", Hex(block)),
             Call::PutIn { block, line, text, .. } => write!(f, "put_in {} {line} {}", Hex(block), Quoted(text)),
             Call::Cut { block, line, .. } => write!(f, "cut {} {line}", Hex(block)),
+            Call::Position { block, line, entry } => write!(f, "position {} {line} {entry}", Hex(block)),
             Call::Pair { block, one, other } => {
                 write!(f, "put_in {} {} {} and {} {}", Hex(block), one.0, Quoted(&one.1), other.0, Quoted(&other.1))
             }

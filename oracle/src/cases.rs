@@ -4,11 +4,14 @@ use crate::blocks;
 use crate::call::Call;
 use crate::edits;
 use crate::judge::{self, Outcome};
+use crate::player;
 use crate::record::{decode, encode, u16_at, LIMIT};
 use crate::rng::Rng;
 use crate::short;
 use crate::small;
+use crate::steps;
 use crate::texts;
+use std::cell::RefCell;
 
 pub fn short_text(seed: u64) -> Call {
     Call::Fill { text: short::short(seed) }
@@ -280,4 +283,62 @@ fn looked_up(seed: u64, count_at: usize) -> (Vec<u8>, u64) {
         _ => r.below(count.max(1)) as u64,
     };
     (block, k)
+}
+
+/// So many entries in a row are asked for of one record of play.
+const ASKED: u64 = 16;
+
+thread_local! {
+    /// The last record of play and its seed, since sixteen seeds in a row ask for it.
+    static PLAYED: RefCell<Option<(u64, Vec<u8>)>> = const { RefCell::new(None) };
+}
+
+/// The position after an entry of a record of play.
+pub fn a_play(seed: u64) -> Call {
+    let block = PLAYED.with_borrow_mut(|played| {
+        let of_seed = played.take().filter(|(of, _)| *of == seed / ASKED);
+        let of_seed = of_seed.unwrap_or_else(|| (seed / ASKED, player::block(&mut Rng::new(seed / ASKED))));
+        played.insert(of_seed).1.clone()
+    });
+    position(&mut Rng::new(seed), block)
+}
+
+/// The position after an entry of any slice.
+pub fn any_position(seed: u64) -> Call {
+    let r = &mut Rng::new(seed);
+    let block = blocks::block(r);
+    position(r, block)
+}
+
+/// Mostly of a line that there is, after an entry that it has; now and then by a number that would be one if it were narrower.
+fn position(r: &mut Rng, block: Vec<u8>) -> Call {
+    let shape = decode(&block).map_or(vec![], |record| record.shape());
+    let line = some_line(r, 0, shape.len());
+    let entries = shape.get(line as usize).map_or(0, |(_, entries)| *entries);
+    let entry = match r.below(30) {
+        0 => r.next(),
+        1 => entries as u64,
+        2..=8 => entries.saturating_sub(1) as u64,
+        _ => r.below(entries.max(1)) as u64,
+    };
+    let beyond = 1 << [8, 16, 32, 63][r.below(4)];
+    let (line, entry) = match r.below(50) {
+        0 => (line | beyond, entry),
+        1 => (line, entry | beyond),
+        _ => (line, entry),
+    };
+    Call::Position { block, line, entry }
+}
+
+/// The position after the last entry of a small block's last line.
+pub fn small_position(seed: u64) -> Call {
+    let block = small::small(seed);
+    let shape = decode(&block).expect("a small block is sound").shape();
+    let last = shape.len() - 1;
+    Call::Position { block, line: last as u64, entry: shape[last].1 as u64 - 1 }
+}
+
+/// The position after the one move of a small board.
+pub fn a_step(seed: u64) -> Call {
+    Call::Position { block: steps::block(seed), line: 0, entry: 1 }
 }

@@ -10,11 +10,14 @@ use crate::known;
 use crate::left::{colours_follow, left};
 use crate::pairs;
 use crate::reached;
+use crate::reasons::Reasons;
 use crate::record::{decode, encode, Record, What, LIMIT};
+use crate::replay;
 use crate::runner::{caught, run, Kind};
 use crate::short::SHORT;
 use crate::small::SMALL;
 use crate::sound::sound;
+use crate::steps::STEPS;
 use crate::stop::{spot, stop};
 use std::cell::Cell;
 use std::str;
@@ -22,9 +25,11 @@ use std::str;
 thread_local! {
     /// What was read back, of all that modes 1 and 2 wrote so far.
     static BACK: Cell<Tally> = Cell::default();
+    /// Why play stopped, where positions were asked for.
+    static STOPS: Cell<Reasons> = Cell::default();
 }
 
-const KINDS: [Kind; 23] = [
+const KINDS: [Kind; 27] = [
     Kind { name: "short texts", share: 17, all: Some(SHORT), make: cases::short_text, test: reading },
     Kind { name: "texts", share: 20, all: None, make: cases::any_text, test: reading },
     Kind { name: "bytes", share: 13, all: None, make: cases::altered_block, test: soundness },
@@ -48,6 +53,10 @@ const KINDS: [Kind; 23] = [
     Kind { name: "stops", share: 20, all: None, make: cases::any_stop, test: stopping },
     Kind { name: "numbered stops", share: 4, all: None, make: cases::numbered_stop, test: stopping },
     Kind { name: "spots", share: 2, all: None, make: cases::a_spot, test: spotting },
+    Kind { name: "plays", share: 20, all: None, make: cases::a_play, test: positioning },
+    Kind { name: "positions", share: 5, all: None, make: cases::any_position, test: positioning },
+    Kind { name: "small positions", share: 3, all: Some(SMALL), make: cases::small_position, test: positioning },
+    Kind { name: "steps", share: 10, all: Some(STEPS), make: cases::a_step, test: positioning },
 ];
 
 /// Whether all known answers and all generated cases hold.
@@ -65,8 +74,9 @@ pub fn check(cases: u64, seed: u64) -> bool {
     println!("{:12} {passed:7} passed, {failed} failed", "known answers");
     let (more_passed, more_failed) = run("check", &KINDS, cases, seed, None);
     BACK.get().print();
-    println!("{} passed, {} failed", passed + more_passed, failed + more_failed);
-    failed + more_failed == 0
+    failed += more_failed + STOPS.get().report(cases);
+    println!("{} passed, {failed} failed", passed + more_passed);
+    failed == 0
 }
 
 fn reading(call: &Call) -> u64 {
@@ -229,6 +239,22 @@ fn putting_in(call: &Call) -> u64 {
     assert_eq!(after, before);
     let restored = Outcome::Made { result: block.clone(), answer: judge::answer(0, block.len() as u64, 1) };
     assert_eq!(judge::cut(&result, answer.second), restored);
+    number
+}
+
+/// A position follows from the one before it on the path, or play stops as 02 says; a slice that is not sound has none.
+fn positioning(call: &Call) -> u64 {
+    let Call::Position { block, line, entry } = call else { unreachable!() };
+    let outcome = call.judged();
+    let number = buffers(&outcome);
+    if sound(block) {
+        replay::confirm(block, *line, *entry, &outcome);
+    } else {
+        assert_eq!(outcome, Outcome::Answered(judge::answer(7, 0, 0)));
+    }
+    let mut stops = STOPS.get();
+    stops.add(call, number);
+    STOPS.set(stops);
     number
 }
 

@@ -7,6 +7,7 @@ use crate::judge::{Outcome, LONGEST};
 use crate::kept::Tally;
 use crate::lent::Lent;
 use crate::port;
+use crate::reasons::Reasons;
 use crate::runner::{run, Kind};
 use std::cell::Cell;
 use std::hint::black_box;
@@ -20,6 +21,8 @@ thread_local! {
     static LENT: Cell<Option<Lent>> = const { Cell::new(None) };
     /// What was read back in all cases so far.
     static BACK: Cell<Tally> = Cell::default();
+    /// Why play stopped in all cases so far.
+    static STOPS: Cell<Reasons> = Cell::default();
 }
 
 const KINDS: &[Kind] = &[
@@ -67,12 +70,27 @@ const KINDS: &[Kind] = &[
     Kind { name: "numbered stops", share: 5, all: None, make: cases::numbered_stop, test: compared },
     #[cfg(feature = "kif_spot")]
     Kind { name: "spots", share: 2, all: None, make: cases::a_spot, test: compared },
+    #[cfg(feature = "kif_position")]
+    Kind { name: "plays", share: 20, all: None, make: cases::a_play, test: compared },
+    #[cfg(feature = "kif_position")]
+    Kind { name: "positions", share: 5, all: None, make: cases::any_position, test: compared },
+    #[cfg(feature = "kif_position")]
+    Kind {
+        name: "small positions",
+        share: 6,
+        all: Some(crate::small::SMALL),
+        make: cases::small_position,
+        test: compared,
+    },
+    #[cfg(feature = "kif_position")]
+    Kind { name: "steps", share: 8, all: Some(crate::steps::STEPS), make: cases::a_step, test: compared },
 ];
 
 /// Whether the port answers every case as the judge does.
 pub fn compare(cases: u64, seed: u64) -> bool {
     let (passed, failed) = run("compare", KINDS, cases, seed, Some(|calls| all_compared(calls).ok()));
     BACK.get().print();
+    let failed = failed + STOPS.get().report(cases);
     println!("{passed} passed, {failed} failed");
     failed == 0
 }
@@ -96,7 +114,11 @@ fn all_compared(calls: &[Call]) -> Result<Vec<u64>, String> {
         return Err(format!("then {call}\n  {difference}"));
     }
     BACK.set(tally);
-    Ok(steps.iter().map(|steps| steps[0].1.answer_in(LONGEST).number).collect())
+    let numbers: Vec<_> = steps.iter().map(|steps| steps[0].1.answer_in(LONGEST).number).collect();
+    let mut stops = STOPS.get();
+    calls.iter().zip(&numbers).for_each(|(call, &number)| stops.add(call, number));
+    STOPS.set(stops);
+    Ok(numbers)
 }
 
 /// The first call that the port does not answer as it should with one of these lengths lent, and how. One small stack
@@ -140,6 +162,8 @@ fn lengths(call: &Call, outcome: &Outcome) -> Vec<usize> {
         Call::Fill { .. } | Call::Write { .. } | Call::WriteAs { .. } | Call::PutIn { .. } | Call::Cut { .. } => {
             vec![0, needed.saturating_sub(1), needed, 65_535, 65_536, LONGEST]
         }
+        // All positions are of one length, whether one is made or not.
+        Call::Position { .. } => vec![0, 99, 100, 101, 200],
         _ => vec![0],
     }
 }

@@ -6,7 +6,8 @@ use crate::lost::lost;
 use crate::original::converter::kif::ToKif;
 use crate::original::parser::kakinoki::read_head;
 use crate::original::parser::kif::{parse, read_lines, read_moves};
-use crate::record::{decode, encode, u16_at, Entry, Line, Record, What, LIMIT};
+use crate::position::{self, Reason, Stopped};
+use crate::record::{decode, encode, position_bytes, u16_at, Entry, Line, Position, Record, What, LIMIT};
 use crate::sound::sound;
 use crate::translate::{self, nest, Play};
 use crate::whole::{self, width, Mode};
@@ -303,6 +304,35 @@ pub fn cut(block: &[u8], line: u64) -> Outcome {
     let result = encode(&record);
     let answer = answer(0, result.len() as u64, removed as u64);
     Outcome::Made { result, answer }
+}
+
+/// The position after a chosen entry (02, i), as a block has it; the figures are its length and the side to move.
+pub fn position(block: &[u8], line: u64, entry: u64) -> Outcome {
+    match played(block, line, entry) {
+        Err(refusal) => Outcome::Answered(refusal),
+        Ok(Err(stopped)) => refused(17, stopped.line as u64, stopped.entry as u64),
+        Ok(Ok(play)) => {
+            let turn = play.diagram.turn.into();
+            let result = position_bytes(&Position { preset: 16, diagram: Some(play.diagram) }).to_vec();
+            Outcome::Made { answer: answer(0, result.len() as u64, turn), result }
+        }
+    }
+}
+
+/// Why play stops before a chosen entry or with it, if nothing else is refused before that.
+pub fn stop_of_play(block: &[u8], line: u64, entry: u64) -> Option<Reason> {
+    played(block, line, entry).ok()?.err().map(|stopped| stopped.reason)
+}
+
+/// The play up to a chosen entry, or where it stopped; or refusals 7, 10, 15 and 16.
+fn played(block: &[u8], line: u64, entry: u64) -> Result<Result<position::Play, Stopped>, Answer> {
+    let record = record_of(block).ok_or(answer(7, 0, 0))?;
+    let (index, target) = line_numbered(&record, line).ok_or(answer(10, line, 0))?;
+    let start = position::start(&record.position).ok_or(answer(15, record.position.preset.into(), 0))?;
+    if entry >= target.entries.len() as u64 {
+        return Err(answer(16, line, entry));
+    }
+    Ok(position::after(&record, start, index, entry as usize))
 }
 
 pub fn comment(block: &[u8], k: u64) -> (Answer, &[u8]) {

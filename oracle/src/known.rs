@@ -1,11 +1,13 @@
 //! The answers that 01 itself gives, and those at the points where its words meet the original: all by hand.
 
 use crate::cases::OTHER_MODES;
+use crate::games;
 use crate::judge::{self, Outcome, LONGEST};
 use crate::kept::is_covered;
 use crate::left::left;
 use crate::listing::listing;
 use crate::modes;
+use crate::plays;
 use crate::record::{decode, encode, Diagram, Record, What, LIMIT};
 use crate::sound::sound;
 use crate::stop::{spot, stop};
@@ -31,7 +33,7 @@ line 1 start 2 moves 1 parent 0
 ";
 
 /// Each group by name; a group panics at the first answer that is not the known one.
-pub const GROUPS: [(&str, fn()); 18] = [
+pub const GROUPS: [(&str, fn()); 26] = [
     ("worked example", worked_example),
     ("positions", positions),
     ("put-ins and cuts", put_ins_and_cuts),
@@ -50,6 +52,14 @@ pub const GROUPS: [(&str, fn()); 18] = [
     ("stops", stops_of_texts),
     ("stops at the limits", stops_at_the_limits),
     ("spots", spots),
+    ("openings", plays::openings),
+    ("diagrams", plays::diagrams),
+    ("stops of play", plays::stops),
+    ("plays made by hand", plays::made_by_hand),
+    ("presets", plays::presets),
+    ("variations", plays::variations),
+    ("orders of positions", plays::orders),
+    ("games", games::games),
 ];
 
 fn worked_example() {

@@ -62,6 +62,18 @@ extern "C" {
         first: Figure,
         second: Figure,
     );
+    #[cfg(feature = "kif_position")]
+    fn kif_position(
+        block: In,
+        block_len: usize,
+        line: u64,
+        entry: u64,
+        out: Out,
+        out_len: usize,
+        number: Figure,
+        first: Figure,
+        second: Figure,
+    );
     #[cfg(feature = "kif_comment")]
     fn kif_comment(block: In, block_len: usize, k: u64, number: Figure, first: Figure, second: Figure);
     #[cfg(feature = "kif_key")]
@@ -110,6 +122,10 @@ pub fn answer(call: &Call, out: &mut [u8]) -> Answer {
         #[cfg(feature = "kif_cut")]
         Call::Cut { block, line, .. } => {
             lend(|n, a, b| unsafe { kif_cut(block.as_ptr(), block.len(), *line, at, room, n, a, b) })
+        }
+        #[cfg(feature = "kif_position")]
+        Call::Position { block, line, entry } => {
+            lend(|n, a, b| unsafe { kif_position(block.as_ptr(), block.len(), *line, *entry, at, room, n, a, b) })
         }
         _ => told(call),
     }

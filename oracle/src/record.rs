@@ -169,7 +169,8 @@ fn put_text(table: &mut Vec<u8>, text: &mut Vec<u8>, added: &str) {
     text.extend(added.as_bytes());
 }
 
-fn position_bytes(position: &Position) -> [u8; 100] {
+/// The hundred bytes of a position.
+pub fn position_bytes(position: &Position) -> [u8; 100] {
     let mut bytes = [0; 100];
     bytes[0] = position.preset;
     if let Some(diagram) = &position.diagram {

@@ -90,16 +90,16 @@ pub fn hand(place: u64, count: u8) -> Vec<u8> {
 }
 
 /// A number taken apart from its lowest digit on, each to its own base.
-struct Digits(u64);
+pub struct Digits(pub u64);
 
 impl Digits {
-    fn below(&mut self, end: usize) -> usize {
+    pub fn below(&mut self, end: usize) -> usize {
         let digit = self.0 % end as u64;
         self.0 /= end as u64;
         digit as usize
     }
 
-    fn byte(&mut self) -> u8 {
+    pub fn byte(&mut self) -> u8 {
         self.below(256) as u8
     }
 
