@@ -140,7 +140,7 @@ abbrev pub targetOnBoard : Target → Bool
 targetOnBoard Same = true
 targetOnBoard (Square x y) = pick (within x) (within y) false
 
--- There is room for the timePadding.
+-- There is room for the padding before a time: the width is at most 13.
 abbrev pub timeHasRoom : ℕ → Time → Bool
 timeHasRoom width Untimed = true
 timeHasRoom width (Timed now total) = leb width 13

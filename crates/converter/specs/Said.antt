@@ -38,7 +38,7 @@ abbrev pub second : Clock → ℕ
 second (Hms h m s) = s
 second (Ms m s) = s
 
--- It tells what an entry itself took without the hour.
+-- The plain text tells what an entry itself took without the hour.
 unfoldable pub saidNow : Mode → Clock → Clock
 saidNow Plain c = Ms (minute c) (second c)
 saidNow Whole c = c

@@ -10,7 +10,7 @@ use Rattle.jkf.specs.Model.{Noted, Line}
 use Rattle.jkf.specs.declared.Hang.{Hang}
 use Rattle.jkf.specs.declared.Hang.the-variants.{On, Nowhere}
 
--- The nearest of the k lines before whose start is at or below s; line 0 where none is.
+-- Of lines 0 to k - 1 the last whose start is at or below s; line 0 where there is none.
 unfoldable pub near : (ℕ → ℕ) → ℕ → ℕ → ℕ
 near start s zero = 0
 near start s (suc j) = let r = near start s j in pick (leb (start j) s) j r

@@ -28,7 +28,7 @@ use Rattle.edit.specs.Edit.{playsIn}
 use Rattle.edit.specs.Outcomes.{putInOf, cutOf}
 use Rattle.laws.specs.Blocks.{Bytes, frontOf}
 use Rattle.laws.specs.Sayable.{Sayable, ColorsFollow}
-use Rattle.laws.specs.Modes.{textIn, leftIn, LosesNothing, AllWritten, ByHand}
+use Rattle.laws.specs.Modes.{textIn, keptIn, LosesNothing, AllWritten, ByHand}
 
 -- ---- a record once read, then written
 
@@ -75,7 +75,7 @@ EditsReadBack = (b c : List ℕ) → OnceRead b → ColorsFollow (decode b) → 
 abbrev pub LosesOnce : Type 0
 LosesOnce = (r : Record) → saidRecord Plain (saidRecord Plain r) ≡ saidRecord Plain r
 
--- And what is left has the same text in the mode that loses nothing.
+-- And what is left has the same text in the mode `Whole`.
 abbrev pub PlainIsWhole : Type 0
 PlainIsWhole = (r : Record) → textIn Whole (saidRecord Plain r) ≡ textIn Plain r
 
@@ -89,24 +89,24 @@ parsedOf r n = record { headers = r .headers; position = r .position; plays = pl
 abbrev pub SaysBack : Type 0
 SaysBack =
     (mode : Mode) (r : Record) → Formed r → Sayable r → ColorsFollow r → handsObstacle (r .position) ≡ Clear → AllWritten mode r
-    → (parse (textIn mode r) ≡ parsedOf (leftIn mode r) (length (textIn mode r))) × (startRead (textIn mode r) .fault ≡ NoFault)
+    → (parse (textIn mode r) ≡ parsedOf (keptIn mode r) (length (textIn mode r))) × (startRead (textIn mode r) .fault ≡ NoFault)
 
 -- The parents, in a step of its own: these lines of play all hang, and where they did.                 (01, Attaching rule)
 abbrev pub HangsBack : Type 0
 HangsBack =
     (mode : Mode) (r : Record) → Formed r
-    → (allHung (playsIn (leftIn mode r .lines)) ≡ all) × (attach (playsIn (leftIn mode r .lines)) ≡ leftIn mode r .lines)
+    → (allHung (playsIn (keptIn mode r .lines)) ≡ all) × (attach (playsIn (keptIn mode r .lines)) ≡ keptIn mode r .lines)
 
 -- So the text is read to the block of what it leaves.
 abbrev pub ReadsBackIn : Type 0
 ReadsBackIn =
     (mode : Mode) (r : Record) → Formed r → Sayable r → ColorsFollow r → handsObstacle (r .position) ≡ Clear → AllWritten mode r
-    → length (textIn mode r) ≤ 65535 → (o : List ℕ) → length (encode (leftIn mode r)) ≤ length o
-    → fillOf (textIn mode r) o ≡ readInto (length (textIn mode r)) (leftIn mode r) o
+    → length (textIn mode r) ≤ 65535 → (o : List ℕ) → length (encode (keptIn mode r)) ≤ length o
+    → fillOf (textIn mode r) o ≡ readInto (length (textIn mode r)) (keptIn mode r) o
 
 -- ---- where nothing is lost                                                                           (02, xi)
 
--- Where writing in a mode is done with a text of at most 65,535 bytes, which refusal 20 leaves to blocks in which no variation starts at 0,
+-- Where writing in a mode is done with a text of at most 65,535 bytes, where refusal 20 keeps out a variation that starts at 0,
 -- `fill` takes all of that text and answers the block itself, byte for byte, for every buffer that has room for it.
 abbrev pub Restores : Mode → List ℕ → Type 0
 Restores mode b =

@@ -33,12 +33,12 @@ abbrev pub textIn : Mode → Record → List ℕ
 textIn mode r = recordText (saidRecord mode r)
 
 -- What reading that text back gives: of the plain text what it says, of the others the record itself.
-abbrev pub leftIn : Mode → Record → Record
-leftIn Plain r = saidRecord Plain r
-leftIn Whole r = r
-leftIn Shared r = r
+abbrev pub keptIn : Mode → Record → Record
+keptIn Plain r = saidRecord Plain r
+keptIn Whole r = r
+keptIn Shared r = r
 
--- The modes of which the latter holds.
+-- The modes whose text keeps all of a record.
 pub data LosesNothing : Mode → Type 0 where
   whole : LosesNothing Whole
   shared : LosesNothing Shared
