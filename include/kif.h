@@ -1,5 +1,5 @@
 /* Prunicheta's calls for C. A slice is a pointer and a length; a lent number is a pointer to it.
- * Every call takes every input. A refused call says so in *number (1 to 13, and 20) and in its figures; 0 is success. 14 was a refusal of
+ * Every call takes every input. A refused call says so in *number (1 to 13, 15 to 17, and 20) and in its figures; 0 is success. 14 was a refusal of
  * kif_put_in that is never met, and is not used again. */
 #ifndef KIF_H
 #define KIF_H
@@ -56,11 +56,11 @@ void kif_write(const uint8_t *block, size_t block_len, uint8_t *out, size_t out_
  *   0                     as kif_write, and so for any number but 1 and 2: without 不成, without the hour of what an entry itself took, with
  *                         an hour in every total, and without the lines from the first variation on that starts at ply 0;
  *   1                     losing nothing: kif_fill gives the block back, byte for byte, where each colour follows its ply, the text is within
- *                         65,535 bytes, and the block is one that was read, or edited by text;
- *   2                     as 1, and a move from (0,0) with 打 for (00), which other programs do not read. 打 is read as (0,0).
+ *                         65,535 bytes, and the block is one that was read, or edited by text, or made by hand with nothing that no text says;
+ *   2                     as 1, and a move from (0,0) with 打, since other programs do not read the (00) of modes 0 and 1. 打 is read as (0,0).
  * 0, the text's length and how many lines it leaves out; or, in this order, 7 as kif_write; in modes 1 and 2
  *   20, line, 0           where that line, a variation, starts at ply 0;
- * then 8, 9 and 5 as kif_write. Success changes only the text's bytes, and a refusal nothing. */
+ * then 8, 9 and 5 as kif_write, 9 by the width of what is written in the mode. Success changes only the text's bytes, and a refusal nothing. */
 void kif_write_as(const uint8_t *block, size_t block_len, uint64_t mode, uint8_t *out, size_t out_len, uint64_t *number, uint64_t *first, uint64_t *second);
 
 /* Puts the one variation that a text holds, wholly move lines with comments, numbered one by one, into a line of a block, at the ply that
@@ -84,6 +84,21 @@ void kif_put_in(const uint8_t *block, size_t block_len, uint64_t line, const uin
  *   5, length, 0          where out is shorter than the length needed.
  * Success changes only the new block's bytes, and a refusal nothing. */
 void kif_cut(const uint8_t *block, size_t block_len, uint64_t line, uint8_t *out, size_t out_len, uint64_t *number, uint64_t *first, uint64_t *second);
+
+/* The position after an entry of a line: what is played is the entries of its parents before the one that each line hangs on, then its own up to
+ * and with this entry, from the record's diagram or from 平手. The sides move in turn, whatever colours the block has; 同 lands where the last move
+ * landed; what is no move is passed over. Whether a move is legal is not looked at, but play stops where the piece is not there or not in hand, a place is off the
+ * board, a piece of one's own or a king stands where it lands, any piece where it is dropped, a drop or a kind that has no other side promotes, a hand
+ * would pass 255, or 同 is first. 0, 100 and the side to move, 0 Black, 1 White, and the first 100 bytes of out, which must not overlap
+ * the block, are the position as a block has it: 16, 1, the side to move, 0, 81 cells, 14 hand counts, 0; or, in this order,
+ *   7, 0, 0               where the slice is not just a sound block;
+ *   10, line, 0           where it has no such line;
+ *   15, preset, 0         where it has no diagram and another preset than 平手;
+ *   16, line, entry       where the line has no such entry;
+ *   17, line, entry       where play stopped: the line and the entry of the move that cannot be played, which may be a parent's;
+ *   5, 100, 0             where out is shorter than 100 bytes.
+ * Entry 0 of line 0 is the start. Success changes only the 100 bytes, and a refusal nothing. */
+void kif_position(const uint8_t *block, size_t block_len, uint64_t line, uint64_t entry, uint8_t *out, size_t out_len, uint64_t *number, uint64_t *first, uint64_t *second);
 
 /* Whether the slice is just a sound block. */
 bool kif_sound(const uint8_t *block, size_t block_len);

@@ -35,7 +35,7 @@ fn hand_obstacle(hands: &[u8]) -> Obstacle
 }
 
 // What stands in the way of writing both hands, where there is a diagram.
-pub(crate) fn hands_obstacle(p: Position) -> Obstacle
+pub fn hands_obstacle(p: Position) -> Obstacle
     ensures { λ r. ⌜ r ≡ handsObstacle p ⌝ }
 {
     let hands = p.hands;

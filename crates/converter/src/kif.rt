@@ -231,7 +231,7 @@ fn put_ply(out: &mut [u8], ply: usize) -> usize
 }
 
 // The line of an entry.
-fn put_entry_line(out: &mut [u8], ply: usize, e: Entry) -> usize
+pub(crate) fn put_entry_line(out: &mut [u8], ply: usize, e: Entry) -> usize
     requires { ⌜ length (entryLine ply e) ≤ length (now out) ⌝ }
     ensures { λ r. ⌜ Wrote (entryLine ply e) (now (out .entry)) (now (out .exit)) r ⌝ }
 {

@@ -152,7 +152,7 @@ fn time_length(width: usize, time: Time) -> usize
     }
 }
 
-fn entry_length(ply: usize, e: Entry) -> usize
+pub(crate) fn entry_length(ply: usize, e: Entry) -> usize
     requires { ⌜ ply < 131072 ⌝ }
     ensures { λ r. ⌜ (r ≡ length (entryLine ply e)) × (r ≤ 72) ⌝ }
 {
@@ -273,7 +273,7 @@ fn main_length(b: &[u8], mode: Mode) -> usize
 }
 
 // The position, written to be counted.
-fn position_length(p: Position) -> usize
+pub(crate) fn position_length(p: Position) -> usize
     ensures { λ r. ⌜ (r ≡ length (positionText p)) × (r ≤ 2048) ⌝ }
 {
     let mut scratch = [0u8; 2048];

@@ -7,22 +7,30 @@ mod said;
 mod starts;
 mod usuals;
 
-use checks::hands_obstacle;
+pub use checks::hands_obstacle;
 use checks::lines_obstacle;
 use checks::shown_lines;
 use checks::start_obstacle;
 use jkf::Answer;
+use jkf::Entry;
+use jkf::Position;
+use kif::put_entry_line;
 use kif::put_moves;
+use lengths::entry_length;
+use lengths::position_length;
 use lengths::text_length;
+use said::said_entry;
 use starts::put_headers;
 use starts::put_position;
 ghost use mathlib.Core.Path.{_≡_};
 ghost use Prim.Native.Nat.{_≤_};
 ghost use lib.ListN.{length};
-ghost use Rattle.lent.specs.Bytes.{Wrote};
+ghost use Rattle.lent.specs.Bytes.{Wrote, fitting};
 ghost use Rattle.block.specs.Decode.{decode};
 ghost use Rattle.block.specs.inner.Sounds.{Sound};
-ghost use Rattle.converter.specs.Said.{leftOut, saidRecord};
+ghost use Rattle.converter.specs.Diagrams.{positionText};
+ghost use Rattle.converter.specs.Entries.{entryLine};
+ghost use Rattle.converter.specs.Said.{leftOut, saidEntry, saidRecord};
 ghost use Rattle.converter.specs.Show.{recordText, showLines, showHands, show};
 ghost use Rattle.converter.specs.inner.Lines.{ShownLines};
 ghost use Rattle.converter.specs.Writing.{textStored, shownOf, writeAsOf, writeOf, modeOf};
@@ -129,4 +137,25 @@ pub fn mode_of(n: u64) -> Mode
         2 => Mode::Shared,
         _ => Mode::Plain,
     }
+}
+
+// A position's text at the front of a lent buffer, as it stands in a block's text; nothing where it does not fit.
+pub fn put_position_text(out: &mut [u8], p: Position) -> usize
+    ensures { λ r. ⌜ Wrote (fitting (positionText p) (now (out .entry))) (now (out .entry)) (now (out .exit)) r ⌝ }
+{
+    if out.len() < position_length(p) {
+        return 0;
+    }
+    put_position(out, p)
+}
+
+// The line of what a mode says of an entry, likewise.
+pub fn put_entry_text(out: &mut [u8], mode: Mode, ply: u16, e: Entry) -> usize
+    ensures { λ r. ⌜ Wrote (fitting (entryLine ply (saidEntry mode e)) (now (out .entry))) (now (out .entry)) (now (out .exit)) r ⌝ }
+{
+    let said = said_entry(mode, e);
+    if out.len() < entry_length(ply as usize, said) {
+        return 0;
+    }
+    put_entry_line(out, ply as usize, said)
 }

@@ -5,7 +5,7 @@ use mathlib.Core.Path.{_≡_, refl, sym, ap, _∙_}
 use mathlib.Core.List.{List, [], _∷_}
 use lib.ListN.{getD}
 use Rattle.jkf.specs.declared.Answer.{Answer}
-use Rattle.jkf.specs.declared.Answer.the-variants.{Done, TextTooLong, NotUtf8, HandLine, BlockTooLong, BufferShort, NoEntry, NotSound, HandCount, CannotWrite, NoSuchPart, NotOneVariation, OutsideLine, EntryTaken, StartsAtZero}
+use Rattle.jkf.specs.declared.Answer.the-variants.{Done, TextTooLong, NotUtf8, HandLine, BlockTooLong, BufferShort, NoEntry, NotSound, HandCount, CannotWrite, NoSuchPart, NotOneVariation, OutsideLine, EntryTaken, NoStart, NoSuchEntry, PlayStopped, StartsAtZero}
 use Rattle.jkf.specs.declared.Figures.{Figures}
 use Rattle.jkf.specs.Answers.{figures, Outcome}
 
@@ -27,7 +27,11 @@ answerWith r =
     ∷ NotOneVariation
     ∷ OutsideLine (r .first) (r .second)
     ∷ EntryTaken (r .first) (r .second)
-    ∷ NotSound ∷ NotSound ∷ NotSound ∷ NotSound ∷ NotSound ∷ NotSound
+    ∷ NotSound
+    ∷ NoStart (r .first)
+    ∷ NoSuchEntry (r .first) (r .second)
+    ∷ PlayStopped (r .first) (r .second)
+    ∷ NotSound ∷ NotSound
     ∷ StartsAtZero (r .first)
     ∷ [])
     (r .number)
@@ -49,6 +53,9 @@ back (NoSuchPart x) = refl
 back NotOneVariation = refl
 back (OutsideLine x y) = refl
 back (EntryTaken x y) = refl
+back (NoStart x) = refl
+back (NoSuchEntry x y) = refl
+back (PlayStopped x y) = refl
 back (StartsAtZero x) = refl
 
 pub figures-one : (a b : Answer) → figures a ≡ figures b → a ≡ b

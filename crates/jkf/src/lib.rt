@@ -11,7 +11,7 @@ pub use entries::time_of;
 ghost use mathlib.Core.Path.{_≡_};
 ghost use Rattle.jkf.specs.Answers.{figures, figured};
 
-// What a call of 01 answers: done, with two figures, or one of the 14 refusals.
+// What a call of 01 answers: done, with two figures, or one of the 17 refusals.
 pub enum Answer {
     Done(u64, u64),
     TextTooLong(u64),
@@ -27,10 +27,13 @@ pub enum Answer {
     NotOneVariation,
     OutsideLine(u64, u64),
     EntryTaken(u64, u64),
+    NoStart(u64),
+    NoSuchEntry(u64, u64),
+    PlayStopped(u64, u64),
     StartsAtZero(u64),
 }
 
-// 01's number of an answer, 0 for done, and its two figures.
+// The number of an answer, 0 for done, and its two figures.
 pub struct Figures {
     pub number: u64,
     pub first: u64,
@@ -56,6 +59,9 @@ pub fn figures_of(a: Answer) -> Figures
         Answer::NotOneVariation => figured(11, 0, 0),
         Answer::OutsideLine(x, y) => figured(12, x, y),
         Answer::EntryTaken(x, y) => figured(13, x, y),
+        Answer::NoStart(n) => figured(15, n, 0),
+        Answer::NoSuchEntry(x, y) => figured(16, x, y),
+        Answer::PlayStopped(x, y) => figured(17, x, y),
         Answer::StartsAtZero(n) => figured(20, n, 0),
     }
 }

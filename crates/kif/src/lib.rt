@@ -8,6 +8,7 @@ ghost use mathlib.Core.List.{[], _∷_};
 ghost use Rattle.stops.specs.Stopping.{stopOf, stopFigures, spotAt};
 ghost use Rattle.converter.specs.Writing.{writeAsOf, writeOf, modeOf};
 ghost use Rattle.edit.specs.Outcomes.{putInOf, cutOf};
+ghost use Rattle.positions.specs.Paths.{positionPut};
 
 // Whether a slice is just a sound block.
 #[no_mangle]
@@ -193,6 +194,26 @@ pub extern "C" fn kif_cut(
     ensures { λ _. ⌜ now (out .exit) ≡ cutOf (now (block .entry)) line (now (out .entry)) .buffer ⌝ }
 {
     let f = jkf::figures_of(edit::cut(block, line, out));
+    *number = f.number;
+    *first = f.first;
+    *second = f.second;
+}
+
+// The position after an entry of a line, as the 100 bytes that a block has for one.
+#[no_mangle]
+pub extern "C" fn kif_position(
+    block: &[u8],
+    line: u64,
+    entry: u64,
+    out: &mut [u8],
+    number: &mut u64,
+    first: &mut u64,
+    second: &mut u64,
+)
+    ensures { λ _. ⌜ Answered (positionPut (now (block .entry)) line entry (now (out .entry)) .answer) (now (number .exit)) (now (first .exit)) (now (second .exit)) ⌝ }
+    ensures { λ _. ⌜ now (out .exit) ≡ positionPut (now (block .entry)) line entry (now (out .entry)) .buffer ⌝ }
+{
+    let f = jkf::figures_of(positions::store_position(block, line, entry, out));
     *number = f.number;
     *first = f.first;
     *second = f.second;

@@ -7,6 +7,7 @@ mod losses;
 mod notes;
 mod reasons;
 mod refusals;
+mod shows;
 mod times;
 mod wheres;
 mod words;
@@ -14,6 +15,7 @@ mod words;
 use libc::STDOUT_FILENO;
 use notes::say_two;
 use stops::StopAnswer;
+use words::Spot;
 use words::Word;
 
 // Says so where standard output did not take all, and hands that on.
@@ -123,10 +125,19 @@ fn print_edited(word: Word, line: u64, name: &[u8], b: &[u8], out: &mut [u8]) ->
     true
 }
 
+// Prints the position after an entry, or says why there is none.
+fn print_position(name: &[u8], b: &[u8], spot: Spot) -> bool {
+    let after = positions::position_after(b, spot.line, spot.entry);
+    if shows::tell(name, b, after) {
+        return false;
+    }
+    told(shows::print(b, after))
+}
+
 // What is asked of a text that was read into a block; and whether it was done.
 fn answer(
     word: Word,
-    line: u64,
+    spot: Spot,
     name: &[u8],
     text: &[u8],
     taken: u64,
@@ -137,8 +148,9 @@ fn answer(
         Word::List => told(print_listing(taken, b, out)),
         Word::Check => told(print_check(taken, text, b)),
         Word::Block => keep(taken, b),
-        Word::Put => print_edited(word, line, name, b, out),
-        Word::Cut => print_edited(word, line, name, b, out),
+        Word::Put => print_edited(word, spot.line, name, b, out),
+        Word::Cut => print_edited(word, spot.line, name, b, out),
+        Word::Show => print_position(name, b, spot),
         _ => print_text(name, b, out),
     }
 }
@@ -160,7 +172,7 @@ fn tell_times(word: Word, name: &[u8], text: &[u8], lost: u64) {
 }
 
 // Reads a text into a block as long as a block can be, so that no buffer is short.
-fn read(word: Word, line: u64, name: &[u8], text: &[u8], out: &mut [u8]) {
+fn read(word: Word, spot: Spot, name: &[u8], text: &[u8], out: &mut [u8]) {
     let mut block = [0u8; 65535];
     let r = parser::fill(text, &mut block);
     let a = r.answer;
@@ -170,7 +182,7 @@ fn read(word: Word, line: u64, name: &[u8], text: &[u8], out: &mut [u8]) {
         return;
     }
     let b = lent::front(&block, f.second as usize);
-    if answer(word, line, name, text, f.first, b, out) {
+    if answer(word, spot, name, text, f.first, b, out) {
         tell_left(word, name, text);
         tell_times(word, name, text, r.lost);
     }
@@ -188,7 +200,7 @@ fn print_where(name: &[u8], text: &[u8]) {
 
 // What is asked of a file: of one byte more than a text or a block may have, so that a longer one is refused and not cut. What is printed has
 // room: in the longest text an entry of 20 bytes has at most 55, and the longest listing has 112,133.
-fn obey(word: Word, line: u64, name: &[u8]) {
+fn obey(word: Word, spot: Spot, name: &[u8]) {
     let mut input = io::large_buffer();
     let files::Got::Bytes(n) = files::fill(name, &mut input) else {
         return;
@@ -203,21 +215,21 @@ fn obey(word: Word, line: u64, name: &[u8]) {
         print_text(name, bytes, &mut out);
         return;
     }
-    read(word, line, name, bytes, &mut out);
+    read(word, spot, name, bytes, &mut out);
 }
 
 // The second word is a file's name.
-fn on_file(word: Word, line: u64) {
+fn on_file(word: Word, spot: Spot) {
     let mut name = io::buffer();
     let n = words::arg(2, &mut name);
     if os::errno() != 0 {
         os::fail(b"kifu: refused: FILE");
         return;
     }
-    obey(word, line, &name[..n]);
+    obey(word, spot, &name[..n]);
 }
 
-// What the words ask for, where they are as many as they should be and a line is a number.
+// What the words ask for, where they are as many as they should be and a line and an entry are numbers.
 fn start(first: &[u8]) {
     let word = words::word_of(first);
     if let Word::Unknown = word {
@@ -232,11 +244,11 @@ fn start(first: &[u8]) {
         told(words::print_help());
         return;
     }
-    let words::Line::Numbered(line) = words::line_of(word) else {
+    let words::Asked::At(spot) = words::spot_of(word) else {
         words::tell_usage(word);
         return;
     };
-    on_file(word, line);
+    on_file(word, spot);
 }
 
 // The first word says what is asked for.

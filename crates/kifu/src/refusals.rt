@@ -67,16 +67,23 @@ fn say(t: &[u8], x: u64, y: u64) -> bool {
     say_end(&t[at + 1..], y)
 }
 
-// The sentences by their numbers, that of refusal 20 last: rows of 98 bytes. That of refusal 8 names a side and a kind, and that of refusal 6 has more figures.
+// Where the sentence of a refusal begins in their table: those of 15, 16 and 20 stand behind that of 13.
+fn sentence_of(number: u64) -> usize {
+    if number < 14 {
+        return 98 * (number as usize);
+    }
+    match number {
+        15 => 1372,
+        16 => 1470,
+        _ => 1568,
+    }
+}
+
+// The sentences: rows of 98 bytes. That of refusal 8 names a side and a kind, that of refusal 6 has more figures, and that of refusal 17 a move.
 fn say_refusal(number: u64, x: u64, y: u64) -> bool {
     if number == 8 {
         return say_hand(x, y);
     }
-    let at = if number < 14 {
-        98 * (number as usize)
-    } else {
-        1372
-    };
     say(
         shown::table_text(
             b"\x00                                                                                                 \
@@ -93,8 +100,10 @@ fn say_refusal(number: u64, x: u64, y: u64) -> bool {
               \x1dthe text is not one variation                                                                    \
               \x29line # has no ply # to put a variation at                                                        \
               \x29line #, ply # already carries a variation                                                        \
+              \x39the record has no diagram, and its handicap is not \xe5\xb9\xb3\xe6\x89\x8b                                        \
+              \x15line # has no entry #                                                                            \
               \x59line # starts at ply 0; --plain writes the text without it and without the lines after it        ",
-            at,
+            sentence_of(number),
         ),
         x,
         y,

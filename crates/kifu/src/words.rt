@@ -17,13 +17,26 @@ pub enum Word {
     Where,
     Put,
     Cut,
+    Show,
     Help,
     Unknown,
 }
 
-// The number of a line, or that a word is none.
-pub enum Line {
-    Numbered(u64),
+// The number that a word is, or that it is none.
+pub enum Numbered {
+    As(u64),
+    NoNumber,
+}
+
+// The numbers of a line and of an entry of it.
+pub struct Spot {
+    pub line: u64,
+    pub entry: u64,
+}
+
+// Those that are asked for, or that a word is no number.
+pub enum Asked {
+    At(Spot),
     NoNumber,
 }
 
@@ -75,13 +88,16 @@ pub(crate) fn arg(k: usize, w: &mut [u8]) -> usize
     os::arg(k, w)
 }
 
-// What the first word asks for, of the words for an edit and for help.
+// What the first word asks for, of the words for an edit, for a position and for help.
 fn later_word_of(w: &[u8]) -> Word {
     if check::same(w, b"put") {
         return Word::Put;
     }
     if check::same(w, b"cut") {
         return Word::Cut;
+    }
+    if check::same(w, b"show") {
+        return Word::Show;
     }
     if check::same(w, b"help") {
         return Word::Help;
@@ -143,37 +159,60 @@ fn count(word: Word) -> usize
         Word::Block => 4,
         Word::Cut => 4,
         Word::Put => 5,
+        Word::Show => 5,
         _ => 3,
     }
 }
 
 // Digits to the end, and no more than there is room for in a number.
-fn number_in(w: &[u8]) -> Line {
+fn number_in(w: &[u8]) -> Numbered {
     let Number::Value(n, past) = Cursor { at: 0 }.digits(w, u64::MAX) else {
-        return Line::NoNumber;
+        return Numbered::NoNumber;
     };
     if past.at != w.len() {
-        return Line::NoNumber;
+        return Numbered::NoNumber;
     }
-    Line::Numbered(n)
+    Numbered::As(n)
 }
 
-// The line that the third word numbers.
-fn third() -> Line {
+// The number that word k is.
+fn number_at(k: usize) -> Numbered
+    requires { ⌜ k ≤ 4 ⌝ }
+{
     let mut w = io::buffer();
-    let n = arg(3, &mut w);
+    let n = arg(k, &mut w);
     if os::errno() != 0 {
-        return Line::NoNumber;
+        return Numbered::NoNumber;
     }
     number_in(&w[..n])
 }
 
-// The line that goes with a word: 0 where none does.
-pub(crate) fn line_of(word: Word) -> Line {
+// The line that the third word numbers.
+fn line_asked() -> Asked {
+    let Numbered::As(line) = number_at(3) else {
+        return Asked::NoNumber;
+    };
+    Asked::At(Spot { line, entry: 0 })
+}
+
+// The same, and the entry that the fourth numbers.
+fn entry_asked() -> Asked {
+    let Numbered::As(line) = number_at(3) else {
+        return Asked::NoNumber;
+    };
+    let Numbered::As(entry) = number_at(4) else {
+        return Asked::NoNumber;
+    };
+    Asked::At(Spot { line, entry })
+}
+
+// The line and the entry that go with a word: 0 where none does.
+pub(crate) fn spot_of(word: Word) -> Asked {
     match word {
-        Word::Put => third(),
-        Word::Cut => third(),
-        _ => Line::Numbered(0),
+        Word::Put => line_asked(),
+        Word::Cut => line_asked(),
+        Word::Show => entry_asked(),
+        _ => Asked::At(Spot { line: 0, entry: 0 }),
     }
 }
 
@@ -188,7 +227,8 @@ fn use_of(word: Word) -> usize {
         Word::Where => 555,
         Word::Put => 666,
         Word::Cut => 777,
-        _ => 888,
+        Word::Show => 888,
+        _ => 999,
     }
 }
 
@@ -205,13 +245,14 @@ fn print_usage(fd: i32, word: Word) -> bool {
               \x52kifu where FILE                        where reading of the file stopped, and why\n                            \
               \x65kifu put FILE LINE VARIATION [--plain] the file with a variation put into a line, to standard output\n         \
               \x6ekifu cut FILE LINE [--plain]           the file without a line and all that hangs from it, to standard output\n\
+              \x6akifu show FILE LINE ENTRY              the position after an entry of a line, and the move that led to it\n    \
               \x33kifu help                              these lines\n                                                           ",
             use_of(word),
         ),
     )
 }
 
-// Says how a word is used that came with too few words, too many or a line that is no number.
+// Says how a word is used that came with too few words, too many or a line or an entry that is no number.
 pub(crate) fn tell_usage(word: Word) {
     io::write_all(STDERR_FILENO, b"kifu: usage: ");
     print_usage(STDERR_FILENO, word);
@@ -228,7 +269,7 @@ pub(crate) fn tell_unknown(w: &[u8]) {
     }
     io::write_all(
         STDERR_FILENO,
-        b"; the words are list, tidy, block, text, check, where, put, cut and help\n",
+        b"; the words are list, tidy, block, text, check, where, put, cut, show and help\n",
     );
 }
 
@@ -242,6 +283,7 @@ pub(crate) fn print_help() -> bool {
     print_usage(STDOUT_FILENO, Word::Where);
     print_usage(STDOUT_FILENO, Word::Put);
     print_usage(STDOUT_FILENO, Word::Cut);
+    print_usage(STDOUT_FILENO, Word::Show);
     print_usage(STDOUT_FILENO, Word::Help);
     io::write_all(
         STDOUT_FILENO,

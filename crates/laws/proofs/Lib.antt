@@ -26,4 +26,5 @@ pub mod Cases
 pub mod EditsDone
 pub mod Orders
 pub mod Edits
+pub mod PositionsHold
 pub mod Theorems

@@ -7,5 +7,6 @@ pub mod Orders
 pub mod Sayable
 pub mod Modes
 pub mod Back
+pub mod Positions
 pub mod CaseTexts
 pub mod Cases

@@ -94,6 +94,24 @@ enum-known-a-13 c = c .match .keys15
 figured-requires-15 : tie.Need-figured-requires-15
 figured-requires-15 c κs = tt
 
+enum-known-a-14 : tie.Need-enum-known-a-14
+enum-known-a-14 c = c .match .keys16
+
+figured-requires-16 : tie.Need-figured-requires-16
+figured-requires-16 c κs = tt
+
+enum-known-a-15 : tie.Need-enum-known-a-15
+enum-known-a-15 c = c .match .keys17
+
+figured-requires-17 : tie.Need-figured-requires-17
+figured-requires-17 c κs = tt
+
+enum-known-a-16 : tie.Need-enum-known-a-16
+enum-known-a-16 c = c .match .keys18
+
+figured-requires-18 : tie.Need-figured-requires-18
+figured-requires-18 c κs = tt
+
 returns : tie.Need-returns
 unfolding figures
 returns c = rw (c .before .before .a .given .1) (c .figured .ensures)
@@ -154,6 +172,18 @@ returns-15 : tie.Need-returns-15
 unfolding figures
 returns-15 c = rw (c .before .before .a13 .given .1) (c .figured15 .ensures)
 
+returns-16 : tie.Need-returns-16
+unfolding figures
+returns-16 c = rw (c .before .before .a14 .given .1) (c .figured16 .ensures)
+
+returns-17 : tie.Need-returns-17
+unfolding figures
+returns-17 c = rw (c .before .before .a15 .given .1) (c .figured17 .ensures)
+
+returns-18 : tie.Need-returns-18
+unfolding figures
+returns-18 c = rw (c .before .before .a16 .given .1) (c .figured18 .ensures)
+
 pub figures-of-spec : {M : Type 1} → statement M
 figures-of-spec =
     tie.close
@@ -188,6 +218,12 @@ figures-of-spec =
     figured-requires-14
     enum-known-a-13
     figured-requires-15
+    enum-known-a-14
+    figured-requires-16
+    enum-known-a-15
+    figured-requires-17
+    enum-known-a-16
+    figured-requires-18
     returns
     returns-2
     returns-3
@@ -202,4 +238,7 @@ figures-of-spec =
     returns-12
     returns-13
     returns-14
-    returns-15)
+    returns-15
+    returns-16
+    returns-17
+    returns-18)
