@@ -5,7 +5,7 @@ use crate::blocks::{LEADING, TEXTS};
 use crate::record::{encode, Clock, Diagram, Entry, Line, Move, Position, Record, Time, What};
 
 /// How many there are of a group, and its n-th.
-type Group = (u64, fn(&mut Digits) -> Record);
+pub type Group<T> = (u64, fn(&mut Digits) -> T);
 
 /// None is 同. The last seven cannot be written.
 const TARGETS: [Option<(u8, u8)>; 17] = [
@@ -38,7 +38,7 @@ const KEYS: [&str; 16] = [
     "後手 ", "🀄",
 ];
 
-const GROUPS: [Group; 10] = [
+const GROUPS: [Group<Record>; 10] = [
     (14 * 3 * TARGETS.len() as u64 * ORIGINS.len() as u64 * TIMES as u64, moves),
     (256 * 256, targets),
     (256 * 256, origins),
@@ -52,29 +52,38 @@ const GROUPS: [Group; 10] = [
 ];
 
 /// How many blocks there are in all.
-pub const SMALL: u64 = {
+pub const SMALL: u64 = total(&GROUPS);
+
+/// Steps of this prime go through all groups, and in a shorter run through some of every large one.
+const STEP: u64 = 1_000_003;
+
+/// How many there are in some groups. STEP must not divide it.
+pub const fn total<T>(groups: &[Group<T>]) -> u64 {
     let (mut sum, mut at) = (0, 0);
-    while at < GROUPS.len() {
-        sum += GROUPS[at].0;
+    while at < groups.len() {
+        sum += groups[at].0;
         at += 1;
     }
+    assert!(sum % STEP != 0);
     sum
-};
+}
 
-/// Steps of this prime go through all blocks, and in a shorter run through some of every large group.
-const STEP: u64 = 1_000_003;
-const _: () = assert!(SMALL % STEP != 0);
-
-/// The n-th of all blocks: so many seeds in a row as there are blocks give each of them once.
-pub fn small(n: u64) -> Vec<u8> {
-    let mut left = n % SMALL * STEP % SMALL;
-    for (count, make) in GROUPS {
-        if left < count {
-            return encode(&make(&mut Digits(left)));
+/// The n-th of some groups: so many seeds in a row as there are in them give each once.
+pub fn member<T>(groups: &[Group<T>], n: u64) -> T {
+    let all = total(groups);
+    let mut left = n % all * STEP % all;
+    for (count, make) in groups {
+        if left < *count {
+            return make(&mut Digits(left));
         }
         left -= count;
     }
-    unreachable!("there are no more blocks")
+    unreachable!("there are no more")
+}
+
+/// The n-th of all blocks.
+pub fn small(n: u64) -> Vec<u8> {
+    encode(&member(&GROUPS, n))
 }
 
 /// So many blocks of each group, or all that it has.

@@ -1,12 +1,9 @@
 //! All single moves over small boards: whatever a move's step tells apart shows in one of them.   (02, i)
 
 use crate::record::{encode, Diagram, Entry, Line, Move, Position, Record, What};
-use crate::small::Digits;
+use crate::small::{member, total, Digits, Group};
 
-/// How many there are of a group, and its n-th.
-type Group = (u64, fn(&mut Digits) -> (Diagram, Move));
-
-const GROUPS: [Group; 5] = [
+const GROUPS: [Group<(Diagram, Move)>; 5] = [
     (29 * 29 * 14 * 3 * 2 * 2, moves),
     (29 * 14 * 3 * 2 * 2 * 4, drops),
     (256 * 256 * 2, targets),
@@ -15,30 +12,12 @@ const GROUPS: [Group; 5] = [
 ];
 
 /// How many blocks there are in all.
-pub const STEPS: u64 = {
-    let (mut sum, mut at) = (0, 0);
-    while at < GROUPS.len() {
-        sum += GROUPS[at].0;
-        at += 1;
-    }
-    sum
-};
-
-/// Steps of this prime go through all blocks, and in a shorter run through some of every group.
-const STEP: u64 = 1_000_003;
-const _: () = assert!(STEPS % STEP != 0);
+pub const STEPS: u64 = total(&GROUPS);
 
 /// The n-th block: a diagram and one move, which is entry 1 of line 0.
 pub fn block(n: u64) -> Vec<u8> {
-    let mut left = n % STEPS * STEP % STEPS;
-    for (count, make) in GROUPS {
-        if left < count {
-            let (diagram, m) = make(&mut Digits(left));
-            return encode(&record(diagram, m));
-        }
-        left -= count;
-    }
-    unreachable!("there are no more blocks")
+    let (diagram, m) = member(&GROUPS, n);
+    encode(&record(diagram, m))
 }
 
 fn record(diagram: Diagram, m: Move) -> Record {

@@ -22,7 +22,7 @@ use Rattle.jkf.specs.declared.Answer.the-variants.{NotSound, NoSuchPart, NoStar
 use Rattle.block.specs.Sound.{soundb}
 use Rattle.positions.specs.Paths.{hirate, noPosition, startOn, EntryPlace, pathTo, onGoes, entryOn, playOne, playAll, atStart, answerBy, courseAnswer, notPlayed, hasStart, positionAfter}
 use Rattle.positions.proofs.Kept.{picked-length, raised-length, lowered-length}
-use Rattle.positions.proofs.Whole.{bytes-length}
+use Rattle.block.proofs.ByteArrays.{bytes-length}
 
 -- 81 cells and 14 counts
 pub record Long (p : Position) : Type 0 where

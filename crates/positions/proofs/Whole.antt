@@ -22,6 +22,7 @@ use Rattle.jkf.specs.declared.Position.{Position}
 use Rattle.block.specs.Decode.{run, linesIn, movePlace, firstEntry, entryCount, parentOf}
 use Rattle.block.specs.Sound.{soundb, isCell, fitsTest}
 use Rattle.block.specs.inner.Sounds.{Sound}
+use Rattle.block.proofs.ByteArrays.{bytes-length}
 use Rattle.block.proofs.Deciding.{sound-says}
 use Rattle.positions.specs.declared.Verdict.{Verdict}
 use Rattle.positions.specs.declared.Verdict.the-variants.{Goes, Stops}
@@ -89,11 +90,6 @@ hirate-fit =
   where
     none : (i : ℕ) → getD (hirate .hands) i 0 ≤ 255
     none i = leb-true (getD (hirate .hands) i 0) 255 (computed (λ (x : ℕ). leb x 255) (hirate .hands) 14 refl refl refl i)
-
-pub bytes-length : (l : List ℕ) (at n : ℕ) → length (bytesAt l at n) ≡ n
-unfolding bytesAt
-bytes-length l at zero = refl
-bytes-length l at (suc n) = ap suc (bytes-length l (at + 1) n)
 
 -- what holds of each byte of a list and of 0 holds of each byte at a place
 bytes-all : (P : ℕ → Type 0) (l : List ℕ) (at n : ℕ) → ((i : ℕ) → P (getD l i 0)) → P 0 → (i : ℕ) → P (getD (bytesAt l at n) i 0)
