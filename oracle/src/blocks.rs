@@ -77,9 +77,14 @@ pub fn read_from(r: &mut Rng, text: fn(&mut Rng) -> Vec<u8>) -> Vec<u8> {
     }
 }
 
-/// The block of a record made by hand that mostly comes back when it is written: where 02 asks something of one, it is amended.
+/// The block of a record made by hand that mostly comes back when it is written.
 pub fn amended(r: &mut Rng) -> Vec<u8> {
-    let mut record = record(r);
+    let record = record(r);
+    encode(&amended_of(r, record))
+}
+
+/// The record, amended where 02 asks something of one made by hand.
+pub fn amended_of(r: &mut Rng, mut record: Record) -> Record {
     record.lines.truncate(judge::written_lines(&record));
     for line in &mut record.lines {
         line.entries.iter_mut().zip(line.start..).for_each(|(entry, ply)| amend(r, entry, ply));
@@ -91,7 +96,7 @@ pub fn amended(r: &mut Rng) -> Vec<u8> {
     if let Some(diagram) = &mut record.position.diagram {
         diagram.hands = diagram.hands.map(|count| count.min(99));
     }
-    encode(&record)
+    record
 }
 
 /// Its colour by the ply, a place on the board, an origin and a special that the reader gives, and no time without room.
@@ -123,7 +128,7 @@ fn without_breaks(text: &str) -> String {
 }
 
 /// A well-formed record.
-fn record(r: &mut Rng) -> Record {
+pub fn record(r: &mut Rng) -> Record {
     let keys = [r.below(6), r.below(24)][usize::from(r.one_in(8))];
     let mut header: Vec<_> = (0..keys).map(|_| (key(r), text(r))).collect();
     header.sort();
@@ -131,15 +136,20 @@ fn record(r: &mut Rng) -> Record {
     let mut lines = vec![Line { start: 0, parent: 0, entries: entries(r, What::Slot) }];
     for _ in 0..r.below(8) {
         let start = r.below(8) as u64;
-        let what = what(r);
-        lines.push(Line { start, parent: 0, entries: entries(r, what) });
+        lines.push(Line { start, parent: 0, entries: variation(r) });
         let shape: Vec<_> = lines.iter().map(|line| (line.start, line.entries.len())).collect();
         match attach::parents(&shape) {
             Ok(parents) => lines.last_mut().unwrap().parent = parents[lines.len() - 1],
             Err(_) => drop(lines.pop()),
         }
     }
-    Record { header, position: position(r), lines }
+    Record { version: 1, header, position: position(r), lines }
+}
+
+/// Up to seven entries of a variation.
+pub fn variation(r: &mut Rng) -> Vec<Entry> {
+    let first = what(r);
+    entries(r, first)
 }
 
 /// Up to seven entries, the first of them this.
@@ -219,7 +229,7 @@ fn position(r: &mut Rng) -> Position {
 
 /// As many lines as a block can hold, or one fewer: each a ply higher than the one before it and on it; or each a ply
 /// lower and on line 0; or all at one ply, each on the one before it, and from some line on at 0, if not all of them.
-fn most_lines(r: &mut Rng) -> Record {
+pub fn most_lines(r: &mut Rng) -> Record {
     let zeros = [usize::MAX, 1, 1 + r.below(2_333)][r.below(3)];
     match r.below(4) {
         0 => many_lines(r, 1, 2, |k| (k, k - 1)),
@@ -229,7 +239,7 @@ fn most_lines(r: &mut Rng) -> Record {
 }
 
 /// So many plies in line 0 and so many in each of the others, whose starts and parents are given.
-fn many_lines(r: &mut Rng, plies: usize, each: usize, place: impl Fn(usize) -> (usize, usize)) -> Record {
+pub fn many_lines(r: &mut Rng, plies: usize, each: usize, place: impl Fn(usize) -> (usize, usize)) -> Record {
     let mut record = bare(writable_entries(r, plies));
     let lines = (LIMIT - record.length()) / (8 + 20 * each) - r.below(2);
     for k in 1..=lines {
@@ -257,7 +267,7 @@ fn most_moves(r: &mut Rng) -> Record {
 fn bare(entries: Vec<Entry>) -> Record {
     let slot = Entry { what: What::Slot, time: None, comments: vec![] };
     let main = Line { start: 0, parent: 0, entries: [vec![slot], entries].concat() };
-    Record { header: vec![], position: Position { preset: 0, diagram: None }, lines: vec![main] }
+    Record { version: 1, header: vec![], position: Position { preset: 0, diagram: None }, lines: vec![main] }
 }
 
 /// Entries without comments, none of which keeps a block from being written.
@@ -271,7 +281,12 @@ fn writable_entries(r: &mut Rng, count: usize) -> Vec<Entry> {
 
 /// A record whose block is as long as a block can be, or nearly so.
 fn filled(r: &mut Rng) -> Record {
-    let mut record = record(r);
+    let record = record(r);
+    filled_of(r, record)
+}
+
+/// The record with so long a comment that its block is.
+pub fn filled_of(r: &mut Rng, mut record: Record) -> Record {
     let short_by = LIMIT - record.length() - r.below(3);
     let slot = &mut record.lines[0].entries[0];
     slot.comments.push("x".repeat(short_by - 4));
@@ -280,7 +295,10 @@ fn filled(r: &mut Rng) -> Record {
 
 /// A block with one byte altered: seeds in turn go through the values of a byte, then the bytes of a block.
 pub fn altered(seed: u64) -> Vec<u8> {
-    let mut block = encode(&record(&mut Rng::new(seed >> 17)));
+    altered_of(encode(&record(&mut Rng::new(seed >> 17))), seed)
+}
+
+pub fn altered_of(mut block: Vec<u8>, seed: u64) -> Vec<u8> {
     let place = (seed >> 8) as usize % 512 % block.len();
     block[place] = seed as u8;
     block
@@ -288,7 +306,12 @@ pub fn altered(seed: u64) -> Vec<u8> {
 
 /// A block that is mostly no longer sound.
 pub fn spoiled(r: &mut Rng) -> Vec<u8> {
-    let mut block = if r.one_in(3) { encode(&misshapen(r)) } else { sound_block(r) };
+    let block = if r.one_in(3) { encode(&misshapen(r)) } else { sound_block(r) };
+    spoiled_of(r, block)
+}
+
+/// The block with something wrong in it, mostly.
+pub fn spoiled_of(r: &mut Rng, mut block: Vec<u8>) -> Vec<u8> {
     let length = block.len();
     match r.below(12) {
         0 => block[r.below(length)] = r.byte(),

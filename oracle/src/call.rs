@@ -8,7 +8,7 @@ use crate::sound::sound;
 use crate::stop;
 use std::fmt;
 
-/// An edit's `from_text` tells whether its block came of reading a text, and of edits after that, if any. A pair is two put-ins into
+/// `from_text` tells whether a block came of reading a text, and of edits and restating after that, if any. A pair is two put-ins into
 /// one block, in either order. A spot is asked for behind whole characters.
 #[derive(Clone, PartialEq, Eq)]
 pub enum Call {
@@ -18,6 +18,7 @@ pub enum Call {
     WriteAs { block: Vec<u8>, mode: u64 },
     PutIn { block: Vec<u8>, line: u64, text: Vec<u8>, from_text: bool },
     Cut { block: Vec<u8>, line: u64, from_text: bool },
+    Restate { block: Vec<u8>, from_text: bool },
     Position { block: Vec<u8>, line: u64, entry: u64 },
     Pair { block: Vec<u8>, one: Asked, other: Asked },
     Comment { block: Vec<u8>, k: u64 },
@@ -39,6 +40,7 @@ impl Call {
             Call::WriteAs { block, mode } => judge::write_as(block, *mode),
             Call::PutIn { block, line, text, .. } => judge::put_in(block, *line, text),
             Call::Cut { block, line, .. } => judge::cut(block, *line),
+            Call::Restate { block, .. } => judge::restate(block),
             Call::Position { block, line, entry } => judge::position(block, *line, *entry),
             Call::Pair { block, one, .. } => judge::put_in(block, one.0, &one.1),
             Call::Comment { block, k } => Outcome::Answered(judge::comment(block, *k).0),
@@ -68,6 +70,17 @@ impl Call {
         }
     }
 
+    /// The block that the call is given, if it is given one.
+    pub fn block(&self) -> Option<&[u8]> {
+        match self {
+            Call::Write { block } | Call::WriteAs { block, .. } | Call::PutIn { block, .. } => Some(block),
+            Call::Cut { block, .. } | Call::Restate { block, .. } | Call::Position { block, .. } => Some(block),
+            Call::Pair { block, .. } | Call::Comment { block, .. } | Call::Key { block, .. } => Some(block),
+            Call::Value { block, .. } | Call::Sound { block } => Some(block),
+            Call::Measure { .. } | Call::Fill { .. } | Call::Stop { .. } | Call::Spot { .. } => None,
+        }
+    }
+
     /// The text that the call is given, if any that can be made shorter.
     pub fn text_mut(&mut self) -> Option<&mut Vec<u8>> {
         match self {
@@ -86,6 +99,7 @@ impl fmt::Display for Call {
             Call::WriteAs { block, mode } => write!(f, "write_as {} {mode}", Hex(block)),
             Call::PutIn { block, line, text, .. } => write!(f, "put_in {} {line} {}", Hex(block), Quoted(text)),
             Call::Cut { block, line, .. } => write!(f, "cut {} {line}", Hex(block)),
+            Call::Restate { block, .. } => write!(f, "restate {}", Hex(block)),
             Call::Position { block, line, entry } => write!(f, "position {} {line} {entry}", Hex(block)),
             Call::Pair { block, one, other } => {
                 write!(f, "put_in {} {} {} and {} {}", Hex(block), one.0, Quoted(&one.1), other.0, Quoted(&other.1))

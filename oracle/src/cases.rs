@@ -10,7 +10,9 @@ use crate::rng::Rng;
 use crate::short;
 use crate::small;
 use crate::steps;
+use crate::tables;
 use crate::texts;
+use crate::tree_blocks;
 use std::cell::RefCell;
 
 pub fn short_text(seed: u64) -> Call {
@@ -136,7 +138,10 @@ pub fn to_put_in(seed: u64) -> Call {
     let r = &mut Rng::new(seed);
     match r.below(120) {
         0 => at_the_end(r),
-        1..=2 => filled_up(r),
+        1..=2 => {
+            let call = drawn_put_in(r);
+            filled_up(r, call)
+        }
         _ => drawn_put_in(r),
     }
 }
@@ -166,8 +171,7 @@ fn at_the_end(r: &mut Rng) -> Call {
 
 /// A put-in into a block with so long a comment that what it makes is as long as a block can be, or has up to two bytes
 /// fewer or more. One that is refused stays as it is.
-fn filled_up(r: &mut Rng) -> Call {
-    let call = drawn_put_in(r);
+fn filled_up(r: &mut Rng, call: Call) -> Call {
     let Call::PutIn { block, line, text, .. } = &call else { unreachable!() };
     let Outcome::Made { result, .. } = judge::put_in(block, *line, text) else {
         return call;
@@ -258,31 +262,34 @@ fn some_line(r: &mut Rng, first: usize, lines: usize) -> u64 {
 }
 
 pub fn a_comment(seed: u64) -> Call {
-    let (block, k) = looked_up(seed, 12);
+    let r = &mut Rng::new(seed);
+    let block = blocks::block(r);
+    let k = looked_up(r, &block, 12);
     Call::Comment { block, k }
 }
 
 pub fn a_key(seed: u64) -> Call {
-    let (block, k) = looked_up(seed, 6);
+    let r = &mut Rng::new(seed);
+    let block = blocks::block(r);
+    let k = looked_up(r, &block, 6);
     Call::Key { block, k }
 }
 
 pub fn a_value(seed: u64) -> Call {
-    let (block, k) = looked_up(seed, 6);
+    let r = &mut Rng::new(seed);
+    let block = blocks::block(r);
+    let k = looked_up(r, &block, 6);
     Call::Value { block, k }
 }
 
-/// A block and mostly a number below the count at this place of its head.
-fn looked_up(seed: u64, count_at: usize) -> (Vec<u8>, u64) {
-    let r = &mut Rng::new(seed);
-    let block = blocks::block(r);
-    let count = u16_at(&block, count_at).unwrap_or(0);
-    let k = match r.below(12) {
+/// Mostly a number below the count at this place of a block's head.
+fn looked_up(r: &mut Rng, block: &[u8], count_at: usize) -> u64 {
+    let count = u16_at(block, count_at).unwrap_or(0);
+    match r.below(12) {
         0 => r.next(),
         1 => count as u64,
         _ => r.below(count.max(1)) as u64,
-    };
-    (block, k)
+    }
 }
 
 /// So many entries in a row are asked for of one record of play.
@@ -341,4 +348,111 @@ pub fn small_position(seed: u64) -> Call {
 /// The position after the one move of a small board.
 pub fn a_step(seed: u64) -> Call {
     Call::Position { block: steps::block(seed), line: 0, entry: 1 }
+}
+
+pub fn a_table(seed: u64) -> Call {
+    Call::Sound { block: tables::block(seed) }
+}
+
+pub fn small_tree(seed: u64) -> Call {
+    edits::tree(seed)
+}
+
+pub fn deep_tree(seed: u64) -> Call {
+    tree_blocks::deep(seed)
+}
+
+pub fn altered_tree(seed: u64) -> Call {
+    Call::Sound { block: tree_blocks::altered(seed) }
+}
+
+/// Mostly damaged.
+pub fn damaged_tree(seed: u64) -> Call {
+    let r = &mut Rng::new(seed);
+    Call::Sound { block: if r.one_in(4) { any_tree(r).0 } else { tree_blocks::spoiled(r) } }
+}
+
+/// A version 2 block, rarely a damaged one; and whether it came of reading a text.
+fn any_tree(r: &mut Rng) -> (Vec<u8>, bool) {
+    match r.below(16) {
+        0..=1 => (tree_blocks::spoiled(r), false),
+        2..=8 => (grown(r), true),
+        _ => (tree_blocks::made(r), false),
+    }
+}
+
+/// A block that was read, restated and edited up to five times.
+fn grown(r: &mut Rng) -> Vec<u8> {
+    let text = if r.one_in(4) { texts::text } else { texts::numbered };
+    let mut block = blocks::read_from(r, text);
+    block[2] = 2;
+    for _ in 0..r.below(6) {
+        if let Outcome::Made { result, .. } = tree_edit(r, block.clone(), true).judged() {
+            block = result;
+        }
+    }
+    block
+}
+
+/// A put-in, mostly on an entry that carries a variation, or a cut.
+fn tree_edit(r: &mut Rng, block: Vec<u8>, from_text: bool) -> Call {
+    match r.below(5) {
+        0 => cut(r, block, from_text),
+        1 => put_in(r, block, from_text),
+        _ => put_in_beside(r, block, from_text),
+    }
+}
+
+/// A put-in on the entry that a variation hangs on, if there is one.
+fn put_in_beside(r: &mut Rng, block: Vec<u8>, from_text: bool) -> Call {
+    let rows = decode(&block).map_or(vec![], |record| record.rows());
+    if rows.len() < 2 {
+        return put_in(r, block, from_text);
+    }
+    let beside = rows[1 + r.below(rows.len() - 1)];
+    Call::PutIn { block, line: beside.parent as u64, text: texts::variation(r, beside.start), from_text }
+}
+
+/// By four seeds in a row, in the three modes and by a number that is none of theirs.
+pub fn tree_mode(seed: u64) -> Call {
+    Call::WriteAs { block: any_tree(&mut Rng::new(seed / 4)).0, mode: mode(seed) }
+}
+
+pub fn to_put_in_tree(seed: u64) -> Call {
+    let r = &mut Rng::new(seed);
+    let (block, from_text) = any_tree(r);
+    let call = if r.one_in(3) { put_in(r, block, from_text) } else { put_in_beside(r, block, from_text) };
+    if r.one_in(40) {
+        return filled_up(r, call);
+    }
+    call
+}
+
+pub fn to_cut_tree(seed: u64) -> Call {
+    let r = &mut Rng::new(seed);
+    let (block, from_text) = any_tree(r);
+    cut(r, block, from_text)
+}
+
+/// Mostly of version 1, sound or not.
+pub fn to_restate(seed: u64) -> Call {
+    let r = &mut Rng::new(seed);
+    let (block, from_text) = if r.one_in(4) { any_tree(r) } else { to_be_edited(r) };
+    Call::Restate { block, from_text }
+}
+
+pub fn tree_look_up(seed: u64) -> Call {
+    let r = &mut Rng::new(seed);
+    let (block, _) = any_tree(r);
+    match r.below(3) {
+        0 => Call::Comment { k: looked_up(r, &block, 12), block },
+        1 => Call::Key { k: looked_up(r, &block, 6), block },
+        _ => Call::Value { k: looked_up(r, &block, 6), block },
+    }
+}
+
+pub fn tree_position(seed: u64) -> Call {
+    let r = &mut Rng::new(seed);
+    let block = if r.one_in(3) { any_tree(r).0 } else { tree_blocks::played(r) };
+    position(r, block)
 }

@@ -1,13 +1,13 @@
 //! The judge against itself: known answers first, then what must hold of every generated case.
 
-use crate::attach;
 use crate::call::Call;
 use crate::cases;
-use crate::edits::{EDITS, PAIRS};
+use crate::edits::{EDITS, PAIRS, TREES};
+use crate::forms::Forms;
 use crate::judge::{self, Outcome, LONGEST};
-use crate::kept::{fate, is_covered, Counts, Fate, Tally};
+use crate::kept::{fate, is_covered, kept, Counts, Fate, Tally};
 use crate::known;
-use crate::left::{colours_follow, left};
+use crate::left::{colours_follow, left, read_again};
 use crate::pairs;
 use crate::reached;
 use crate::reasons::Reasons;
@@ -19,17 +19,24 @@ use crate::small::SMALL;
 use crate::sound::sound;
 use crate::steps::STEPS;
 use crate::stop::{spot, stop};
+use crate::tables::TABLES;
+use crate::tree_blocks::DEEP;
+use crate::tree_checks;
+use crate::trees::hang;
+use crate::whole::Mode;
 use std::cell::Cell;
 use std::str;
 
 thread_local! {
-    /// What was read back, of all that modes 1 and 2 wrote so far.
+    /// What was read back, of all that was written so far.
     static BACK: Cell<Tally> = Cell::default();
     /// Why play stopped, where positions were asked for.
     static STOPS: Cell<Reasons> = Cell::default();
+    /// What was met of version 2.
+    static FORMS: Cell<Forms> = Cell::default();
 }
 
-const KINDS: [Kind; 27] = [
+const KINDS: [Kind; 38] = [
     Kind { name: "short texts", share: 17, all: Some(SHORT), make: cases::short_text, test: reading },
     Kind { name: "texts", share: 20, all: None, make: cases::any_text, test: reading },
     Kind { name: "bytes", share: 13, all: None, make: cases::altered_block, test: soundness },
@@ -57,6 +64,17 @@ const KINDS: [Kind; 27] = [
     Kind { name: "positions", share: 5, all: None, make: cases::any_position, test: positioning },
     Kind { name: "small positions", share: 3, all: Some(SMALL), make: cases::small_position, test: positioning },
     Kind { name: "steps", share: 10, all: Some(STEPS), make: cases::a_step, test: positioning },
+    Kind { name: "tables", share: 20, all: Some(TABLES), make: cases::a_table, test: tabled },
+    Kind { name: "small trees", share: 20, all: Some(TREES), make: cases::small_tree, test: on_tree },
+    Kind { name: "deep trees", share: 1, all: Some(DEEP), make: cases::deep_tree, test: on_tree },
+    Kind { name: "tree bytes", share: 5, all: None, make: cases::altered_tree, test: on_tree },
+    Kind { name: "damaged trees", share: 5, all: None, make: cases::damaged_tree, test: on_tree },
+    Kind { name: "tree modes", share: 6, all: None, make: cases::tree_mode, test: on_tree },
+    Kind { name: "tree put-ins", share: 6, all: None, make: cases::to_put_in_tree, test: on_tree },
+    Kind { name: "tree cuts", share: 4, all: None, make: cases::to_cut_tree, test: on_tree },
+    Kind { name: "restating", share: 4, all: None, make: cases::to_restate, test: on_tree },
+    Kind { name: "tree look-ups", share: 1, all: None, make: cases::tree_look_up, test: on_tree },
+    Kind { name: "tree positions", share: 2, all: None, make: cases::tree_position, test: on_tree },
 ];
 
 /// Whether all known answers and all generated cases hold.
@@ -73,8 +91,7 @@ pub fn check(cases: u64, seed: u64) -> bool {
     }
     println!("{:12} {passed:7} passed, {failed} failed", "known answers");
     let (more_passed, more_failed) = run("check", &KINDS, cases, seed, None);
-    BACK.get().print();
-    failed += more_failed + STOPS.get().report(cases);
+    failed += more_failed + BACK.get().report(cases) + STOPS.get().report(cases) + FORMS.get().report(cases);
     println!("{} passed, {failed} failed", passed + more_passed);
     failed == 0
 }
@@ -155,11 +172,12 @@ fn writing(call: &Call) -> u64 {
     let Call::Write { block } = call else { unreachable!() };
     let outcome = call.judged();
     let number = buffers(&outcome);
-    match outcome {
+    match &outcome {
         Outcome::Answered(answer) => assert!(!sound(block) == (answer.number == 7)),
         Outcome::Made { answer, .. } => {
             let record = decode(block).unwrap();
             assert_eq!(answer.second as usize, record.lines.len() - judge::written_lines(&record));
+            tree_checks::left_out(&record, &outcome);
         }
         Outcome::Unattached { .. } => panic!("writing attaches nothing"),
     }
@@ -174,10 +192,15 @@ fn writing_as(call: &Call) -> u64 {
     let number = buffers(&outcome);
     if !sound(block) {
         assert_eq!(number, 7);
-    } else if !(1..=2).contains(mode) {
-        assert_eq!(outcome, judge::write(block));
-    } else {
+        return number;
+    }
+    if (1..=2).contains(mode) {
         losing_nothing(&decode(block).unwrap(), *mode, &outcome);
+    } else {
+        assert_eq!(outcome, judge::write(block));
+        tree_checks::left_out(&decode(block).unwrap(), &outcome);
+    }
+    if *mode <= 2 {
         restored(block, *mode, &outcome, |tally| &mut tally.blocks);
     }
     number
@@ -217,18 +240,19 @@ fn small_editing(call: &Call) -> u64 {
     }
 }
 
-/// The other lines keep their entries and, renumbered, their parents; the rule made afresh gives the same; and cutting
-/// the new line restores the block.
+/// The other lines keep their entries and, renumbered, their parents; they hang as their version says; cutting the new line restores the
+/// block; and the original has its text.
 fn putting_in(call: &Call) -> u64 {
     let Call::PutIn { block, line, .. } = call else { unreachable!() };
     let outcome = call.judged();
     let number = buffers(&outcome);
+    alike(call, &outcome);
     let Outcome::Made { result, answer } = outcome else {
         return number;
     };
     assert!(sound(&result));
     let (before, mut after) = (decode(block).unwrap(), decode(&result).unwrap());
-    fresh(&after);
+    assert!(hang(before.version, &after.rows()));
     let place = answer.second as usize;
     let new = after.lines.remove(place);
     assert_eq!(new.parent as u64, *line);
@@ -237,6 +261,7 @@ fn putting_in(call: &Call) -> u64 {
         kept.parent -= usize::from(kept.parent > place);
     }
     assert_eq!(after, before);
+    tree_checks::pushed(&before, place, &new, &result);
     let restored = Outcome::Made { result: block.clone(), answer: judge::answer(0, block.len() as u64, 1) };
     assert_eq!(judge::cut(&result, answer.second), restored);
     number
@@ -264,21 +289,24 @@ fn pairing(call: &Call) -> u64 {
     pairs::agree(block, one, other)
 }
 
-/// Just the run goes; the kept lines keep their entries and, renumbered, their parents; the rule made afresh agrees.
+/// Just the run goes; the kept lines keep their entries and, renumbered, their parents; they hang as their version says.
 fn cutting(call: &Call) -> u64 {
     let Call::Cut { block, line, .. } = call else { unreachable!() };
     let outcome = call.judged();
     let number = buffers(&outcome);
+    alike(call, &outcome);
     let Outcome::Made { result, answer } = outcome else {
         return number;
     };
     assert!(sound(&result));
     let (mut before, after) = (decode(block).unwrap(), decode(&result).unwrap());
-    fresh(&after);
+    assert!(hang(before.version, &after.rows()));
     let (first, removed) = (*line as usize, answer.second as usize);
+    tree_checks::pruned(&before, first, &result);
+    assert_eq!(tree_checks::run_by_parents(&before.rows(), first), removed);
     let gone: Vec<_> = before.lines.drain(first..first + removed).collect();
     assert!(gone.iter().all(|other| other.start >= gone[0].start));
-    assert!(before.lines.get(first).is_none_or(|next| next.start < gone[0].start));
+    assert!(before.version == 2 || before.lines.get(first).is_none_or(|next| next.start < gone[0].start));
     for kept in &mut before.lines {
         assert!(!(first..first + removed).contains(&kept.parent), "a kept line hung on one that is gone");
         kept.parent -= if kept.parent > first { removed } else { 0 };
@@ -340,10 +368,55 @@ fn looking_up(call: &Call) -> u64 {
     number
 }
 
-/// The parents are those that the rule gives the lines afresh.
-fn fresh(record: &Record) {
-    let parents = record.lines.iter().map(|line| line.parent).collect();
-    assert_eq!(attach::parents(&record.shape()), Ok(parents));
+/// Both definitions of soundness agree on a table, and what sets the versions apart is so.
+fn tabled(call: &Call) -> u64 {
+    let Call::Sound { block } = call else { unreachable!() };
+    tree_checks::one_is_two(&decode(block).expect("a table stands in a record"));
+    on_tree(call)
+}
+
+/// Whatever is done with a version 2 block, or with one that is to be restated.
+fn on_tree(call: &Call) -> u64 {
+    let number = match call {
+        Call::Sound { .. } => soundness(call),
+        Call::Write { .. } => writing(call),
+        Call::WriteAs { .. } => writing_as(call),
+        Call::PutIn { .. } => putting_in(call),
+        Call::Cut { .. } => cutting(call),
+        Call::Restate { block, .. } => {
+            let outcome = call.judged();
+            tree_checks::restated(block, &outcome);
+            buffers(&outcome)
+        }
+        Call::Position { block, line, entry } => {
+            tree_checks::played_alike(block, *line, *entry);
+            positioning(call)
+        }
+        _ => looking_up(call),
+    };
+    let outcome = call.judged();
+    if let (true, Outcome::Made { result, .. }) = (came_of_text(call), &outcome) {
+        reads_back(result);
+        restored_of_text(result, |tally| &mut tally.restated);
+    }
+    let mut forms = FORMS.get();
+    forms.add(call, &outcome);
+    FORMS.set(forms);
+    number
+}
+
+fn came_of_text(call: &Call) -> bool {
+    match call {
+        Call::PutIn { from_text, .. } | Call::Cut { from_text, .. } | Call::Restate { from_text, .. } => *from_text,
+        _ => false,
+    }
+}
+
+/// A sound version 1 block is edited alike when it is restated before.
+fn alike(call: &Call, outcome: &Outcome) {
+    if call.block().is_some_and(|block| sound(block) && block[2] == 1) {
+        tree_checks::alike(call, outcome);
+    }
 }
 
 /// Buffers of every length: nothing changes in one that is short, only the result's bytes else. Answers the number
@@ -381,28 +454,38 @@ fn reads_back(block: &[u8]) {
     };
     assert_eq!(taken.first, answer.first, "what was written is not wholly taken");
     assert_eq!(taken.lost, 0, "a time that was written is lost");
-    assert_eq!(decode(&again).unwrap(), left, "not the same record");
+    assert_eq!(decode(&again).unwrap(), read_again(&left), "not the same record");
+    tree_checks::nests(&left);
 }
 
 /// Where a block counts in the tally.
 type Place = fn(&mut Tally) -> &mut [Counts; 3];
 
-/// A reader gives what 02 asks of a record made by hand, edits by text keep it, and both modes that lose nothing restore such a block.
+/// A reader gives what 02 asks of a record made by hand, edits by text keep it, and every mode restores of such a block what it keeps.
 fn restored_of_text(block: &[u8], place: Place) {
     assert!(is_covered(&decode(block).unwrap()), "the reader gives what 02 says it does not");
-    for mode in 1..=2 {
+    for mode in 0..=2 {
         restored(block, mode, &judge::write_as(block, mode), place);
     }
 }
 
-/// What a mode wrote of a block is read back by the original as just this block, wherever 02's premises hold.
+/// What a mode wrote of a block is read back by the original as version 1 of what it keeps, wherever 02's premises hold; restated it is
+/// that itself where no entry has two.
 fn restored(block: &[u8], mode: u64, written: &Outcome, place: Place) {
-    let fate = fate(block, written);
+    let fate = fate(block, Mode::of(mode), written);
     let mut tally = BACK.get();
     place(&mut tally)[mode as usize].add(fate);
     BACK.set(tally);
-    if let (Fate::Back, Outcome::Made { result: text, .. }) = (fate, written) {
-        let answer = judge::answer(0, text.len() as u64, block.len() as u64);
-        assert_eq!(judge::fill(text), Outcome::Made { result: block.to_vec(), answer }, "not the same block");
+    let (Fate::Back | Fate::Nested, Outcome::Made { result: text, .. }) = (fate, written) else {
+        return;
+    };
+    let kept = kept(decode(block).unwrap(), Mode::of(mode));
+    let again = encode(&read_again(&kept));
+    let answer = judge::answer(0, text.len() as u64, again.len() as u64);
+    assert_eq!(judge::fill(text), Outcome::Made { result: again.clone(), answer }, "not the same block");
+    tree_checks::nests(&kept);
+    if (kept.version, fate) == (2, Fate::Back) {
+        let restated = Outcome::Made { result: encode(&kept), answer: judge::answer(0, again.len() as u64, 0) };
+        assert_eq!(judge::restate(&again), restated, "not the same block when it is restated");
     }
 }

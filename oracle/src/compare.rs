@@ -3,6 +3,7 @@
 use crate::back;
 use crate::call::Call;
 use crate::cases;
+use crate::forms::Forms;
 use crate::judge::{Outcome, LONGEST};
 use crate::kept::Tally;
 use crate::lent::Lent;
@@ -23,6 +24,8 @@ thread_local! {
     static BACK: Cell<Tally> = Cell::default();
     /// Why play stopped in all cases so far.
     static STOPS: Cell<Reasons> = Cell::default();
+    /// What was met of version 2 in all cases so far.
+    static FORMS: Cell<Forms> = Cell::default();
 }
 
 const KINDS: &[Kind] = &[
@@ -84,13 +87,34 @@ const KINDS: &[Kind] = &[
     },
     #[cfg(feature = "kif_position")]
     Kind { name: "steps", share: 8, all: Some(crate::steps::STEPS), make: cases::a_step, test: compared },
+    #[cfg(feature = "kif_restate")]
+    Kind { name: "tables", share: 81, all: Some(crate::tables::TABLES), make: cases::a_table, test: compared },
+    #[cfg(feature = "kif_restate")]
+    Kind { name: "small trees", share: 60, all: Some(crate::edits::TREES), make: cases::small_tree, test: compared },
+    #[cfg(feature = "kif_restate")]
+    Kind { name: "deep trees", share: 1, all: Some(crate::tree_blocks::DEEP), make: cases::deep_tree, test: compared },
+    #[cfg(feature = "kif_restate")]
+    Kind { name: "tree bytes", share: 3, all: None, make: cases::altered_tree, test: compared },
+    #[cfg(feature = "kif_restate")]
+    Kind { name: "damaged trees", share: 2, all: None, make: cases::damaged_tree, test: compared },
+    #[cfg(feature = "kif_restate")]
+    Kind { name: "tree modes", share: 5, all: None, make: cases::tree_mode, test: compared },
+    #[cfg(feature = "kif_restate")]
+    Kind { name: "tree put-ins", share: 4, all: None, make: cases::to_put_in_tree, test: compared },
+    #[cfg(feature = "kif_restate")]
+    Kind { name: "tree cuts", share: 2, all: None, make: cases::to_cut_tree, test: compared },
+    #[cfg(feature = "kif_restate")]
+    Kind { name: "restate", share: 2, all: None, make: cases::to_restate, test: compared },
+    #[cfg(feature = "kif_restate")]
+    Kind { name: "tree look-ups", share: 1, all: None, make: cases::tree_look_up, test: compared },
+    #[cfg(feature = "kif_restate")]
+    Kind { name: "tree positions", share: 1, all: None, make: cases::tree_position, test: compared },
 ];
 
 /// Whether the port answers every case as the judge does.
 pub fn compare(cases: u64, seed: u64) -> bool {
     let (passed, failed) = run("compare", KINDS, cases, seed, Some(|calls| all_compared(calls).ok()));
-    BACK.get().print();
-    let failed = failed + STOPS.get().report(cases);
+    let failed = failed + BACK.get().report(cases) + STOPS.get().report(cases) + FORMS.get().report(cases);
     println!("{passed} passed, {failed} failed");
     failed == 0
 }
@@ -118,6 +142,11 @@ fn all_compared(calls: &[Call]) -> Result<Vec<u64>, String> {
     let mut stops = STOPS.get();
     calls.iter().zip(&numbers).for_each(|(call, &number)| stops.add(call, number));
     STOPS.set(stops);
+    let mut forms = FORMS.get();
+    if cfg!(feature = "kif_restate") {
+        asked.iter().for_each(|(call, outcome)| forms.add(call, outcome));
+    }
+    FORMS.set(forms);
     Ok(numbers)
 }
 
@@ -159,7 +188,12 @@ fn difference(call: &Call, outcome: &Outcome, lent: &mut Lent, length: usize) ->
 fn lengths(call: &Call, outcome: &Outcome) -> Vec<usize> {
     let needed = outcome.needed().unwrap_or(0);
     match call {
-        Call::Fill { .. } | Call::Write { .. } | Call::WriteAs { .. } | Call::PutIn { .. } | Call::Cut { .. } => {
+        Call::Fill { .. }
+        | Call::Write { .. }
+        | Call::WriteAs { .. }
+        | Call::PutIn { .. }
+        | Call::Cut { .. }
+        | Call::Restate { .. } => {
             vec![0, needed.saturating_sub(1), needed, 65_535, 65_536, LONGEST]
         }
         // All positions are of one length, whether one is made or not.

@@ -10,6 +10,7 @@ use crate::position::{self, Reason, Stopped};
 use crate::record::{decode, encode, position_bytes, u16_at, Entry, Line, Position, Record, What, LIMIT};
 use crate::sound::sound;
 use crate::translate::{self, nest, Play};
+use crate::trees::{chain, hang};
 use crate::whole::{self, width, Mode};
 use nom::error::VerboseError;
 use std::str;
@@ -249,7 +250,8 @@ pub fn put_in(block: &[u8], line: u64, text: &[u8]) -> Outcome {
     if ply == 0 || ply < target.start || ply - target.start >= target.entries.len() as u64 {
         return refused(12, line, ply);
     }
-    if record.lines[1..].iter().any(|other| other.parent == parent && other.start == ply) {
+    let is_taken = record.lines[1..].iter().any(|other| other.parent == parent && other.start == ply);
+    if record.version == 1 && is_taken {
         return refused(13, line, ply);
     }
     let later = &record.lines[parent + 1..];
@@ -258,7 +260,7 @@ pub fn put_in(block: &[u8], line: u64, text: &[u8]) -> Outcome {
         other.parent += usize::from(other.parent >= place);
     }
     record.lines.insert(place, Line { start: ply, parent, entries });
-    assert!(hangs_so(&record), "the parent of a line changes, against 02 (ix): {block:?} {line} {text:?}");
+    assert!(hang(record.version, &record.rows()), "a line hangs otherwise afterwards: {block:?} {line} {text:?}");
     let needed = record.length();
     if needed > LIMIT {
         return refused(4, needed as u64, 0);
@@ -283,26 +285,38 @@ fn variation(text: &[u8]) -> Option<(u64, Vec<Entry>)> {
     rest.is_empty().then_some((moves[0].0 as u64, entries))
 }
 
-/// Whether every line hangs by the rule, afresh, on the parent that it is given.
-fn hangs_so(record: &Record) -> bool {
-    let shape = record.shape();
-    (1..shape.len()).all(|k| attach::parent(&shape[..k], shape[k].0) == record.lines[k].parent)
-}
-
 pub fn cut(block: &[u8], line: u64) -> Outcome {
     let Some(mut record) = record_of(block) else {
         return refused(7, 0, 0);
     };
-    let Some((first, target)) = line_numbered(&record, line).filter(|&(index, _)| index > 0) else {
+    let Some((first, _)) = line_numbered(&record, line).filter(|&(index, _)| index > 0) else {
         return refused(10, line, 0);
     };
-    let removed = record.lines[first..].iter().take_while(|other| other.start >= target.start).count();
-    record.lines.drain(first..first + removed);
-    for kept in &mut record.lines {
-        kept.parent -= if kept.parent > first { removed } else { 0 };
-    }
+    let gone = removed(&record, first);
+    let number = |line: usize| line - gone.partition_point(|&other| other < line);
+    let kept = record.lines.iter().enumerate().filter(|(line, _)| gone.binary_search(line).is_err());
+    record.lines = kept.map(|(_, kept)| Line { parent: number(kept.parent), ..kept.clone() }).collect();
     let result = encode(&record);
-    let answer = answer(0, result.len() as u64, removed as u64);
+    let answer = answer(0, result.len() as u64, gone.len() as u64);
+    Outcome::Made { result, answer }
+}
+
+/// The numbers of the lines that go with one that is cut: 01's run by starts, or 02's "those whose chain of parents leads to it" (vi).
+fn removed(record: &Record, first: usize) -> Vec<usize> {
+    let (rows, lines) = (record.rows(), first..record.lines.len());
+    match record.version {
+        1 => lines.take_while(|&line| rows[line].start >= rows[first].start).collect(),
+        _ => lines.filter(|&line| line == first || chain(&rows, line).any(|above| above == first)).collect(),
+    }
+}
+
+/// A sound version 1 block as version 2 (02, vi); what is anything else is refused.
+pub fn restate(block: &[u8]) -> Outcome {
+    let Some(record) = record_of(block).filter(|record| record.version == 1) else {
+        return refused(7, 0, 0);
+    };
+    let result = encode(&Record { version: 2, ..record });
+    let answer = answer(0, result.len() as u64, 0);
     Outcome::Made { result, answer }
 }
 

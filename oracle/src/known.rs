@@ -1,6 +1,7 @@
 //! The answers that 01 itself gives, and those at the points where its words meet the original: all by hand.
 
 use crate::cases::OTHER_MODES;
+use crate::equals;
 use crate::games;
 use crate::judge::{self, Outcome, LONGEST};
 use crate::kept::is_covered;
@@ -33,7 +34,7 @@ line 1 start 2 moves 1 parent 0
 ";
 
 /// Each group by name; a group panics at the first answer that is not the known one.
-pub const GROUPS: [(&str, fn()); 26] = [
+pub const GROUPS: [(&str, fn()); 34] = [
     ("worked example", worked_example),
     ("positions", positions),
     ("put-ins and cuts", put_ins_and_cuts),
@@ -60,6 +61,14 @@ pub const GROUPS: [(&str, fn()); 26] = [
     ("variations", plays::variations),
     ("orders of positions", plays::orders),
     ("games", games::games),
+    ("soundness of both versions", equals::soundness),
+    ("tables", equals::all_tables),
+    ("writing of equals", equals::writing),
+    ("reading equals back", equals::reading_back),
+    ("put-ins beside others", equals::put_ins),
+    ("cuts among equals", equals::cuts),
+    ("restated", equals::in_bytes),
+    ("orders of version 2", equals::orders),
 ];
 
 fn worked_example() {
@@ -69,7 +78,7 @@ fn worked_example() {
 }
 
 /// Move lines from a ply on.
-fn moves(start: u64, count: u64) -> String {
+pub fn moves(start: u64, count: u64) -> String {
     (start..start + count).map(|ply| format!("{ply}同歩打\n")).collect()
 }
 
@@ -80,7 +89,7 @@ fn game(variations: &[(u64, u64)]) -> String {
 }
 
 /// Number, first and second figure with a buffer of this length.
-fn answered(outcome: Outcome, length: usize) -> (u64, u64, u64) {
+pub fn answered(outcome: Outcome, length: usize) -> (u64, u64, u64) {
     let answer = outcome.deliver(&mut vec![1; length]);
     (answer.number, answer.first, answer.second)
 }
@@ -89,7 +98,8 @@ fn read(text: &str) -> (u64, u64, u64) {
     answered(judge::fill(text.as_bytes()), LIMIT)
 }
 
-fn block(text: &str) -> Vec<u8> {
+/// The block of a text that is read.
+pub fn block(text: &str) -> Vec<u8> {
     match judge::fill(text.as_bytes()) {
         Outcome::Made { result, .. } => result,
         other => panic!("{text:?}: {other:?}"),

@@ -1,7 +1,8 @@
 //! What is left of a record that is written and read back.   (01, Writing, and what is lost)
 
+use crate::attach;
 use crate::judge;
-use crate::record::{Record, What};
+use crate::record::{Line, Record, What};
 
 /// The record without the first variation with start 0 and all lines after it, without now hours and 不成, and with an
 /// hour of 0 in each total that had none.
@@ -18,6 +19,14 @@ pub fn left(record: &Record) -> Record {
         }
     }
     left
+}
+
+/// The record that is read again of a text with all of this one's lines: "Reading text still nests and gives version 1" (02, vi).
+pub fn read_again(record: &Record) -> Record {
+    let parents = attach::parents(&record.shape()).expect("each line that was written hangs on an entry");
+    let nested = |(line, parent): (&Line, usize)| Line { parent, ..line.clone() };
+    let lines = record.lines.iter().zip(parents).map(nested).collect();
+    Record { version: 1, lines, ..record.clone() }
 }
 
 /// Whether in every line each move's colour follows its ply: Black has the odd ones.

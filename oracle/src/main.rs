@@ -14,6 +14,8 @@ mod check;
 #[cfg(feature = "linked")]
 mod compare;
 mod edits;
+mod equals;
+mod forms;
 mod games;
 mod judge;
 mod kept;
@@ -46,10 +48,14 @@ mod sound;
 mod steps;
 mod stop;
 mod stops;
+mod tables;
 mod text;
 mod texts;
 mod times;
 mod translate;
+mod tree_blocks;
+mod tree_checks;
+mod trees;
 mod whole;
 
 use std::process::ExitCode;

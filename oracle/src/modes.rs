@@ -258,5 +258,5 @@ pub fn longest() -> Record {
     let mut entries = vec![longest; 3_269];
     entries[0] = Entry { what: What::Slot, time: None, comments: vec![] };
     let main = Line { start: 0, parent: 0, entries };
-    Record { header: vec![], position: Position { preset: 0, diagram: None }, lines: vec![main] }
+    Record { version: 1, header: vec![], position: Position { preset: 0, diagram: None }, lines: vec![main] }
 }

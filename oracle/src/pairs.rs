@@ -2,7 +2,7 @@
 
 use crate::call::Call;
 use crate::judge::{self, Answer, Outcome, LONGEST};
-use crate::record::LIMIT;
+use crate::record::{u16_at, LIMIT};
 
 /// What a put-in asks for: a line, and the text of a variation.
 pub type Asked = (u64, Vec<u8>);
@@ -34,6 +34,10 @@ fn answer_in(order: &[(Call, Outcome)], room: usize) -> Answer {
 /// does; else the blocks are the same, and so are the numbers of the new lines.
 pub fn agree(block: &[u8], one: &Asked, other: &Asked) -> u64 {
     let (there, back) = (in_order(block, one, other), in_order(block, other, one));
+    // 02 says it of version 1; of equals in version 2 the later stands first.
+    if u16_at(block, 2) == Some(2) {
+        return answer_in(&there, LONGEST).number;
+    }
     let needed = there.iter().chain(&back).filter_map(|(_, outcome)| outcome.needed());
     for room in needed.flat_map(|needed| [needed - 1, needed]).chain([0, LIMIT, LONGEST]) {
         let (a, b) = (answer_in(&there, room), answer_in(&back, room));

@@ -80,7 +80,7 @@ impl<'a> Player<'a> {
         let (position, stops) = (position(r), [12, 40, usize::MAX][r.below(3)]);
         let start = start(&position).unwrap_or(Play { diagram: even(), last: None });
         let main = Line { start: 0, parent: 0, entries: vec![entry(What::Slot)] };
-        let record = Record { header: vec![], position, lines: vec![main] };
+        let record = Record { version: 1, header: vec![], position, lines: vec![main] };
         Player { r, stops, plays: vec![vec![start.clone()]], start, record }
     }
 

@@ -62,6 +62,16 @@ extern "C" {
         first: Figure,
         second: Figure,
     );
+    #[cfg(feature = "kif_restate")]
+    fn kif_restate(
+        block: In,
+        block_len: usize,
+        out: Out,
+        out_len: usize,
+        number: Figure,
+        first: Figure,
+        second: Figure,
+    );
     #[cfg(feature = "kif_position")]
     fn kif_position(
         block: In,
@@ -122,6 +132,10 @@ pub fn answer(call: &Call, out: &mut [u8]) -> Answer {
         #[cfg(feature = "kif_cut")]
         Call::Cut { block, line, .. } => {
             lend(|n, a, b| unsafe { kif_cut(block.as_ptr(), block.len(), *line, at, room, n, a, b) })
+        }
+        #[cfg(feature = "kif_restate")]
+        Call::Restate { block, .. } => {
+            lend(|n, a, b| unsafe { kif_restate(block.as_ptr(), block.len(), at, room, n, a, b) })
         }
         #[cfg(feature = "kif_position")]
         Call::Position { block, line, entry } => {

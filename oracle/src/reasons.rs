@@ -2,10 +2,11 @@
 
 use crate::call::Call;
 use crate::judge;
-use crate::position::{Reason, REASONS};
+use crate::position::REASONS;
+use std::fmt::Debug;
 
-/// A run of so many cases that lacks a reason shows nothing of it, and so fails.
-const MANY: u64 = 100_000;
+/// A run of so many cases that lacks a reason, or anything else that is counted, shows nothing of it, and so fails.
+pub const MANY: u64 = 100_000;
 
 /// How many positions were asked for, and how many of these calls stopped for each reason, in the order of `REASONS`.
 #[derive(Clone, Copy, Default)]
@@ -27,19 +28,23 @@ impl Reasons {
         }
     }
 
-    /// Prints how often each reason came, and in a run of many cases those that never did; answers how many these are. Where no
-    /// position was asked for there is nothing to tell.
+    /// Where no position was asked for there is nothing to tell.
     pub fn report(&self, cases: u64) -> u64 {
-        if self.asked == 0 {
-            return 0;
+        match self.asked {
+            0 => 0,
+            asked => report(&format!("of {asked} positions play stopped for"), &REASONS, &self.counts, cases),
         }
-        let told = |(reason, count): (Reason, u64)| format!("{reason:?} {count}");
-        let counts: Vec<_> = REASONS.into_iter().zip(self.counts).map(told).collect();
-        println!("of {} positions play stopped for {}", self.asked, counts.join(", "));
-        let missing = self.counts.iter().filter(|count| cases >= MANY && **count == 0).count() as u64;
-        if missing > 0 {
-            println!("{missing} reasons never came");
-        }
-        missing
     }
+}
+
+/// Prints behind these words how often each thing came, and in a run of many cases how many never did; answers how many these are.
+pub fn report<T: Debug>(words: &str, things: &[T], counts: &[u64], cases: u64) -> u64 {
+    let told = |(thing, count)| format!("{thing:?} {count}");
+    let told: Vec<_> = things.iter().zip(counts).map(told).collect();
+    println!("{words} {}", told.join(", "));
+    let missing = counts.iter().filter(|count| cases >= MANY && **count == 0).count() as u64;
+    if missing > 0 {
+        println!("{missing} of these never came");
+    }
+    missing
 }

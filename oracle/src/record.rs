@@ -1,6 +1,7 @@
 //! The record that a block holds, and its bytes.   (01, The block)
 
 use crate::attach;
+use crate::trees::{written, Row};
 use std::str;
 
 /// The most bytes that a text or a block may have.
@@ -8,6 +9,8 @@ pub const LIMIT: usize = 65_535;
 
 #[derive(Clone, Debug, PartialEq, Eq)]
 pub struct Record {
+    /// 1, or 2 where parents are a free choice (02, vi).
+    pub version: usize,
     /// Keys and values, keys ascending by bytes.
     pub header: Vec<(String, String)>,
     pub position: Position,
@@ -85,6 +88,12 @@ impl Record {
         self.lines.iter().map(|line| (line.start, line.entries.len())).collect()
     }
 
+    /// The same with the parents.
+    pub fn rows(&self) -> Vec<Row> {
+        let row = |line: &Line| Row { start: line.start, count: line.entries.len(), parent: line.parent };
+        self.lines.iter().map(row).collect()
+    }
+
     /// 128 + 8H + 8L + 20M + 4C + text bytes.
     pub fn length(&self) -> usize {
         let headers: usize = self.header.iter().map(|(key, value)| 8 + key.len() + value.len()).sum();
@@ -94,14 +103,27 @@ impl Record {
 
     /// What 01 asks of a sound block's record, its bytes apart.
     pub fn is_well_formed(&self) -> bool {
-        let parents: Vec<_> = self.lines.iter().map(|line| line.parent).collect();
+        self.is_well_formed_in_parts() && self.hangs_well()
+    }
+
+    /// The same but for where its lines hang.
+    pub fn is_well_formed_in_parts(&self) -> bool {
         self.header.windows(2).all(|pair| pair[0].0 < pair[1].0)
             && self.position.is_well_formed()
             && self.entries().all(Entry::is_well_formed)
             && self.lines.iter().all(|line| !line.entries.is_empty())
             && self.entries().enumerate().all(|(at, entry)| (at == 0) == (entry.what == What::Slot))
-            && self.lines.first().is_some_and(|line| line.start == 0)
-            && attach::parents(&self.shape()) == Ok(parents)
+            && self.lines.first().is_some_and(|line| line.start == 0 && line.parent == 0)
+    }
+
+    /// By the attaching rule, or so that the Rust writes the lines in the order in which they stand.
+    fn hangs_well(&self) -> bool {
+        let parents: Vec<_> = self.lines.iter().map(|line| line.parent).collect();
+        match self.version {
+            1 => attach::parents(&self.shape()) == Ok(parents),
+            2 => written(&self.rows()).is_some_and(|order| order.into_iter().eq(0..self.lines.len())),
+            _ => false,
+        }
     }
 }
 
@@ -143,7 +165,7 @@ pub fn encode(record: &Record) -> Vec<u8> {
     }
     let mut block = b"KB".to_vec();
     let counts = [header.len() / 8, lines.len() / 8, entries.len() / 20, comments.len() / 4];
-    put(&mut block, &[1, record.length()]);
+    put(&mut block, &[record.version, record.length()]);
     put(&mut block, &counts);
     put(&mut block, &offsets(counts));
     block.extend([0; 4]);
@@ -230,7 +252,7 @@ pub fn decode(block: &[u8]) -> Option<Record> {
         })
         .collect::<Option<_>>()?;
     let position = decode_position(block.get(28..128)?);
-    Some(Record { header, position, lines })
+    Some(Record { version: u16_at(block, 2)?, header, position, lines })
 }
 
 /// The text part, taken text by text.

@@ -138,7 +138,7 @@ fn resigned() -> Entry {
 fn played(mut entries: Vec<Entry>) -> Record {
     entries.insert(0, entry(What::Slot, None));
     let main = Line { start: 0, parent: 0, entries };
-    Record { header: vec![], position: Position { preset: 0, diagram: None }, lines: vec![main] }
+    Record { version: 1, header: vec![], position: Position { preset: 0, diagram: None }, lines: vec![main] }
 }
 
 fn moves(n: &mut Digits) -> Record {

@@ -1,7 +1,7 @@
 //! Whether a slice is a sound block, sentence by sentence over its bytes.   (01, The block)
 
-use crate::attach;
 use crate::record::{offsets, u16_at, LIMIT};
+use crate::trees::{hang, Row};
 use std::{ops::Range, str};
 
 pub fn sound(block: &[u8]) -> bool {
@@ -11,6 +11,7 @@ pub fn sound(block: &[u8]) -> bool {
 /// A block whose head is right, so that every table lies within it.
 struct Parts<'a> {
     block: &'a [u8],
+    version: usize,
     counts: [usize; 4],
     offsets: [usize; 5],
 }
@@ -21,12 +22,12 @@ impl<'a> Parts<'a> {
         let counts: [usize; 4] = fields[3..7].try_into().unwrap();
         let offsets = offsets(counts);
         let right = block.starts_with(b"KB")
-            && fields[1] == 1
+            && [1, 2].contains(&fields[1])
             && fields[2] == block.len()
             && fields[7..12] == offsets
             && fields[12..] == [0, 0]
             && offsets[4] <= block.len();
-        right.then_some(Parts { block, counts, offsets })
+        right.then_some(Parts { block, version: fields[1], counts, offsets })
     }
 
     fn sound(&self) -> bool {
@@ -83,19 +84,18 @@ impl<'a> Parts<'a> {
         comments == self.counts[3]
     }
 
-    /// At least line 0; no line empty, their entries one after another without gaps; starts and parents by the rule.
+    /// At least line 0; no line empty, their entries one after another without gaps; starts and parents by the version's rule.
     fn lines(&self) -> bool {
-        let (mut entries, mut shape, mut given) = (0, Vec::new(), Vec::new());
+        let (mut entries, mut rows) = (0, Vec::new());
         for k in 0..self.counts[1] {
             let [start, first, count, parent] = [0, 2, 4, 6].map(|n| self.field(self.offsets[1] + 8 * k + n));
-            if first != entries || count == 0 || (k == 0 && start != 0) {
+            if first != entries || count == 0 {
                 return false;
             }
             entries += count;
-            shape.push((start as u64, count));
-            given.push(parent);
+            rows.push(Row { start: start as u64, count, parent });
         }
-        !shape.is_empty() && entries == self.counts[2] && attach::parents(&shape) == Ok(given)
+        entries == self.counts[2] && hang(self.version, &rows)
     }
 }
 

@@ -23,7 +23,7 @@ pub fn block(n: u64) -> Vec<u8> {
 fn record(diagram: Diagram, m: Move) -> Record {
     let entries = [What::Slot, What::Move(m)].map(|what| Entry { what, time: None, comments: vec![] }).to_vec();
     let main = Line { start: 0, parent: 0, entries };
-    Record { header: vec![], position: Position { preset: 16, diagram: Some(diagram) }, lines: vec![main] }
+    Record { version: 1, header: vec![], position: Position { preset: 16, diagram: Some(diagram) }, lines: vec![main] }
 }
 
 const BARE: Diagram = Diagram { turn: 0, cells: [0; 81], hands: [0; 14] };

@@ -38,7 +38,7 @@ pub fn record(head: &JsonKifuFormat, lines: &[Play]) -> Record {
     let initial = head.initial.as_ref().expect("the reader always gives an initial");
     let position = Position { preset: initial.preset as u8, diagram: initial.data.as_ref().map(diagram) };
     let line = |(start, moves): &Play| Line { start: *start, parent: 0, entries: moves.iter().map(entry).collect() };
-    Record { header, position, lines: lines.iter().map(line).collect() }
+    Record { version: 1, header, position, lines: lines.iter().map(line).collect() }
 }
 
 /// What the original's writer is given for a record.
@@ -125,7 +125,8 @@ pub fn entry(entry: &MoveFormat) -> Entry {
     Entry { what, time, comments: entry.comments.clone().unwrap_or_default() }
 }
 
-fn move_format(entry: &Entry) -> MoveFormat {
+/// An entry as the original has it, without what hangs on it.
+pub fn move_format(entry: &Entry) -> MoveFormat {
     let clock = |time: &Clock| TimeFormat { h: time.h, m: time.m, s: time.s };
     let (move_, special) = match &entry.what {
         What::Slot => (None, None),

@@ -41,9 +41,17 @@ const SPECIALS: [&str; 14] = [
 pub fn text(record: &Record, mode: Mode) -> String {
     let (slot, main) = record.lines[0].entries.split_first().expect("a line has an entry");
     let slot = format!("手数----指手---------消費時間--\n{}", comments(slot));
-    let variation = |line: &Line| format!("\n変化：{}手\n{}", line.start, played(&line.entries, line.start, mode));
-    let variations: String = record.lines[1..].iter().map(variation).collect();
-    [show_head(&translate::head(record)), slot, played(main, 1, mode), variations].concat()
+    let mut text = [show_head(&translate::head(record)), slot, played(main, 1, mode)].concat();
+    put_under(&mut text, &record.lines, 0, mode);
+    text
+}
+
+/// "a line writes its variations, and each of those is a line again"   (02, vi)
+fn put_under(text: &mut String, lines: &[Line], parent: usize, mode: Mode) {
+    for (k, line) in lines.iter().enumerate().skip(parent + 1).filter(|(_, line)| line.parent == parent) {
+        *text += &format!("\n変化：{}手\n{}", line.start, played(&line.entries, line.start, mode));
+        put_under(text, lines, k, mode);
+    }
 }
 
 /// Entries from a ply on, each with its comments.
