@@ -1,4 +1,6 @@
 /* Prunicheta's calls for C. A slice is a pointer and a length; a lent number is a pointer to it.
+ * A block is of version 1, as it is read, in which each variation hangs where the attaching rule finds it, or of version 2, as kif_restate makes it, in
+ * which a move may have several variations and the parents stand as they were given. Every call that takes a block takes both, but for kif_restate.
  * Every call takes every input. A refused call says so in *number (1 to 13, 15 to 17, and 20) and in its figures; 0 is success. 14 was a refusal of
  * kif_put_in that is never met, and is not used again. */
 #ifndef KIF_H
@@ -56,7 +58,8 @@ void kif_write(const uint8_t *block, size_t block_len, uint8_t *out, size_t out_
  *   0                     as kif_write, and so for any number but 1 and 2: without 不成, without the hour of what an entry itself took, with
  *                         an hour in every total, and without the lines from the first variation on that starts at ply 0;
  *   1                     losing nothing: kif_fill gives the block back, byte for byte, where each colour follows its ply, the text is within
- *                         65,535 bytes, and the block is one that was read, or edited by text, or made by hand with nothing that no text says;
+ *                         65,535 bytes, no move that is written has two variations, and the block is one that was read, or edited by text, or made by
+ *                         hand with nothing that no text says; a block of version 2 is given back as version 1;
  *   2                     as 1, and a move from (0,0) with 打, since other programs do not read the (00) of modes 0 and 1. 打 is read as (0,0).
  * 0, the text's length and how many lines it leaves out; or, in this order, 7 as kif_write; in modes 1 and 2
  *   20, line, 0           where that line, a variation, starts at ply 0;
@@ -71,7 +74,8 @@ void kif_write_as(const uint8_t *block, size_t block_len, uint64_t mode, uint8_t
  *   11, 0, 0              where the text is not one variation, is over 65,535 bytes or is not UTF-8, or a number in it is not one more
  *                         than the number before it;
  *   12, line, ply         where the ply is 0 or not one of the line's;
- *   13, line, ply         where a variation hangs there already;
+ *   13, line, ply         where the block is of version 1 and a variation hangs there already; in one of version 2 the new one is written
+ *                         before those that hang there;
  *   4, length, 0          where the block would be over 65,535 bytes, and this length is needed;
  *   5, length, 0          where out is shorter than the length needed.
  * Success changes only the new block's bytes, and a refusal nothing. */
@@ -84,6 +88,13 @@ void kif_put_in(const uint8_t *block, size_t block_len, uint64_t line, const uin
  *   5, length, 0          where out is shorter than the length needed.
  * Success changes only the new block's bytes, and a refusal nothing. */
 void kif_cut(const uint8_t *block, size_t block_len, uint64_t line, uint8_t *out, size_t out_len, uint64_t *number, uint64_t *first, uint64_t *second);
+
+/* Restates a block of version 1 as version 2: the same but for its byte 2. It goes into the front of out, which must not overlap it: 0, its
+ * length and 0; or, in this order,
+ *   7, 0, 0               where the slice is not just a sound block of version 1;
+ *   5, length, 0          where out is shorter than the length needed.
+ * Success changes only the block's bytes, and a refusal nothing. */
+void kif_restate(const uint8_t *block, size_t block_len, uint8_t *out, size_t out_len, uint64_t *number, uint64_t *first, uint64_t *second);
 
 /* The position after an entry of a line: what is played is the entries of its parents before the one that each line hangs on, then its own up to
  * and with this entry, from the record's diagram or from 平手. The sides move in turn, whatever colours the block has; 同 lands where the last move

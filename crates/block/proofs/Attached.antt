@@ -27,7 +27,8 @@ use Rattle.jkf.proofs.Hangings.{not-all}
 use Rattle.jkf.proofs.Nears.{near-none, near-before, hangs-same, Hangs, hangs-says, hangs-on}
 use Rattle.jkf.specs.Model.{Noted, Line}
 use Rattle.block.specs.Encode.{concat, entriesOf}
-use Rattle.block.specs.Sound.{sum, hangTest}
+use Rattle.jkf.specs.Trees.{hangTest}
+use Rattle.block.specs.Sound.{sum}
 use Rattle.block.specs.Formed.{lineOf, lineFits}
 use Rattle.block.proofs.Sums.{sum-suc, sum-rises, sum-within}
 use Rattle.block.proofs.Tabling.{concat-sum}

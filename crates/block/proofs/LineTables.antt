@@ -1,4 +1,4 @@
--- The table of lines in a block, and the same table by itself, have the same numbers, and say the same of where a line hangs.
+-- The table of lines in a block, and the same table by itself, have the same numbers.
 -- Assumes nothing.
 use Prim.Native.Nat.{ℕ, suc, _+_, _*_, _<_}
 use native.Mathlib.Omega.{arith}
@@ -8,10 +8,8 @@ use lib.ListN.{length, getD, take, drop}
 use lib.Seq.{getD-take, getD-drop}
 use Rattle.lent.specs.Bytes.{le16}
 use Rattle.jkf.specs.Model.{Line}
-use Rattle.jkf.specs.Attaching.{hangs}
-use Rattle.jkf.specs.Following.{startAt, countAt, parentAt}
-use Rattle.jkf.proofs.Nears.{hangs-same}
-use Rattle.block.specs.Decode.{linePlace, startOf, entryCount, parentOf}
+use Rattle.jkf.specs.Following.{startAt, parentAt}
+use Rattle.block.specs.Decode.{linePlace, startOf, parentOf}
 use Rattle.block.specs.Encode.{table, lineRow, lineStep}
 use Rattle.block.specs.Formed.{lineOf}
 use Rattle.block.proofs.Tabling.{after, table-row}
@@ -32,11 +30,6 @@ module _ (b : List ℕ) where
 
   pub table-parent : (j : ℕ) → parentAt (drop (linePlace b 0) b) j ≡ parentOf b j
   table-parent j = in-table (8 * j + 6) (linePlace b j + 6) (omega arith)
-
-  pub table-hangs : (s k : ℕ) → hangs (startAt (drop (linePlace b 0) b)) (countAt (drop (linePlace b 0) b)) s k ≡ hangs (startOf b) (entryCount b) s k
-  table-hangs s k =
-      hangs-same (startAt (drop (linePlace b 0) b)) (startOf b) (countAt (drop (linePlace b 0) b)) (entryCount b) table-start
-      (λ j. in-table (8 * j + 4) (linePlace b j + 4) (omega arith)) s k
 
 -- ---- read back from a table
 

@@ -8,7 +8,10 @@ use Rattle.block.specs.EntryBytes.{entryIn}
 use Rattle.block.specs.PositionBytes.{positionIn}
 use Rattle.jkf.specs.Model.{Header, Noted, Line, Record}
 
--- ---- counts, and where the parts and their rows stand
+-- ---- the version, counts, and where the parts and their rows stand
+
+abbrev pub versionIn : List ℕ → ℕ
+versionIn b = le16 b 2
 
 abbrev pub headersIn : List ℕ → ℕ
 headersIn b = le16 b 6
@@ -116,7 +119,7 @@ lineIn b k =
 unfoldable pub decode : List ℕ → Record
 decode b =
     record {
-      version = le16 b 2;
+      version = versionIn b;
       headers = run (headerIn b) 0 (headersIn b);
       position = positionIn (drop 28 b);
       lines = run (lineIn b) 0 (linesIn b);

@@ -9,10 +9,11 @@ use lib.Dec.{ltb}
 use Rattle.lists.specs.Pick.{pick}
 use Rattle.lists.specs.Test.{Test, _atMost_, holds, _and_, each, claim}
 use Rattle.jkf.specs.declared.Entry.the-variants.{Slot}
+use Rattle.jkf.specs.Trees.{isVersion, hangTest}
 use Rattle.jkf.specs.Model.{Header, Noted, Line, Record}
 use Rattle.block.specs.Encode.{encode, entriesOf, commentsOf}
 use Rattle.text.specs.Text.{before}
-use Rattle.block.specs.Sound.{valid, fitsTest, kindTest, hangTest}
+use Rattle.block.specs.Sound.{valid, fitsTest, kindTest}
 
 -- Element k of a list; past its end an empty one.
 abbrev pub headerOf : List Header → ℕ → Header
@@ -38,7 +39,7 @@ lineFits version ls k =
     and hangTest version (λ j. lineOf ls j .start) (λ j. length (lineOf ls j .entries)) (λ j. lineOf ls j .parent) k
 
 pub record Formed (r : Record) : Type 0 where
-  pub version : r .version ≡ 1
+  pub version : isVersion (r .version) ≡ true
   pub short : length (encode r) ≤ 65535
   pub bytes : (k : ℕ) → getD (encode r) k 0 < 256
   pub cells : length (r .position .cells) ≡ 81

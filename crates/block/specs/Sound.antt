@@ -1,6 +1,6 @@
 -- What a sound block keeps: a test for each sentence of 01, which is both the Bool that is computed and the fact that it says. `equals` and
 -- `atMost` are weaker than `+`, and `and` is weaker than they.
--- (01, The block; Attaching rule)
+-- (01, The block; Attaching rule; 02, request (vi))
 -- Assumes nothing: these are definitions.
 use Prim.Native.Nat.{ℕ, zero, suc, _+_}
 use mathlib.Core.List.{List}
@@ -14,11 +14,11 @@ use Rattle.text.specs.Text.{before, same}
 use Rattle.text.specs.Utf8.{wellFormedBytes}
 use Rattle.block.specs.EntryBytes.{entryIn, entryBytes}
 use Rattle.block.specs.PositionBytes.{positionIn}
-use Rattle.jkf.specs.Attaching.{hangs, onHang}
+use Rattle.jkf.specs.Trees.{isVersion, hangTest}
 use Rattle.jkf.specs.declared.Entry.{Entry}
 use Rattle.jkf.specs.declared.Entry.the-variants.{Slot, Moved, End}
 use Rattle.jkf.specs.declared.Position.{Position}
-use Rattle.block.specs.Decode.{headersIn, linesIn, movesIn, commentsIn, linePlace, movePlace, commentPlace, textPlace, keyOffset, keyLength, valueOffset, valueLength, startOf, firstEntry, entryCount, parentOf, commentCount, commentOffset, commentLength, keyOf, valueOf, commentOf}
+use Rattle.block.specs.Decode.{versionIn, headersIn, linesIn, movesIn, commentsIn, linePlace, movePlace, commentPlace, textPlace, keyOffset, keyLength, valueOffset, valueLength, startOf, firstEntry, entryCount, parentOf, commentCount, commentOffset, commentLength, keyOf, valueOf, commentOf}
 
 -- ---- words
 
@@ -33,14 +33,14 @@ valid t = wellFormedBytes t equals length t
 
 -- ---- the head                                                                                       (01, The block: bytes 0 to 27)
 
--- `KB`, version 1, its own length, and four zeros behind the offsets.
+-- `KB`, version 1 or 2, its own length, and four zeros behind the offsets.                           (02, request (vi): version 2)
 abbrev pub headTest : List ℕ → Test
 headTest b =
     128 atMost length b
     and length b atMost 65535
     and getD b 0 0 equals 75
     and getD b 1 0 equals 66
-    and le16 b 2 equals 1
+    and holds (isVersion (versionIn b))
     and le16 b 4 equals length b
     and le16 b 24 equals 0
     and le16 b 26 equals 0
@@ -137,25 +137,17 @@ entryTest b k =
     (same (take 20 (drop (movePlace b k) b))
     (entryBytes e (pick (eqb (commentCount b k) 0) 0 (commentsBefore b k)) (commentCount b k)))
 
--- ---- the lines                                                                                      (01, The block: line; Attaching rule)
+-- ---- the lines                                                                                      (01, The block: line)
 
 abbrev pub entriesBefore : List ℕ → ℕ → ℕ
 entriesBefore b = sum (λ k. entryCount b k)
 
--- Line 0 starts at 0 and has no parent; any other hangs on the parent that the attaching rule finds. The version is not looked at: there is
--- one so far.
-abbrev pub hangTest : ℕ → (ℕ → ℕ) → (ℕ → ℕ) → (ℕ → ℕ) → ℕ → Test
-hangTest version start count parent k =
-    holds
-    (pick (eqb k 0)
-    (flag (start 0 equals 0 and parent 0 equals 0))
-    (onHang (hangs start count (start k) k) (λ p e. eqb (parent k) p) false))
-
+-- No line is empty, their entries follow one another, and each hangs as the block's version asks.
 abbrev pub lineTest : List ℕ → ℕ → Test
 lineTest b k =
     firstEntry b k equals entriesBefore b k
     and 1 atMost entryCount b k
-    and hangTest (le16 b 2) (startOf b) (entryCount b) (parentOf b) k
+    and hangTest (versionIn b) (startOf b) (entryCount b) (parentOf b) k
 
 -- ---- the whole
 

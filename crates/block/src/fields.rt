@@ -3,7 +3,7 @@ ghost use mathlib.Core.Path.{_≡_};
 ghost use Prim.Native.Nat.{_+_, _*_, _≤_, _<_};
 ghost use lib.ListN.{length};
 ghost use Rattle.lent.specs.Bytes.{le16};
-ghost use Rattle.block.specs.Decode.{headersIn, linesIn, movesIn, commentsIn, linePlace, movePlace, commentPlace, textPlace, keyOffset, keyLength, valueOffset, valueLength, startOf, firstEntry, entryCount, parentOf, commentCount};
+ghost use Rattle.block.specs.Decode.{versionIn, headersIn, linesIn, movesIn, commentsIn, linePlace, movePlace, commentPlace, textPlace, keyOffset, keyLength, valueOffset, valueLength, startOf, firstEntry, entryCount, parentOf, commentCount};
 ghost use Rattle.block.specs.Sound.{sum, entriesBefore, commentsBefore, headerBytes, commentBytes};
 
 // The number of two bytes at a place that has both.
@@ -12,6 +12,12 @@ pub(crate) fn pair(b: &[u8], at: usize) -> usize
     ensures { λ r. ⌜ (r ≡ le16 (now (b .entry)) at) × (r < 65536) ⌝ }
 {
     lent::wide(b[at]) + 256 * lent::wide(b[at + 1])
+}
+
+pub(crate) fn version(b: &[u8]) -> usize
+    ensures { λ r. ⌜ (r ≡ versionIn (now (b .entry))) × (r < 65536) ⌝ }
+{
+    lent::get16(b, 2)
 }
 
 pub(crate) fn headers(b: &[u8]) -> usize

@@ -44,6 +44,7 @@ pub use views::start_of;
 pub use views::texts_of;
 pub use views::value_in;
 pub use views::value_of;
+pub use views::version_in;
 ghost use mathlib.Core.Path.{_≡_};
 ghost use Rattle.block.specs.Sound.{soundb};
 

@@ -1,16 +1,15 @@
 // The tests of a sound block's position and lines.
 use crate::fields;
 use crate::position_bytes::position_in;
-use jkf::Hang;
 use jkf::Position;
 ghost use mathlib.Core.Path.{_≡_};
-ghost use Prim.Native.Nat.{_<_};
-ghost use lib.ListN.{length, drop, getD};
+ghost use Prim.Native.Nat.{_-_, _<_};
+ghost use lib.ListN.{length, getD};
 ghost use Rattle.lists.specs.Test.{_equals_, holds, each, flag};
-ghost use Rattle.lent.specs.Bytes.{le16};
-ghost use Rattle.jkf.specs.Following.{Linked};
-ghost use Rattle.block.specs.Decode.{linesIn, linePlace, startOf, entryCount, parentOf};
-ghost use Rattle.block.specs.Sound.{isCell, diagramTest, fitsTest, positionTest, hangTest, lineTest, entriesBefore};
+ghost use Rattle.jkf.specs.Trees.{hasPly, hangTest, HangAs};
+ghost use Rattle.jkf.specs.inner.Climbing.{climb, follows};
+ghost use Rattle.block.specs.Decode.{versionIn, linesIn, startOf, entryCount, parentOf};
+ghost use Rattle.block.specs.Sound.{isCell, diagramTest, fitsTest, positionTest, lineTest, entriesBefore};
 
 pub(crate) fn all_zero(s: &[u8]) -> bool
     ensures { λ r. ⌜ r ≡ flag (each (length (now (s .entry))) (λ i. getD (now (s .entry)) i 0 equals 0)) ⌝ }
@@ -99,27 +98,73 @@ pub(crate) fn position_sound(b: &[u8]) -> bool
     position_fits(position_in(lent::rest(b, 28)))
 }
 
-// Line 0 starts at 0 and has no parent; any other hangs where the attaching rule says. The parents of the lines before are known right.
-fn hangs_right(b: &[u8], k: usize) -> bool
-    requires { ⌜ (k < 65536) × Linked (drop (linePlace (now b) 0) (now b)) k ⌝ }
-    ensures { λ r. ⌜ r ≡ flag (hangTest (le16 (now (b .entry)) 2) (startOf (now (b .entry))) (entryCount (now (b .entry))) (parentOf (now (b .entry))) k) ⌝ }
+// Whether line p has a ply.
+fn has_ply(b: &[u8], p: usize, ply: usize) -> bool
+    requires { ⌜ p < 65536 ⌝ }
+    ensures { λ r. ⌜ r ≡ hasPly (startOf (now (b .entry)) p) (entryCount (now (b .entry)) p) ply ⌝ }
 {
-    if k == 0 {
-        if fields::start_of(b, 0) != 0 {
-            return false;
-        }
-        return fields::parent_of(b, 0) == 0;
-    }
-    let table = lent::rest(b, fields::line_place(b, 0));
-    let Hang::On(p, _) = jkf::hang_of(table, k, fields::start_of(b, k) as u64) else {
+    let start = fields::start_of(b, p);
+    if ply < start {
         return false;
-    };
-    fields::parent_of(b, k) as u64 == p
+    }
+    ply - start < fields::entry_count(b, p)
+}
+
+// From the line before line k up the parents, to the first whose parent is not past line p.
+fn climb(b: &[u8], k: usize, p: usize) -> usize
+    requires { ⌜ (0 < k) × (k < 65536) × HangAs (versionIn (now b)) (startOf (now b)) (entryCount (now b)) (parentOf (now b)) k ⌝ }
+    ensures { λ r. ⌜ (r ≡ climb (parentOf (now (b .entry))) p k (k - 1)) × (r < 65536) ⌝ }
+{
+    let mut q = k - 1;
+    let mut up = fields::parent_of(b, q);
+    while p < up {
+        q = up;
+        up = fields::parent_of(b, q);
+    }
+    q
+}
+
+// Whether line q hangs on line k's parent p too, and line k starts below it, or in version 2 not above it.
+fn follows(b: &[u8], k: usize, p: usize, q: usize) -> bool
+    requires { ⌜ (k < 65536) × (q < 65536) × (p ≡ parentOf (now b) k) ⌝ }
+    ensures { λ r. ⌜ r ≡ follows (versionIn (now (b .entry))) (startOf (now (b .entry))) (parentOf (now (b .entry))) k q ⌝ }
+{
+    if fields::parent_of(b, q) != p {
+        return false;
+    }
+    let start = fields::start_of(b, k);
+    let before = fields::start_of(b, q);
+    if fields::version(b) == 1 {
+        return start < before;
+    }
+    start <= before
+}
+
+// Line 0 starts at 0 and has no parent; any other hangs as the version asks. The lines before are known to.
+fn hangs_right(b: &[u8], k: usize) -> bool
+    requires { ⌜ (k < 65536) × HangAs (versionIn (now b)) (startOf (now b)) (entryCount (now b)) (parentOf (now b)) k ⌝ }
+    ensures { λ r. ⌜ r ≡ flag (hangTest (versionIn (now (b .entry))) (startOf (now (b .entry))) (entryCount (now (b .entry))) (parentOf (now (b .entry))) k) ⌝ }
+{
+    let p = fields::parent_of(b, k);
+    let start = fields::start_of(b, k);
+    if k == 0 {
+        return start == 0 && p == 0;
+    }
+    if k <= p {
+        return false;
+    }
+    if !has_ply(b, p, start) {
+        return false;
+    }
+    if p + 1 == k {
+        return true;
+    }
+    follows(b, k, p, climb(b, k, p))
 }
 
 // Line k, whose entries begin with this one.
 fn line_sound(b: &[u8], k: usize, first: usize) -> bool
-    requires { ⌜ (k < 65536) × (first ≡ entriesBefore (now b) k) × Linked (drop (linePlace (now b) 0) (now b)) k ⌝ }
+    requires { ⌜ (k < 65536) × (first ≡ entriesBefore (now b) k) × HangAs (versionIn (now b)) (startOf (now b)) (entryCount (now b)) (parentOf (now b)) k ⌝ }
     ensures { λ r. ⌜ r ≡ flag (lineTest (now (b .entry)) k) ⌝ }
 {
     if fields::first_entry(b, k) != first {

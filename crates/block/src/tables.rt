@@ -7,9 +7,21 @@ ghost use Prim.Native.Nat.{_+_, _*_, _≤_, _<_};
 ghost use lib.ListN.{length, getD};
 ghost use Rattle.lists.specs.Test.{_and_, each, flag};
 ghost use Rattle.text.specs.Utf8.{isNext};
+ghost use Rattle.jkf.specs.Trees.{isVersion};
 ghost use Rattle.block.specs.inner.Tests.{headerStands, commentStands};
-ghost use Rattle.block.specs.Decode.{headersIn, commentsIn, commentPlace, textPlace};
+ghost use Rattle.block.specs.Decode.{versionIn, headersIn, commentsIn, commentPlace, textPlace};
 ghost use Rattle.block.specs.Sound.{headTest, partsTest, totalsTest, headerBytes, commentBytes, ascends, headerTest, commentTest};
+
+// Whether the version is one that there is.
+fn has_version(b: &[u8]) -> bool
+    ensures { λ r. ⌜ r ≡ isVersion (versionIn (now (b .entry))) ⌝ }
+{
+    let v = fields::version(b);
+    if v == 1 {
+        return true;
+    }
+    v == 2
+}
 
 pub(crate) fn head_sound(b: &[u8]) -> bool
     ensures { λ r. ⌜ r ≡ flag (headTest (now (b .entry))) ⌝ }
@@ -26,7 +38,7 @@ pub(crate) fn head_sound(b: &[u8]) -> bool
     if lent::peek(b, 1) != b'B' {
         return false;
     }
-    if lent::get16(b, 2) != 1 {
+    if !has_version(b) {
         return false;
     }
     if lent::get16(b, 4) != b.len() {

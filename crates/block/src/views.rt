@@ -10,8 +10,15 @@ ghost use Prim.Native.Nat.{_<_};
 ghost use lib.ListN.{take, drop};
 ghost use Rattle.block.specs.EntryBytes.{entryIn};
 ghost use Rattle.block.specs.PositionBytes.{positionIn};
-ghost use Rattle.block.specs.Decode.{headersIn, linesIn, movesIn, movePlace, textPlace, keyOffset, keyLength, valueOffset, valueLength, startOf, firstEntry, entryCount, parentOf, firstComment, commentCount, keyOf, valueOf, commentOf};
+ghost use Rattle.block.specs.Decode.{versionIn, headersIn, linesIn, movesIn, movePlace, textPlace, keyOffset, keyLength, valueOffset, valueLength, startOf, firstEntry, entryCount, parentOf, firstComment, commentCount, keyOf, valueOf, commentOf};
 ghost use Rattle.block.specs.Sound.{headerBytes};
+
+// The version.
+pub fn version_in(b: &[u8]) -> usize
+    ensures { λ r. ⌜ (r ≡ versionIn (now (b .entry))) × (r < 65536) ⌝ }
+{
+    fields::version(b)
+}
 
 // How many header entries there are.
 pub fn headers_in(b: &[u8]) -> usize

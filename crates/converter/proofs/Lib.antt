@@ -1,4 +1,5 @@
 pub mod Runs
+pub mod Branches
 pub mod Ranged
 pub mod Keyed
 pub mod Ascending
@@ -10,6 +11,7 @@ pub mod Worded
 pub mod Saying
 pub mod Showing
 pub mod Playing
+pub mod Recursion
 pub mod Lengthy
 pub mod Usually
 pub mod Counted

@@ -1,6 +1,7 @@
 -- The texts of what a function makes of numbers in a row, one more at a time or the first one first: of comments, of entries and of any parts.
 -- A front of the whole is no longer than it.
---     concat-first                 the first one, then the others
+--     concat-first, concat-next    the first one, then the others
+--     concat-both, concat-cut      some, then the others
 --     ..-more                      one more at the end
 --     ..-front                     the front and the piece after it are no longer than the whole
 --     ..-step                      the piece was written after the front
@@ -17,7 +18,7 @@ use Rattle.lent.proofs.Writes.{as-text, then}
 use Rattle.jkf.specs.Model.{Noted}
 use Rattle.block.specs.Encode.{concat}
 use Rattle.block.specs.Decode.{run}
-use Rattle.block.proofs.Tabling.{length-run, run-cut, run-first, run-more, concat-append, concat-none, concat-more, concat-longer}
+use Rattle.block.proofs.Tabling.{length-run, run-add, run-cut, run-first, run-more, concat-append, concat-none, concat-more, concat-longer}
 use Rattle.converter.specs.Entries.{remarkText, remarksText, notedText, entriesText}
 
 -- ---- lists one after the other
@@ -27,6 +28,19 @@ module _ {X Y : Type 0} (part : X → List Y) (g : ℕ → X) (k : ℕ) where
   pub concat-first : (n : ℕ) → 1 ≤ n → concat part (run g k n) ≡ part (g k) ++ concat part (run g (k + 1) (n - 1))
   unfolding concat
   concat-first n h = ap (concat part) (run-first g k n h)
+
+  pub concat-next : (n : ℕ) → concat part (run g k (1 + n)) ≡ part (g k) ++ concat part (run g (k + 1) n)
+  concat-next n =
+      let e : 1 + n - 1 ≡ n = omega arith in
+      concat-first (1 + n) (omega arith) ∙ ap (λ (i : ℕ). part (g k) ++ concat part (run g (k + 1) i)) e
+
+  -- some, then the others
+  pub concat-both : (m n : ℕ) → concat part (run g k (m + n)) ≡ concat part (run g k m) ++ concat part (run g (k + m) n)
+  concat-both m n = ap (concat part) (run-add g k m n) ∙ concat-append part (run g k m) (run g (k + m) n)
+
+  -- a front, and what is left
+  pub concat-cut : (i n : ℕ) → i ≤ n → concat part (run g k n) ≡ concat part (run g k i) ++ concat part (run g (k + i) (n - i))
+  concat-cut i n h = ap (concat part) (run-cut g k i n h) ∙ concat-append part (run g k i) (run g (k + i) (n - i))
 
   -- a front and the part after it are no longer than the whole
   pub concat-front : (i n : ℕ) → i < n → length (concat part (run g k i)) + length (part (g (k + i))) ≤ length (concat part (run g k n))

@@ -1,3 +1,4 @@
 pub mod Usuals
 pub mod Places
 pub mod Lines
+pub mod Branches

@@ -18,12 +18,19 @@ ghost use Rattle.lent.specs.Numbers.{decimal, padded};
 ghost use Rattle.block.specs.EntryBytes.{entryIn};
 ghost use Rattle.jkf.specs.Entries.{specialOf};
 ghost use Rattle.block.specs.Encode.{concat};
-ghost use Rattle.block.specs.Decode.{run, movesIn, linesIn, commentOf, notedIn, decode};
+ghost use Rattle.jkf.specs.Trees.{notBefore};
+ghost use Rattle.block.specs.Decode.{run, movesIn, linesIn, parentOf, commentOf, notedIn, lineIn, decode};
 ghost use Rattle.block.specs.inner.Sounds.{Sound};
 ghost use Rattle.converter.specs.Entries.{targetText, promoteText, originText, moveText, kindWidth, promoteWidth, originWidth, moveWidth, specialWidth, figureText, clockText, timePadding, timeText, playText, widthOf, entryLine, starText, remarkText, remarksText, notedText, entriesText};
 ghost use Rattle.converter.specs.Said.{saidEntry, saidLines};
 ghost use Rattle.converter.specs.Show.{mainText, variationHead, variationText, linesText};
 ghost use Rattle.converter.specs.inner.Lines.{notedSaid, lineSaid, ShownLines};
+
+// So many bytes and so many lines were written.
+struct Written {
+    bytes: usize,
+    lines: usize,
+}
 
 // 同 and a wide space, or a file and a rank.
 fn put_target(out: &mut [u8], to: Target) -> usize
@@ -367,16 +374,39 @@ fn put_variation(out: &mut [u8], b: &[u8], mode: Mode, k: usize) -> usize
         )
 }
 
-// Line k and those after it, of which n are still to come.   (the Rust's write_move_lines)
-fn put_variations(out: &mut [u8], b: &[u8], mode: Mode, k: usize, n: usize) -> usize
-    requires { ⌜ Sound (now b) × (k + n ≤ linesIn (now b)) × (length (concat variationText (run (lineSaid mode (now b)) k n)) ≤ length (now out)) ⌝ }
-    ensures { λ r. ⌜ Wrote (concat variationText (run (lineSaid mode (now (b .entry))) k n)) (now (out .entry)) (now (out .exit)) r ⌝ }
+// Line k and all that hangs from it, of which n lines are unwritten.   (the Rust's write_move_lines)
+fn put_line(out: &mut [u8], b: &[u8], mode: Mode, k: usize, n: usize) -> Written
+    requires { ⌜ Sound (now b) × (0 < k) × (0 < n) × (k + n ≤ linesIn (now b)) × (length (concat variationText (run (lineSaid mode (now b)) k n)) ≤ length (now out)) ⌝ }
+    ensures { λ r. ⌜ r .lines ≡ 1 + notBefore k (run (lineIn (now (b .entry))) (k + 1) (n - 1)) ⌝ }
+    ensures { λ r. ⌜ Wrote (concat variationText (run (lineSaid mode (now (b .entry))) k (r .lines))) (now (out .entry)) (now (out .exit)) (r .bytes) ⌝ }
+{
+    let m = put_variation(out, b, mode, k);
+    let r = put_under(&mut out[m..], b, mode, k, k + 1, n - 1);
+    Written {
+        bytes: m + r.bytes,
+        lines: 1 + r.lines,
+    }
+}
+
+// The lines on line p from line k on, each with all that hangs from it, of which n lines are unwritten.
+fn put_under(out: &mut [u8], b: &[u8], mode: Mode, p: usize, k: usize, n: usize) -> Written
+    requires { ⌜ Sound (now b) × (0 < k) × (k + n ≤ linesIn (now b)) × (0 < n → parentOf (now b) k ≤ p) × (length (concat variationText (run (lineSaid mode (now b)) k n)) ≤ length (now out)) ⌝ }
+    ensures { λ r. ⌜ r .lines ≡ notBefore p (run (lineIn (now (b .entry))) k n) ⌝ }
+    ensures { λ r. ⌜ Wrote (concat variationText (run (lineSaid mode (now (b .entry))) k (r .lines))) (now (out .entry)) (now (out .exit)) (r .bytes) ⌝ }
 {
     if n == 0 {
-        return 0;
+        return Written { bytes: 0, lines: 0 };
     }
-    let m = put_variation(out, b, mode, k);
-    m + put_variations(&mut out[m..], b, mode, k + 1, n - 1)
+    if block::parent_of(b, k as u16) != p {
+        return Written { bytes: 0, lines: 0 };
+    }
+    let f = put_line(out, b, mode, k, n);
+    let m = f.bytes;
+    let r = put_under(&mut out[m..], b, mode, p, k + f.lines, n - f.lines);
+    Written {
+        bytes: m + r.bytes,
+        lines: f.lines + r.lines,
+    }
 }
 
 // Line 0: the comments of its slot, and its entries from 1 on.
@@ -398,5 +428,5 @@ pub(crate) fn put_moves(out: &mut [u8], b: &[u8], mode: Mode, lines: usize) -> u
         b"\xe6\x89\x8b\xe6\x95\xb0----\xe6\x8c\x87\xe6\x89\x8b---------\xe6\xb6\x88\xe8\xb2\xbb\xe6\x99\x82\xe9\x96\x93--\n",
     );
     let m = n + put_main(&mut out[n..], b, mode);
-    m + put_variations(&mut out[m..], b, mode, 1, lines - 1)
+    m + put_under(&mut out[m..], b, mode, 0, 1, lines - 1).bytes
 }

@@ -3,32 +3,30 @@
 use Prim.Native.Nat.{ℕ, zero, suc, _+_, _-_, _≤_}
 use native.Mathlib.Omega.{arith}
 use mathlib.Core.Path.{_≡_, refl, sym, ap, ap₂, _∙_, subst}
-use mathlib.Core.List.{List, [], _∷_, _++_}
+use mathlib.Core.List.{List, _++_, map}
 use mathlib.Core.Bool.{true}
 use lib.Dec.{ltb}
 use borrow.Author.Tests.{ltb-false}
 use Rattle.lists.proofs.Laws.{by-pick}
-use lib.ListN.{length, take, drop, length-append, length-drop}
+use lib.ListN.{length, drop, length-append, length-drop}
 use Rattle.jkf.specs.Answers.{Outcome}
 use Rattle.jkf.specs.declared.Answer.{Answer}
 use Rattle.jkf.specs.declared.Answer.the-variants.{Done}
 use Rattle.jkf.specs.declared.Position.{Position}
 use Rattle.jkf.specs.Model.{Header, Noted, Line}
-use Rattle.jkf.specs.Attaching.{Play, attach}
 use Rattle.block.specs.PositionBytes.{positionBytes, positionIn}
 use Rattle.block.specs.Encode.{blockLength, headerText, entriesOf, commentsOf, commentText, encodeFlat, encode}
-use Rattle.block.specs.Decode.{run, headersIn, linesIn, movesIn, keyLength, valueLength, keyOf, valueOf, headerIn, notedIn, decode}
+use Rattle.block.specs.Decode.{run, headersIn, linesIn, movesIn, keyLength, valueLength, keyOf, valueOf, headerIn, notedIn, lineIn, decode}
 use Rattle.block.specs.inner.Sounds.{Sound}
 use Rattle.block.specs.Sound.{headerBytes, entriesBefore}
 use Rattle.block.proofs.ByteArrays.{bytes-length}
 use Rattle.block.proofs.PositionsBack.{position-length}
 use Rattle.block.proofs.Sums.{sum-none, sum-suc}
-use Rattle.block.proofs.Tabling.{length-run, run-snoc, concat-snoc, concat-none, take-run, drop-run}
+use Rattle.block.proofs.Tabling.{length-run, run-snoc, concat-snoc, concat-none, map-run}
 use Rattle.block.proofs.Lengths.{block-length}
 use Rattle.block.proofs.Within.{key-length, value-length}
-use Rattle.block.proofs.Attached.{attach-length}
 use Rattle.filling.specs.inner.Parts.{Opens}
-use Rattle.filling.specs.Filling.{unlessRefused, atFront, areSmall, lengthOf, opening, opened, Grown, putAll}
+use Rattle.filling.specs.Filling.{unlessRefused, atFront, areSmall, lengthOf, opening, opened, Grown}
 use Rattle.filling.specs.inner.Parts.{sizesOf, onOpening, putHeaders}
 use Rattle.filling.specs.declared.Sizes.{Sizes}
 use Rattle.filling.specs.declared.Walk.{Walk}
@@ -37,14 +35,11 @@ use Rattle.filling.specs.declared.Opening.the-variants.{Begun, Refused}
 use Rattle.filling.proofs.Growing.{all-then}
 use Rattle.filling.proofs.Putting.{length-is, not-begun, begun-walk, begun-total, opens, refuses, unrefused}
 use Rattle.filling.proofs.Wholes.{opened-lines, opened-block}
-use Rattle.plays.specs.inner.Entries.{playEntries}
-use Rattle.edit.specs.inner.Splicing.{relined, linesAfter, recordAfter, Lines, playIn, putPlay, putPlays, entriesAfter, addedSizes, sizesAfter, headersPut, beginning, beginningOf}
-use Rattle.edit.specs.Edit.{playsIn}
+use Rattle.edit.specs.inner.Splicing.{shifted, relined, linesAfter, recordAfter, putWhole, putWholes, entriesAfter, addedSizes, sizesAfter, headersPut, beginning, beginningOf}
+use Rattle.edit.specs.Edit.{reparented}
 use Rattle.edit.specs.Outcomes.{editStored}
-use Rattle.edit.proofs.Played.{plays-are}
 use Rattle.edit.proofs.Hung.{lines-put}
-use Rattle.edit.proofs.Sounds.{entries-after}
-use Rattle.edit.proofs.Afresh.{after-length}
+use Rattle.edit.proofs.Runs.{moved, after-is, after-length, entries-after}
 use Rattle.edit.proofs.Measured.{entries-three, comments-three, bytes-three, sizes-same}
 
 -- ---- the header entries of a sound block
@@ -64,16 +59,16 @@ module _ (b : List ℕ) (s : Sound b) where
 
 -- ---- a block that lacks its lines
 
-module _ (b o : List ℕ) {z y : Sizes} (sized : z ≡ y) {p : Position} (at : p ≡ positionIn (drop 28 b)) {o₁ : List ℕ} (left : o₁ ≡ opened 1 z p o) where
-  left-is : o₁ ≡ opened 1 y (positionIn (drop 28 b)) o
-  left-is = left ∙ ap₂ (λ (c : Sizes) (d : Position). opened 1 c d o) sized at
+module _ (version : ℕ) (b o : List ℕ) {z y : Sizes} (sized : z ≡ y) {p : Position} (at : p ≡ positionIn (drop 28 b)) {o₁ : List ℕ} (left : o₁ ≡ opened version z p o) where
+  left-is : o₁ ≡ opened version y (positionIn (drop 28 b)) o
+  left-is = left ∙ ap₂ (λ (c : Sizes) (d : Position). opened version c d o) sized at
 
-  pub begins-not : {a : Answer} → Refused a ≡ opening z (length o) → (Refused a ≡ beginning b y o) × (o₁ ≡ beginningOf b y o)
+  pub begins-not : {a : Answer} → Refused a ≡ opening z (length o) → (Refused a ≡ beginning version b y o) × (o₁ ≡ beginningOf version b y o)
   unfolding beginning beginningOf
   begins-not {a} e = rw (← (e ∙ ap (λ (c : Sizes). opening c (length o)) sized)) (refl, left-is)
 
   pub begins : {w v : Walk} {n : ℕ} {o₂ : List ℕ} → Begun w n ≡ opening z (length o) → v ≡ headersPut b w o₁ .walk → o₂ ≡ headersPut b w o₁ .buffer
-      → (Begun v n ≡ beginning b y o) × (o₂ ≡ beginningOf b y o)
+      → (Begun v n ≡ beginning version b y o) × (o₂ ≡ beginningOf version b y o)
   unfolding beginning beginningOf
   begins {w} {v} {n} {o₂} e f g =
       rw (← (e ∙ ap (λ (c : Sizes). opening c (length o)) sized))
@@ -86,24 +81,24 @@ pub position-long : (b : List ℕ) → length (positionBytes (positionIn (drop 2
 unfolding positionIn
 position-long b = position-length (positionIn (drop 28 b)) (bytes-length (drop 28 b) 4 81) (bytes-length (drop 28 b) 85 14)
 
-module _ (b : List ℕ) (s : Sound b) (p q : ℕ) (vs : List Play) (within : (p ≤ q) × (q ≤ linesIn b)) where
+module _ (version : ℕ) (b : List ℕ) (s : Sound b) (p q : ℕ) (vs : List Line) (within : (p ≤ q) × (q ≤ linesIn b)) where
   abbrev hd : List Header
   hd = run (headerIn b) 0 (headersIn b)
 
   abbrev ls : List Line
-  ls = attach (linesAfter b p q vs)
+  ls = linesAfter b p q vs
 
   abbrev start : Position
   start = positionIn (drop 28 b)
 
   abbrev block : List ℕ
-  block = encode (recordAfter b p q vs)
+  block = encode (recordAfter version b p q vs)
 
-  block-is : encodeFlat 1 (positionBytes start) hd ls (entriesOf ls) (commentsOf (entriesOf ls)) ≡ block
+  block-is : encodeFlat version (positionBytes start) hd ls (entriesOf ls) (commentsOf (entriesOf ls)) ≡ block
   unfolding encode relined decode
-  block-is = ap (λ (v : ℕ). encodeFlat v (positionBytes start) hd ls (entriesOf ls) (commentsOf (entriesOf ls))) (sym (s .head .1 .1 .1 .1 .0))
+  block-is = refl
 
-  entries-are : entriesOf ls ≡ entriesAfter b p q (playEntries vs)
+  entries-are : entriesOf ls ≡ entriesAfter b p q (entriesOf vs)
   entries-are = entries-after b s p q vs (within .0) (within .1)
 
   -- it has the sizes that were reckoned
@@ -111,9 +106,9 @@ module _ (b : List ℕ) (s : Sound b) (p q : ℕ) (vs : List Play) (within : (p 
   sizes-are =
       let front = run (notedIn b) 0 (entriesBefore b p) in
       let back = run (notedIn b) (entriesBefore b q) (movesIn b - entriesBefore b q) in
-      let own = playEntries vs in
+      let own = entriesOf vs in
       let h : headersIn b ≡ length hd = sym (length-run (headerIn b) 0 (headersIn b)) in
-      let l : p + length vs + (linesIn b - q) ≡ length ls = sym (attach-length (linesAfter b p q vs) ∙ after-length b p q vs (within .0) (within .1)) in
+      let l : p + length vs + (linesIn b - q) ≡ length ls = sym (after-length b p q vs (within .0) (within .1)) in
       let n : entriesBefore b p + length own + (movesIn b - entriesBefore b q) ≡ length (entriesOf ls) =
       omega (arith, ap length entries-are, entries-three front own back, length-run (notedIn b) 0 (entriesBefore b p), length-run (notedIn b) (entriesBefore b q) (movesIn b - entriesBefore b q)) in
       let c = sym (ap (λ (es : List Noted). length (commentsOf es)) entries-are ∙ comments-three front own back) in
@@ -129,7 +124,7 @@ module _ (b : List ℕ) (s : Sound b) (p q : ℕ) (vs : List Play) (within : (p 
 
     block-long : lengthOf z ≡ length block
     unfolding relined decode
-    block-long = sym (length-is z small) ∙ whole ∙ sym (block-length (recordAfter b p q vs) (position-long b))
+    block-long = sym (length-is z small) ∙ whole ∙ sym (block-length (recordAfter version b p q vs) (position-long b))
       where
         sizeOf : Sizes → ℕ
         sizeOf y = blockLength (y .headers) (y .lines) (y .entries) (y .comments) (y .bytes)
@@ -138,7 +133,7 @@ module _ (b : List ℕ) (s : Sound b) (p q : ℕ) (vs : List Play) (within : (p 
         whole = ap sizeOf sized
 
     -- refused
-    pub refused-stored : {a : Answer} {o₁ : List ℕ} → Refused a ≡ beginning b z o → o₁ ≡ beginningOf b z o
+    pub refused-stored : {a : Answer} {o₁ : List ℕ} → Refused a ≡ beginning version b z o → o₁ ≡ beginningOf version b z o
         → (a ≡ editStored block second o .answer) × (o₁ ≡ editStored block second o .buffer)
     unfolding beginning beginningOf editStored
     refused-stored {a} {o₁} e f = go (opening z (length o)) refl e f
@@ -146,21 +141,21 @@ module _ (b : List ℕ) (s : Sound b) (p q : ℕ) (vs : List Play) (within : (p 
         done : Outcome
         done = record { answer = Done (length block) second; buffer = atFront block o }
 
-        go : (r : Opening) → opening z (length o) ≡ r → Refused a ≡ onOpening r (λ w n. Begun (headersPut b w (opened 1 z start o) .walk) n) (λ c. Refused c)
-            → o₁ ≡ onOpening r (λ w n. headersPut b w (opened 1 z start o) .buffer) (λ c. opened 1 z start o)
+        go : (r : Opening) → opening z (length o) ≡ r → Refused a ≡ onOpening r (λ w n. Begun (headersPut b w (opened version z start o) .walk) n) (λ c. Refused c)
+            → o₁ ≡ onOpening r (λ w n. headersPut b w (opened version z start o) .buffer) (λ c. opened version z start o)
             → (a ≡ unlessRefused (length block) o done .answer) × (o₁ ≡ unlessRefused (length block) o done .buffer)
         go (Begun w n) k x y = not-begun (sym x)
         go (Refused c) k x y =
             subst (λ (n : ℕ). (a ≡ unlessRefused n o done .answer) × (o₁ ≡ unlessRefused n o done .buffer)) block-long
-            (refuses 1 z start o (x ∙ sym k) y done)
+            (refuses version z start o (x ∙ sym k) y done)
 
     -- or begun
-    module _ {w : Walk} {n : ℕ} {o₁ : List ℕ} (e : Begun w n ≡ beginning b z o) (f : o₁ ≡ beginningOf b z o) where
+    module _ {w : Walk} {n : ℕ} {o₁ : List ℕ} (e : Begun w n ≡ beginning version b z o) (f : o₁ ≡ beginningOf version b z o) where
       -- it was opened, and its header entries were put
       record Ready : Type 0 where
         walk : Walk
         buffer : List ℕ
-        opens-so : Opens 1 (sizesOf hd ls) start walk n o buffer
+        opens-so : Opens version (sizesOf hd ls) start walk n o buffer
         walk-is : w ≡ putHeaders hd walk buffer .walk
         buffer-is : o₁ ≡ putHeaders hd walk buffer .buffer
 
@@ -168,29 +163,29 @@ module _ (b : List ℕ) (s : Sound b) (p q : ℕ) (vs : List Play) (within : (p 
       unfolding beginning beginningOf
       ready = go (opening z (length o)) refl e f
         where
-          go : (r : Opening) → opening z (length o) ≡ r → Begun w n ≡ onOpening r (λ v m. Begun (headersPut b v (opened 1 z start o) .walk) m) (λ c. Refused c)
-              → o₁ ≡ onOpening r (λ v m. headersPut b v (opened 1 z start o) .buffer) (λ c. opened 1 z start o) → Ready
+          go : (r : Opening) → opening z (length o) ≡ r → Begun w n ≡ onOpening r (λ v m. Begun (headersPut b v (opened version z start o) .walk) m) (λ c. Refused c)
+              → o₁ ≡ onOpening r (λ v m. headersPut b v (opened version z start o) .buffer) (λ c. opened version z start o) → Ready
           go (Refused c) k x y = not-begun x
           go (Begun v m) k x y =
-              let t = subst (λ (c : Sizes). Opens 1 c start v m o (opened 1 z start o)) sized (opens 1 z start o (sym k) refl) in
+              let t = subst (λ (c : Sizes). Opens version c start v m o (opened version z start o)) sized (opens version z start o (sym k) refl) in
               record {
                 walk = v;
-                buffer = opened 1 z start o;
-                opens-so = subst (λ (c : ℕ). Opens 1 (sizesOf hd ls) start v c o (opened 1 z start o)) (sym (begun-total x)) t;
+                buffer = opened version z start o;
+                opens-so = subst (λ (c : ℕ). Opens version (sizesOf hd ls) start v c o (opened version z start o)) (sym (begun-total x)) t;
                 walk-is = begun-walk x;
                 buffer-is = y;
               }
 
       -- and its lines filled in
-      pub begun-stored : Lines (linesAfter b p q vs) → {o₂ : List ℕ} → o₂ ≡ putPlays (w .lines) (linesAfter b p q vs) w o₁ .buffer
+      pub begun-stored : {o₂ : List ℕ} → o₂ ≡ putWholes ls w o₁ .buffer
           → (Done n second ≡ editStored block second o .answer) × (o₂ ≡ editStored block second o .buffer)
       unfolding editStored
-      begun-stored still d =
+      begun-stored d =
           let t = ready .opens-so in
           let done : Outcome = record { answer = Done (length block) second; buffer = atFront block o } in
           let long : lengthOf (sizesOf hd ls) ≡ length block = ap lengthOf (sym sized) ∙ block-long in
-          let room = opened-lines 1 start hd ls (position-long b) t (ready .walk-is) (ready .buffer-is) in
-          let last = opened-block 1 start hd ls (position-long b) t (ready .walk-is) (ready .buffer-is) (d ∙ lines-put (linesAfter b p q vs) w o₁ room still) in
+          let room = opened-lines version start hd ls (position-long b) t (ready .walk-is) (ready .buffer-is) in
+          let last = opened-block version start hd ls (position-long b) t (ready .walk-is) (ready .buffer-is) (d ∙ lines-put ls w o₁ room) in
           let fits = unrefused (length block) o done (omega (arith, long, t .short)) (omega (arith, long, t .room)) in (
             ap (λ (c : ℕ). Done c second) (t .total ∙ long) ∙ ap (λ (c : Outcome). c .answer) (sym fits),
             last ∙ ap₂ _++_ block-is (ap (λ (c : ℕ). drop c o) long) ∙ ap (λ (c : Outcome). c .buffer) (sym fits),
@@ -206,37 +201,23 @@ stored-size block second o =
 
 -- ---- the lines, put run by run
 
--- those before line p, and those from line q on
-module _ (b : List ℕ) (p q : ℕ) (below : p ≤ q) (within : q ≤ linesIn b) (rows : ℕ) (w : Walk) (o : List ℕ) {v : Walk} {o₁ : List ℕ}
-    (a : v ≡ putPlays rows (run (playIn b) 0 p) w o .walk) (c : o₁ ≡ putPlays rows (run (playIn b) 0 p) w o .buffer) where
-  abbrev ps : List Play
-  ps = playsIn (decode b .lines)
-
-  front-is : run (playIn b) 0 p ≡ take p ps
-  front-is = sym (ap (take p) (plays-are b) ∙ take-run (playIn b) p (linesIn b) (omega arith))
-
-  back-is : {n : ℕ} → n ≡ linesIn b → run (playIn b) q (n - q) ≡ drop q ps
-  back-is e = ap (λ (i : ℕ). run (playIn b) q (i - q)) e ∙ sym (ap (drop q) (plays-are b) ∙ drop-run (playIn b) q (linesIn b) within)
-
-  walk-is : v ≡ putPlays rows (take p ps) w o .walk
-  walk-is = a ∙ ap (λ (l : List Play). putPlays rows l w o .walk) front-is
-
-  buffer-is : o₁ ≡ putPlays rows (take p ps) w o .buffer
-  buffer-is = c ∙ ap (λ (l : List Play). putPlays rows l w o .buffer) front-is
-
-  -- with a line between them
-  pub put-between : (x : Play) {u : Walk} {o₂ o₃ : List ℕ} {n : ℕ} → u ≡ putPlay rows x v o₁ .walk → o₂ ≡ putPlay rows x v o₁ .buffer → n ≡ linesIn b
-      → o₃ ≡ putPlays rows (run (playIn b) q (n - q)) u o₂ .buffer → o₃ ≡ putPlays rows (linesAfter b p q (x ∷ [])) w o .buffer
-  unfolding putAll
-  put-between x {u} {o₂} {o₃} {n} e f k t =
-      t ∙ ap (λ (l : List Play). putPlays rows l u o₂ .buffer) (back-is k)
-      ∙ ap₂ (λ (d : Walk) (l : List ℕ). putPlays rows (drop q ps) d l .buffer) e f
-      ∙ ap₂ (λ (d : Walk) (l : List ℕ). putPlays rows (x ∷ drop q ps) d l .buffer) walk-is buffer-is
-      ∙ ap (λ (r : Grown). r .buffer) (sym (all-then (putPlay rows) (take p ps) (x ∷ drop q ps) w o))
-
-  -- with none
-  pub put-next : {o₂ : List ℕ} {n : ℕ} → n ≡ linesIn b → o₂ ≡ putPlays rows (run (playIn b) q (n - q)) v o₁ .buffer → o₂ ≡ putPlays rows (linesAfter b p q []) w o .buffer
-  put-next {n = n} k t =
-      t ∙ ap (λ (l : List Play). putPlays rows l v o₁ .buffer) (back-is k)
-      ∙ ap₂ (λ (d : Walk) (l : List ℕ). putPlays rows (drop q ps) d l .buffer) walk-is buffer-is
-      ∙ ap (λ (r : Grown). r .buffer) (sym (all-then (putPlay rows) (take p ps) (drop q ps) w o))
+-- those before line p, the new ones, and those from line q on
+pub put-spliced : (b : List ℕ) (p q : ℕ) (vs : List Line) (w : Walk) (o : List ℕ) {c n : ℕ} {v u : Walk} {o₁ o₂ o₃ : List ℕ} → p ≤ q → q ≤ linesIn b
+    → c ≡ length vs → v ≡ putWholes (map (reparented (shifted p q c)) (run (lineIn b) 0 p)) w o .walk
+    → o₁ ≡ putWholes (map (reparented (shifted p q c)) (run (lineIn b) 0 p)) w o .buffer
+    → u ≡ putWholes vs v o₁ .walk → o₂ ≡ putWholes vs v o₁ .buffer
+    → n ≡ linesIn b → o₃ ≡ putWholes (map (reparented (shifted p q c)) (run (lineIn b) q (n - q))) u o₂ .buffer
+    → o₃ ≡ putWholes (linesAfter b p q vs) w o .buffer
+put-spliced b p q vs w o {c} {n} {v} {u} {o₁} {o₂} {o₃} h l e a d f g k t =
+    let r = shifted p q c in
+    let xs = map (reparented r) (run (lineIn b) 0 p) in
+    let ys = map (reparented r) (run (lineIn b) q (linesIn b - q)) in
+    let is : linesAfter b p q vs ≡ xs ++ (vs ++ ys) =
+    after-is b p q vs h l ∙ ap (λ (m : ℕ). run (moved (shifted p q m) b) 0 p ++ (vs ++ run (moved (shifted p q m) b) q (linesIn b - q))) (sym e)
+    ∙ ap₂ (λ (fs bs : List Line). fs ++ (vs ++ bs)) (sym (map-run (lineIn b) (reparented r) 0 p)) (sym (map-run (lineIn b) (reparented r) q (linesIn b - q))) in
+    t ∙ ap (λ (m : ℕ). putWholes (map (reparented r) (run (lineIn b) q (m - q))) u o₂ .buffer) k
+    ∙ ap₂ (λ (x : Walk) (y : List ℕ). putWholes ys x y .buffer) f g
+    ∙ ap (λ (z : Grown). z .buffer) (sym (all-then putWhole vs ys v o₁))
+    ∙ ap₂ (λ (x : Walk) (y : List ℕ). putWholes (vs ++ ys) x y .buffer) a d
+    ∙ ap (λ (z : Grown). z .buffer) (sym (all-then putWhole xs (vs ++ ys) w o))
+    ∙ ap (λ (ls : List Line). putWholes ls w o .buffer) (sym is)

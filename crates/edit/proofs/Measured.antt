@@ -2,7 +2,7 @@
 -- Assumes nothing.
 use Prim.Native.Nat.{ℕ, _+_, _-_, _≤_}
 use native.Mathlib.Omega.{arith}
-use mathlib.Core.Path.{_≡_, refl, ap, _∙_}
+use mathlib.Core.Path.{_≡_, refl, sym, ap, _∙_}
 use mathlib.Core.List.{List, [], _∷_, _++_, append-nil}
 use lib.ListN.{length, length-append}
 use Rattle.lists.specs.Repeat.{Ended}
@@ -15,8 +15,10 @@ use Rattle.filling.proofs.Texts.{commented, written}
 use Rattle.plays.specs.Plays.{entriesAt, sequenceAt, plyAt}
 use Rattle.plays.specs.Counted.{extentAt, extentOf}
 use Rattle.plays.specs.declared.Extent.{Extent}
-use Rattle.edit.specs.Edit.{variationOf}
-use Rattle.edit.specs.inner.Splicing.{numberedIn, commentsWithin, bytesWithin, addedSizes, sizesAfter}
+use Rattle.edit.specs.Edit.{variationOf, lineOn}
+use Rattle.edit.specs.declared.Added.{Added}
+use Rattle.edit.specs.declared.Added.the-variants.{Nothing, Variation}
+use Rattle.edit.specs.inner.Splicing.{numberedIn, newLines, Counted, commentsWithin, bytesWithin, addedSizes, sizesAfter}
 use Rattle.edit.proofs.Texts.{text-small}
 
 -- ---- three lists of entries, one after the other
@@ -62,10 +64,10 @@ extent-small t x is h =
     (omega (arith, a .0, entries-are r is), omega (arith, a .1, comments-are r is), omega (arith, a .2, bytes-are r is))
 
 -- the line of a text, counted
-pub added-one : (t : List ℕ) {x : Extent} → x ≡ extentAt t 0
-    → record { headers = 0; lines = 1; entries = x .entries; comments = x .comments; bytes = x .bytes } ≡ addedSizes (variationOf t ∷ [])
+pub added-one : (k : ℕ) (t : List ℕ) {x : Extent} → x ≡ extentAt t 0
+    → record { headers = 0; lines = 1; entries = x .entries; comments = x .comments; bytes = x .bytes } ≡ addedSizes (lineOn k (variationOf t) ∷ [])
 unfolding concat
-added-one t {x} e =
+added-one k t {x} e =
     let own : entriesAt t 0 .state ++ [] ≡ entriesAt t 0 .state = append-nil (entriesAt t 0 .state) in
     let r = entriesAt t 0 in rw (entries-are r e, comments-are r e, bytes-are r e, own)
 
@@ -73,6 +75,14 @@ added-one t {x} e =
 pub added-none : record { headers = 0; lines = 0; entries = 0; comments = 0; bytes = 0 } ≡ addedSizes []
 unfolding concat
 added-none = refl
+
+-- whatever is put in
+module _ (t : List ℕ) {z : Sizes} where
+  pub added-small : (a : Added) → Counted a t → z ≡ addedSizes (newLines a t) → (z .lines ≤ 65535) × (z .entries ≤ 65535) × (z .comments ≤ 65535) × (z .bytes ≤ 65535)
+  added-small Nothing c e = rw (e ∙ sym added-none) (omega arith, omega arith, omega arith, omega arith)
+  added-small (Variation k ply x) c e =
+      let n = extent-small t x (c .1) (c .2) in
+      rw (e ∙ sym (added-one k t (c .1))) (omega arith, n .0, n .1, n .2)
 
 -- ---- all
 

@@ -1,4 +1,4 @@
--- Putting a variation into a record, and cutting one out.                                             (01, Put-in and cut)
+-- Putting a variation into a record, cutting one out, and restating a record.                          (01, Put-in and cut; 02, request (vi))
 -- Assumes nothing: these are definitions.
 use Prim.Native.Nat.{ℕ, suc, _+_, _-_, _≤_}
 use mathlib.Core.List.{List, [], _∷_, _++_, map}
@@ -11,6 +11,7 @@ use Rattle.jkf.specs.declared.Answer.{Answer}
 use Rattle.jkf.specs.declared.Answer.the-variants.{NoSuchPart, NotOneVariation, OutsideLine, EntryTaken}
 use Rattle.jkf.specs.Model.{Line, Record}
 use Rattle.jkf.specs.Attaching.{Play, play, starts, counts, attach}
+use Rattle.jkf.specs.Trees.{hasPly, reach}
 use Rattle.plays.specs.Plays.{entriesAt, numbersAt, inSequence, plyAt}
 
 -- ---- the lines afresh
@@ -19,12 +20,12 @@ use Rattle.plays.specs.Plays.{entriesAt, numbersAt, inSequence, plyAt}
 abbrev pub playsIn : List Line → List Play
 playsIn = map (λ l. play (l .start) (l .entries))
 
--- Lines hung afresh: in version 1 each where the attaching rule finds it.
+-- Lines hung afresh: in version 1 each where the attaching rule finds it, whatever parent it is given; in version 2 on the parent given.
+-- (02, request (vi): the fresh rule of demand 3)
 abbrev pub hungAfresh : ℕ → List Line → List Line
-hungAfresh version ls = attach (playsIn ls)
+hungAfresh version ls = let found = attach (playsIn ls) in pick (eqb version 1) found ls
 
--- A record with other lines, hung afresh: the one step in which both edits end. In a block of version 1 each is hung by the attaching rule,
--- whatever parent it is given here (`hungAfresh`).
+-- A record with other lines, hung afresh: the one step in which both edits end.
 unfoldable pub fresh : Record → List Line → Record
 fresh r ls = record { version = r .version; headers = r .headers; position = r .position; lines = hungAfresh (r .version) ls }
 
@@ -61,19 +62,24 @@ variationOf t = play (plyAt t 0) (entriesAt t 0 .state)
 
 -- A ply of the line, and not 0.                                                                       (01, Numbers of refusal: 12)
 unfoldable pub isPlyOf : ℕ → ℕ → ℕ → Bool
-isPlyOf start count j = pick (eqb j 0) false (pick (leb start j) (ltb (j - start) count) false)
+isPlyOf start count j = pick (eqb j 0) false (hasPly start count j)
 
 -- Some line of these hangs on line k and starts at j.                                                 (01, Numbers of refusal: 13)
 unfoldable pub carries : ℕ → ℕ → List Line → Bool
 carries k j [] = false
 carries k j (l ∷ ls) = let r = carries k j ls in pick (eqb (l .parent) k) (pick (eqb (l .start) j) true r) r
 
+-- Which is refused in version 1; in version 2 an entry may have several.                               (02, request (vi): 13)
+abbrev pub isTaken : ℕ → ℕ → ℕ → List Line → Bool
+isTaken version k j ls = let c = carries k j ls in pick (eqb version 1) c false
+
 -- How many lines stand before the first that starts at or below j.
 unfoldable pub above : ℕ → List Play → ℕ
 above j [] = 0
 above j (p ∷ ps) = let r = above j ps in pick (leb (p .start) j) 0 (suc r)
 
--- The new line's number: it stands before the first line after line k that starts at or below j, else last.
+-- The new line's number: it stands before the first line after line k that starts at or below j, else last. So among several on one entry
+-- it is written first.                                                                                  (02, request (vi): put-in)
 abbrev pub placeOf : List Play → ℕ → ℕ → ℕ
 placeOf ps k j = k + 1 + above j (drop (k + 1) ps)
 
@@ -105,7 +111,7 @@ insertAt r n k v = edited (fresh r (linesWith n (lineOn k v) (r .lines))) n
 unfoldable pub insertOn : Record → ℕ → Play → Edited
 insertOn r k v =
     pick (isPlyOf (starts (playsIn (r .lines)) k) (counts (playsIn (r .lines)) k) (v .start))
-    (pick (carries k (v .start) (drop 1 (r .lines)))
+    (pick (isTaken (r .version) k (v .start) (drop 1 (r .lines)))
     (refused (EntryTaken k (v .start)))
     (insertAt r (placeOf (playsIn (r .lines)) k (v .start)) k v))
     (refused (OutsideLine k (v .start)))
@@ -123,9 +129,13 @@ unfoldable pub notBelow : ℕ → List Play → ℕ
 notBelow s [] = 0
 notBelow s (p ∷ ps) = let r = notBelow s ps in pick (leb s (p .start)) (suc r) 0
 
--- Line k and those after it, as far as each starts at line k's ply or later.
-abbrev pub removedFrom : List Play → ℕ → ℕ
-removedFrom ps k = 1 + notBelow (starts ps k) (drop (k + 1) ps)
+-- In version 1 line k and those after it, as far as each starts at line k's ply or later; in version 2 line k and those whose chain of
+-- parents leads to it.                                                                                  (01, Put-in and cut; 02, request (vi))
+abbrev pub removedFrom : ℕ → List Line → ℕ → ℕ
+removedFrom version ls k =
+    let starting = 1 + notBelow (starts (playsIn ls) k) (drop (k + 1) (playsIn ls)) in
+    let hanging = reach ls k in
+    pick (eqb version 1) starting hanging
 
 -- A line's number once m lines from line k on are gone.
 abbrev pub lowered : ℕ → ℕ → ℕ → ℕ
@@ -145,5 +155,11 @@ remove r k =
     pick (eqb k 0)
     (refused (NoSuchPart k))
     (pick (ltb k (length (r .lines)))
-    (edited (fresh r (withoutLines k (removedFrom (playsIn (r .lines)) k) (r .lines))) (removedFrom (playsIn (r .lines)) k))
+    (edited (fresh r (withoutLines k (removedFrom (r .version) (r .lines) k) (r .lines))) (removedFrom (r .version) (r .lines) k))
     (refused (NoSuchPart k)))
+
+-- ---- restating
+
+-- The same record as version 2, in which an entry may have several variations.                         (02, request (vi): restates)
+abbrev pub restated : Record → Record
+restated r = record { version = 2; headers = r .headers; position = r .position; lines = r .lines }

@@ -6,9 +6,9 @@ ghost use Rattle.jkf.specs.Attaching.{starts, counts};
 ghost use lib.Dec.{eqb};
 ghost use mathlib.Core.Bool.{false};
 ghost use Rattle.lists.specs.Pick.{pick};
-ghost use Rattle.block.specs.Decode.{linesIn, startOf, parentOf, decode};
+ghost use Rattle.block.specs.Decode.{versionIn, linesIn, startOf, parentOf, decode};
 ghost use Rattle.block.specs.inner.Sounds.{Sound};
-ghost use Rattle.edit.specs.Edit.{playsIn, isVariation, isPlyOf, carries, placeOf, removedFrom};
+ghost use Rattle.edit.specs.Edit.{playsIn, isVariation, isPlyOf, carries, isTaken, placeOf, removedFrom};
 ghost use Rattle.edit.specs.inner.Splicing.{numberedIn};
 
 // Whether a text is one variation, of which so many entries, numbered one by one, were counted up to this end.
@@ -55,7 +55,7 @@ fn hangs_on(b: &[u8], i: u16, k: usize, j: u64) -> bool
 }
 
 // Whether a variation hangs already on line k at ply j.
-pub(crate) fn carries(b: &[u8], k: usize, j: u64) -> bool
+fn carries(b: &[u8], k: usize, j: u64) -> bool
     requires { ⌜ Sound (now b) ⌝ }
     ensures { λ r. ⌜ r ≡ carries k j (drop 1 (decode (now (b .entry)) .lines)) ⌝ }
 {
@@ -68,6 +68,17 @@ pub(crate) fn carries(b: &[u8], k: usize, j: u64) -> bool
         i += 1;
     }
     false
+}
+
+// Whether that stands in the way, which it does in version 1.
+pub(crate) fn is_taken(b: &[u8], k: usize, j: u64) -> bool
+    requires { ⌜ Sound (now b) ⌝ }
+    ensures { λ r. ⌜ r ≡ isTaken (versionIn (now (b .entry))) k j (drop 1 (decode (now (b .entry)) .lines)) ⌝ }
+{
+    if block::version_in(b) != 1 {
+        return false;
+    }
+    carries(b, k, j)
 }
 
 // The number of a new line on line k that starts at j.
@@ -86,16 +97,15 @@ pub(crate) fn place_of(b: &[u8], k: usize, j: u64) -> usize
     n
 }
 
-// How many lines are cut with line k, itself one of them.
+// How many lines are cut with line k, itself one of them: those that follow as far as each hangs on a line not before line k.
 pub(crate) fn removed_from(b: &[u8], k: usize) -> usize
-    requires { ⌜ k < linesIn (now b) ⌝ }
-    ensures { λ r. ⌜ (r ≡ removedFrom (playsIn (decode (now (b .entry)) .lines)) k) × (0 < r) × (k + r ≤ linesIn (now (b .entry))) ⌝ }
+    requires { ⌜ Sound (now b) × (0 < k) × (k < linesIn (now b)) ⌝ }
+    ensures { λ r. ⌜ (r ≡ removedFrom (versionIn (now (b .entry))) (decode (now (b .entry)) .lines) k) × (0 < r) × (k + r ≤ linesIn (now (b .entry))) ⌝ }
 {
-    let start = block::start_of(b, k as u16);
     let lines = block::lines_in(b);
     let mut i = k + 1;
     while i < lines {
-        if block::start_of(b, i as u16) < start {
+        if block::parent_of(b, i as u16) < k {
             return i - k;
         }
         i += 1;

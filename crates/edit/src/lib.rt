@@ -1,18 +1,17 @@
-// Putting a variation into a block, and cutting one out with all that hangs from it.
+// Putting a variation into a block, cutting one out with all that hangs from it, and restating a block as version 2.
 mod checks;
 mod copies;
 mod lines;
 mod stores;
 
-use checks::carries;
 use checks::is_ply_of;
+use checks::is_taken;
 use checks::is_variation;
 use checks::place_of;
 use checks::removed_from;
 use jkf::Answer;
 use plays::Extent;
-use stores::store_with;
-use stores::store_without;
+use stores::store;
 use text::Cursor;
 ghost use mathlib.Core.Path.{_≡_};
 ghost use mathlib.Core.Bool.{true};
@@ -22,7 +21,13 @@ ghost use Rattle.block.specs.inner.Sounds.{Sound};
 ghost use Rattle.plays.specs.Plays.{plyAt};
 ghost use Rattle.plays.specs.Counted.{extentAt};
 ghost use Rattle.edit.specs.Edit.{isVariation, variationOf, insertOn, insert, remove};
-ghost use Rattle.edit.specs.Outcomes.{editedOf, putInOf, cutOf};
+ghost use Rattle.edit.specs.Outcomes.{editedOf, putInOf, cutOf, restateOf};
+
+// The lines that an edit puts in: none, or the line of a text, by the line that it hangs on, its ply, and what was counted of it.
+pub(crate) enum Added {
+    Nothing,
+    Variation(u64, u64, Extent),
+}
 
 // Comments: how many, and how many bytes they have.
 pub(crate) struct Comments {
@@ -39,10 +44,21 @@ fn insert_on(b: &[u8], k: usize, t: &[u8], j: u64, x: Extent, out: &mut [u8]) ->
     if !is_ply_of(b, k, j) {
         return Answer::OutsideLine(k as u64, j);
     }
-    if carries(b, k, j) {
+    if is_taken(b, k, j) {
         return Answer::EntryTaken(k as u64, j);
     }
-    store_with(b, place_of(b, k, j), t, j, x, out)
+    let n = place_of(b, k, j);
+    let version = block::version_in(b) as u16;
+    store(
+        b,
+        version,
+        n,
+        n,
+        t,
+        Added::Variation(k as u64, j, x),
+        n as u64,
+        out,
+    )
 }
 
 // Into a sound block.
@@ -63,7 +79,7 @@ fn insert(b: &[u8], line: u64, t: &[u8], out: &mut [u8]) -> Answer
     insert_on(b, line as usize, t, j, x, out)
 }
 
-// Puts one variation into a block: the block that the attaching rule makes afresh goes into the front of a lent buffer.
+// Puts one variation into a block: the block that its version's rule makes afresh goes into the front of a lent buffer.
 pub fn put_in(block: &[u8], line: u64, text: &[u8], out: &mut [u8]) -> Answer
     ensures { λ r. ⌜ r ≡ putInOf (now (block .entry)) line (now (text .entry)) (now (out .entry)) .answer ⌝ }
     ensures { λ r. ⌜ now (out .exit) ≡ putInOf (now (block .entry)) line (now (text .entry)) (now (out .entry)) .buffer ⌝ }
@@ -88,7 +104,8 @@ fn remove(b: &[u8], line: u64, out: &mut [u8]) -> Answer
     }
     let k = line as usize;
     let n = removed_from(b, k);
-    store_without(b, k, n, out)
+    let version = block::version_in(b) as u16;
+    store(b, version, k, k + n, b"", Added::Nothing, n as u64, out)
 }
 
 // Cuts a line out of a block, with the unbroken run of lines after it that hang from it.
@@ -100,4 +117,19 @@ pub fn cut(block: &[u8], line: u64, out: &mut [u8]) -> Answer
         return Answer::NotSound;
     }
     remove(block, line, out)
+}
+
+// Restates a sound block of version 1 as version 2, in which an entry may have several variations.
+pub fn restate(block: &[u8], out: &mut [u8]) -> Answer
+    ensures { λ r. ⌜ r ≡ restateOf (now (block .entry)) (now (out .entry)) .answer ⌝ }
+    ensures { λ r. ⌜ now (out .exit) ≡ restateOf (now (block .entry)) (now (out .entry)) .buffer ⌝ }
+{
+    if !block::sound(block) {
+        return Answer::NotSound;
+    }
+    if block::version_in(block) != 1 {
+        return Answer::NotSound;
+    }
+    let n = block::lines_in(block);
+    store(block, 2, n, n, b"", Added::Nothing, 0, out)
 }

@@ -1,59 +1,120 @@
-// Lines of play put into a block one after another: the entries of a line, and then its row.
+// Lines put into a block one after another: the entries of a line, and then its row.
+use crate::Added;
 use crate::copies::copy_entries;
-use filling::Hooked;
 use filling::Walk;
+use plays::Extent;
+use text::Cursor;
 ghost use mathlib.Core.Path.{_≡_};
-ghost use Prim.Native.Nat.{_+_, _≤_, _<_};
-ghost use Rattle.block.specs.Decode.{run, linesIn};
+ghost use mathlib.Core.List.{List, map};
+ghost use Prim.Native.Nat.{ℕ, _+_, _≤_, _<_};
+ghost use lib.ListN.{length};
+ghost use Rattle.block.specs.Decode.{run, linesIn, lineIn};
 ghost use Rattle.block.specs.inner.Sounds.{Sound};
-ghost use Rattle.edit.specs.inner.Splicing.{playIn, putHung, putPlay, putPlays};
+ghost use Rattle.plays.specs.Plays.{plyAt};
+ghost use Rattle.plays.specs.Counted.{extentAt};
+ghost use Rattle.edit.specs.Edit.{reparented, variationOf, lineOn};
+ghost use Rattle.edit.specs.inner.Splicing.{newLines, Counted, shifted, linesAfter, putWhole, putWholes};
 
-// The row of a line whose entries were put between w and v. Every line of an edited block hangs, so each has its row.
-pub(crate) fn put_hung(out: &mut [u8], rows: usize, start: u64, w: Walk, v: Walk) -> Walk
-    ensures { λ r. ⌜ r ≡ putHung rows start w v (now (out .entry)) .walk ⌝ }
-    ensures { λ r. ⌜ now (out .exit) ≡ putHung rows start w v (now (out .entry)) .buffer ⌝ }
-{
-    let Hooked::Put(u) = filling::hang_line(out, rows, start, w, v) else {
-        return v;
-    };
-    u
+// Where lines change: those from p to q - 1 give way to new ones.
+pub(crate) struct Splice {
+    pub p: usize,
+    pub q: usize,
+    pub added: usize,
 }
 
-// Line i of a block.
-fn copy_line(b: &[u8], i: usize, rows: usize, w: Walk, out: &mut [u8]) -> Walk
-    requires { ⌜ Sound (now b) × (i < linesIn (now b)) ⌝ }
-    ensures { λ r. ⌜ r ≡ putPlay rows (playIn (now (b .entry)) i) w (now (out .entry)) .walk ⌝ }
-    ensures { λ r. ⌜ now (out .exit) ≡ putPlay rows (playIn (now (b .entry)) i) w (now (out .entry)) .buffer ⌝ }
+// A line's number after that.
+fn shifted(x: Splice, i: usize) -> usize
+    requires { ⌜ (x .p ≤ x .q) × (x .added ≤ 1) × (i < 65536) ⌝ }
+    ensures { λ r. ⌜ (r ≡ shifted (x .p) (x .q) (x .added) i) × (r ≤ 65536) ⌝ }
+{
+    if i < x.p {
+        return i;
+    }
+    let removed = x.q - x.p;
+    if i + x.added < removed {
+        return 0;
+    }
+    i + x.added - removed
+}
+
+// Line i of a block, on its old parent.
+fn copy_line(b: &[u8], i: usize, x: Splice, w: Walk, out: &mut [u8]) -> Walk
+    requires { ⌜ Sound (now b) × (i < linesIn (now b)) × (x .p ≤ x .q) × (x .added ≤ 1) ⌝ }
+    ensures { λ r. ⌜ r ≡ putWhole (reparented (shifted (x .p) (x .q) (x .added)) (lineIn (now (b .entry)) i)) w (now (out .entry)) .walk ⌝ }
+    ensures { λ r. ⌜ now (out .exit) ≡ putWhole (reparented (shifted (x .p) (x .q) (x .added)) (lineIn (now (b .entry)) i)) w (now (out .entry)) .buffer ⌝ }
 {
     let line = i as u16;
-    let v = copy_entries(
-        b,
-        block::first_entry(b, line),
-        block::entry_count(b, line),
-        w,
+    let count = block::entry_count(b, line);
+    let v = copy_entries(b, block::first_entry(b, line), count, w, out);
+    let parent = shifted(x, block::parent_of(b, line));
+    filling::put_line(
         out,
-    );
-    put_hung(out, rows, block::start_of(b, line) as u64, w, v)
+        v,
+        block::start_of(b, line) as u64,
+        w.entries,
+        count,
+        parent as u64,
+    )
 }
 
 // So many lines of a block from line i on.
-pub(crate) fn copy_lines(
-    b: &[u8],
-    i: usize,
-    count: usize,
-    rows: usize,
-    w: Walk,
-    out: &mut [u8],
-) -> Walk
-    requires { ⌜ Sound (now b) × (i + count ≤ linesIn (now b)) ⌝ }
-    ensures { λ r. ⌜ r ≡ putPlays rows (run (playIn (now (b .entry))) i count) w (now (out .entry)) .walk ⌝ }
-    ensures { λ r. ⌜ now (out .exit) ≡ putPlays rows (run (playIn (now (b .entry))) i count) w (now (out .entry)) .buffer ⌝ }
+fn copy_lines(b: &[u8], i: usize, count: usize, x: Splice, w: Walk, out: &mut [u8]) -> Walk
+    requires { ⌜ Sound (now b) × (i + count ≤ linesIn (now b)) × (x .p ≤ x .q) × (x .added ≤ 1) ⌝ }
+    ensures { λ r. ⌜ r ≡ putWholes (map (reparented (shifted (x .p) (x .q) (x .added))) (run (lineIn (now (b .entry))) i count)) w (now (out .entry)) .walk ⌝ }
+    ensures { λ r. ⌜ now (out .exit) ≡ putWholes (map (reparented (shifted (x .p) (x .q) (x .added))) (run (lineIn (now (b .entry))) i count)) w (now (out .entry)) .buffer ⌝ }
 {
     let mut v = w;
     let mut k = 0;
     while k < count {
-        v = copy_line(b, i + k, rows, v, out);
+        v = copy_line(b, i + k, x, v, out);
         k += 1;
     }
     v
+}
+
+// The line of a text that starts at a ply, on line k.
+fn put_variation(t: &[u8], k: u64, ply: u64, x: Extent, w: Walk, out: &mut [u8]) -> Walk
+    requires { ⌜ (ply ≡ plyAt (now t) 0) × (x ≡ extentAt (now t) 0) ⌝ }
+    ensures { λ r. ⌜ r ≡ putWhole (lineOn k (variationOf (now (t .entry)))) w (now (out .entry)) .walk ⌝ }
+    ensures { λ r. ⌜ now (out .exit) ≡ putWhole (lineOn k (variationOf (now (t .entry)))) w (now (out .entry)) .buffer ⌝ }
+{
+    let own = plays::fill_moves(t, Cursor { at: 0 }, w, out);
+    filling::put_line(out, own.walk, ply, w.entries, x.entries, k)
+}
+
+// The new lines.
+fn put_added(t: &[u8], a: Added, w: Walk, out: &mut [u8]) -> Walk
+    requires { ⌜ Counted a (now t) ⌝ }
+    ensures { λ r. ⌜ r ≡ putWholes (newLines a (now (t .entry))) w (now (out .entry)) .walk ⌝ }
+    ensures { λ r. ⌜ now (out .exit) ≡ putWholes (newLines a (now (t .entry))) w (now (out .entry)) .buffer ⌝ }
+{
+    match a {
+        Added::Nothing => w,
+        Added::Variation(k, ply, x) => put_variation(t, k, ply, x, w, out),
+    }
+}
+
+// How many new lines there are.
+fn lines_added(a: Added) -> usize
+    ensures { λ r. ⌜ (r ≤ 1) × ((t : List ℕ) → r ≡ length (newLines a t)) ⌝ }
+{
+    match a {
+        Added::Nothing => 0,
+        Added::Variation(_, _, _) => 1,
+    }
+}
+
+// All lines of an edited block: those before line p, the new ones, and those from line q on.
+pub(crate) fn put_lines(b: &[u8], p: usize, q: usize, t: &[u8], a: Added, w: Walk, out: &mut [u8])
+    requires { ⌜ Sound (now b) × (p ≤ q) × (q ≤ linesIn (now b)) × Counted a (now t) ⌝ }
+    ensures { λ _. ⌜ now (out .exit) ≡ putWholes (linesAfter (now (b .entry)) p q (newLines a (now (t .entry)))) w (now (out .entry)) .buffer ⌝ }
+{
+    let x = Splice {
+        p,
+        q,
+        added: lines_added(a),
+    };
+    let v = copy_lines(b, 0, p, x, w, out);
+    let u = put_added(t, a, v, out);
+    copy_lines(b, q, block::lines_in(b) - q, x, u, out);
 }

@@ -11,6 +11,7 @@ pub use opens::open;
 pub use puts::put_comment;
 pub use puts::put_entry;
 pub use puts::put_header;
+pub use puts::put_line;
 pub use puts::put_slot;
 
 // How many header entries, lines, entries and comments a block has, and how many bytes of text.

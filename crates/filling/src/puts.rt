@@ -61,7 +61,7 @@ pub fn put_header(out: &mut [u8], w: Walk, key: &[u8], value: &[u8]) -> Walk
 }
 
 // The row of a line where the line rows end.
-pub(crate) fn put_line(
+pub fn put_line(
     out: &mut [u8],
     w: Walk,
     start: u64,

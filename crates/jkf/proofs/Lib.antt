@@ -2,3 +2,9 @@ pub mod Nears
 pub mod Answering
 pub mod Specials
 pub mod Hangings
+pub mod Chains
+pub mod Branching
+pub mod OneTwo
+pub mod Passing
+pub mod OnePass
+pub mod Reaching

@@ -1,5 +1,6 @@
 -- Laws of the attaching rule.
 --     near-before, near-low, near-last   the line found is one before, starts at or below, and is the last that does
+--     near-is                            and these are enough
 --     near-same                          the starts of the lines before are all that counts
 --     near-jump                          from a line that starts above, the search goes on at its parent
 --     follow-here, -up, -stuck           a search that follows the parents, step by step
@@ -10,7 +11,7 @@
 use Prim.Native.Nat.{ℕ, zero, suc, _+_, _-_, _≤_, _<_}
 use native.Mathlib.Omega.{arith}
 use native.Mathlib.Decide.{decLt}
-use mathlib.Core.Path.{_≡_, refl, sym, ap, _∙_}
+use mathlib.Core.Path.{_≡_, refl, sym, ap, _∙_, subst}
 use mathlib.Core.Bool.{Bool, true, false}
 use mathlib.Core.List.{List}
 use lib.ListN.{length, List·getD-eq-default}
@@ -79,6 +80,19 @@ near-last st s (suc k) j h l = go (leb (st k) s) refl h (decLt j k) (near-last s
     go false e g (no m) ih =
         let q : j ≡ k = omega arith in
         rw q (leb-false _ _ e)
+
+-- and these three facts are enough: it stands before, it starts at or below, each line between starts above
+pub near-is : (st : ℕ → ℕ) (s k p : ℕ) → p < k → st p ≤ s → ((j : ℕ) → p < j → j < k → s < st j) → near st s k ≡ p
+unfolding near
+near-is st s zero p h l b = absurd (omega arith)
+near-is st s (suc k) p h l b = go (decLt p k) (near-is st s k p)
+  where
+    go : Dec (p < k) → (p < k → st p ≤ s → ((j : ℕ) → p < j → j < k → s < st j) → near st s k ≡ p) → pick (leb (st k) s) k (near st s k) ≡ p
+    go (yes m) ih = rw (lt-leb (st k) s (b k m (omega arith))) (ih m l (λ j x y. b j x (omega arith)))
+    go (no m) ih =
+        let e : p ≡ k = omega arith in
+        let w : st k ≤ s = subst (λ (q : ℕ). st q ≤ s) e l in
+        rw (le-leb (st k) s w) (sym e)
 
 -- the search for s from m down goes on at the line found for a later start t, as all lines after that start above t
 near-from : (st : ℕ → ℕ) (s t m : ℕ) → s ≤ t → near st s m ≡ near st s (suc (near st t m))

@@ -3,3 +3,5 @@ pub mod Answers
 pub mod Entries
 pub mod Attaching
 pub mod Following
+pub mod Trees
+pub mod inner

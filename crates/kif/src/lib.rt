@@ -7,7 +7,7 @@ ghost use Rattle.parser.specs.Read.{measureOf, fillOf, lostOf};
 ghost use mathlib.Core.List.{[], _∷_};
 ghost use Rattle.stops.specs.Stopping.{stopOf, stopFigures, spotAt};
 ghost use Rattle.converter.specs.Writing.{writeAsOf, writeOf, modeOf};
-ghost use Rattle.edit.specs.Outcomes.{putInOf, cutOf};
+ghost use Rattle.edit.specs.Outcomes.{putInOf, cutOf, restateOf};
 ghost use Rattle.positions.specs.Paths.{positionPut};
 
 // Whether a slice is just a sound block.
@@ -194,6 +194,24 @@ pub extern "C" fn kif_cut(
     ensures { λ _. ⌜ now (out .exit) ≡ cutOf (now (block .entry)) line (now (out .entry)) .buffer ⌝ }
 {
     let f = jkf::figures_of(edit::cut(block, line, out));
+    *number = f.number;
+    *first = f.first;
+    *second = f.second;
+}
+
+// Restates a sound block of version 1 as version 2: it goes into the front of a lent buffer.
+#[no_mangle]
+pub extern "C" fn kif_restate(
+    block: &[u8],
+    out: &mut [u8],
+    number: &mut u64,
+    first: &mut u64,
+    second: &mut u64,
+)
+    ensures { λ _. ⌜ Answered (restateOf (now (block .entry)) (now (out .entry)) .answer) (now (number .exit)) (now (first .exit)) (now (second .exit)) ⌝ }
+    ensures { λ _. ⌜ now (out .exit) ≡ restateOf (now (block .entry)) (now (out .entry)) .buffer ⌝ }
+{
+    let f = jkf::figures_of(edit::restate(block, out));
     *number = f.number;
     *first = f.first;
     *second = f.second;

@@ -12,9 +12,9 @@ use moves::Failed;
 use moves::MoveLine;
 use text::Cursor;
 
-// How long the edited block is, and the times that were lost of what was put in; or that there is none.
+// How long the edited block is, the second figure of the edit, and the times that were lost of what was put in; or that there is none.
 pub enum Edited {
-    Block(usize, Times),
+    Block(usize, u64, Times),
     Refused,
 }
 
@@ -24,7 +24,7 @@ fn made(name: &[u8], f: Figures, t: Times) -> Edited {
         refusals::tell(name, f);
         return Edited::Refused;
     }
-    Edited::Block(f.first as usize, t)
+    Edited::Block(f.first as usize, f.second, t)
 }
 
 // Without a line, and without all that hangs from it.
@@ -34,6 +34,20 @@ pub(crate) fn cut(name: &[u8], b: &[u8], line: u64, out: &mut [u8]) -> Edited {
         jkf::figures_of(edit::cut(b, line, out)),
         times::none(),
     )
+}
+
+// As version 2; where it is that already, it is said so.
+pub(crate) fn restate(name: &[u8], b: &[u8], out: &mut [u8]) -> Edited {
+    let f = jkf::figures_of(edit::restate(b, out));
+    if f.number == 7 && block::sound(b) {
+        notes::say_name(b"kifu: refused: ", name);
+        io::write_all(
+            STDERR_FILENO,
+            b"the block is of version 2 already (refusal 7)\n",
+        );
+        return Edited::Refused;
+    }
+    made(name, f, times::none())
 }
 
 // The number that was expected where so many entries follow a first one; the last number of 64 bits has none after it.

@@ -1,4 +1,5 @@
 // Files by their names.
+use crate::words;
 ghost use Prim.Native.Nat.{_≤_};
 ghost use lib.ListN.{length};
 
@@ -46,8 +47,21 @@ pub(crate) fn fill(name: &[u8], buf: &mut [u8]) -> Got {
     Got::Bytes(n)
 }
 
+// Writes bytes into the new file that word k names, or says why it cannot.
+pub(crate) fn keep(k: usize, bytes: &[u8]) -> bool
+    requires { ⌜ k ≤ 5 ⌝ }
+{
+    let mut name = io::buffer();
+    let n = words::arg(k, &mut name);
+    if os::errno() != 0 {
+        os::fail(b"kifu: refused: OUT");
+        return false;
+    }
+    make(&name[..n], bytes)
+}
+
 // Writes a new file, all of it, and answers true; or says why it cannot, and takes away what it made. A file that stands there is left alone.
-pub(crate) fn make(name: &[u8], bytes: &[u8]) -> bool {
+fn make(name: &[u8], bytes: &[u8]) -> bool {
     let fd = os::create(name);
     if fd < 0 {
         fail(name);

@@ -1,6 +1,7 @@
 // The command-line tool: reads the file that it is given, and prints or writes what its words ask for.
 // A program has no exit status of its own. So what it says on standard error begins with `kifu: refused`, `kifu: usage` or `kifu: note`,
 // and the launcher turns the first of them into the status.
+mod blocks;
 mod edits;
 mod files;
 mod losses;
@@ -19,7 +20,7 @@ use words::Spot;
 use words::Word;
 
 // Says so where standard output did not take all, and hands that on.
-fn told(is_written: bool) -> bool {
+pub(crate) fn told(is_written: bool) -> bool {
     if !is_written {
         os::fail(b"kifu: refused: standard output");
     }
@@ -27,7 +28,7 @@ fn told(is_written: bool) -> bool {
 }
 
 // Prints a block as a text, and says what is lost by that, if it may lose something.
-fn print_text(name: &[u8], b: &[u8], out: &mut [u8]) -> bool {
+pub(crate) fn print_text(name: &[u8], b: &[u8], out: &mut [u8]) -> bool {
     let f = jkf::figures_of(converter::write_as(b, words::mode(), out));
     if f.number != 0 {
         refusals::tell(name, f);
@@ -39,6 +40,7 @@ fn print_text(name: &[u8], b: &[u8], out: &mut [u8]) -> bool {
     if words::is_plain() {
         losses::tell(name, b, f.second);
     }
+    blocks::tell_nested(name, b, f.second);
     true
 }
 
@@ -85,13 +87,7 @@ fn print_listing(taken: u64, b: &[u8], out: &mut [u8]) -> bool {
 
 // Writes a block into the new file that the third word names, and prints how long it is.
 fn keep(taken: u64, b: &[u8]) -> bool {
-    let mut name = io::buffer();
-    let n = words::arg(3, &mut name);
-    if os::errno() != 0 {
-        os::fail(b"kifu: refused: OUT");
-        return false;
-    }
-    if !files::make(&name[..n], b) {
+    if !files::keep(3, b) {
         return false;
     }
     told(print_read(taken, b.len() as u64))
@@ -115,7 +111,7 @@ fn edit(
 // Prints a block as a text once it is edited. The edit is done before anything is printed, so both use one buffer.
 fn print_edited(word: Word, line: u64, name: &[u8], b: &[u8], out: &mut [u8]) -> bool {
     let mut edited = [0u8; 65535];
-    let edits::Edited::Block(n, times) = edit(word, line, name, b, out, &mut edited) else {
+    let edits::Edited::Block(n, _, times) = edit(word, line, name, b, out, &mut edited) else {
         return false;
     };
     if !print_text(name, lent::front(&edited, n), out) {
@@ -199,7 +195,8 @@ fn print_where(name: &[u8], text: &[u8]) {
 }
 
 // What is asked of a file: of one byte more than a text or a block may have, so that a longer one is refused and not cut. What is printed has
-// room: in the longest text an entry of 20 bytes has at most 55, and the longest listing has 112,133.
+// room: of a block's bytes 20 of an entry come to at most 55 of text, and all others to less at that rate, but for the position, at most 2,048; the
+// longest listing has 112,133.
 fn obey(word: Word, spot: Spot, name: &[u8]) {
     let mut input = io::large_buffer();
     let files::Got::Bytes(n) = files::fill(name, &mut input) else {
@@ -210,9 +207,9 @@ fn obey(word: Word, spot: Spot, name: &[u8]) {
         print_where(name, bytes);
         return;
     }
-    let mut out = [0u8; 220000];
-    if let Word::Text = word {
-        print_text(name, bytes, &mut out);
+    let mut out = [0u8; 182000];
+    if words::is_of_block(word) {
+        blocks::answer(word, spot.line, name, bytes, &mut out);
         return;
     }
     read(word, spot, name, bytes, &mut out);

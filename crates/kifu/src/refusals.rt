@@ -93,13 +93,13 @@ fn say_refusal(number: u64, x: u64, y: u64) -> bool {
               \x2fthe block would have # bytes; 65535 is the most                                                  \
               \x2cthe result has # bytes, and there is no room                                                     \
               \x00                                                                                                 \
-              \x19this is not a sound block                                                                        \
+              \x3dthis is not a sound block; of a KIF file kifu block makes one                                    \
               \x00                                                                                                 \
               \x61line #, entry # cannot be written: its square is off the board, or its time has no room beside it\
               \x18there is no such line: #                                                                         \
               \x1dthe text is not one variation                                                                    \
               \x29line # has no ply # to put a variation at                                                        \
-              \x29line #, ply # already carries a variation                                                        \
+              \x5cline #, ply # already carries a variation; a block of version 2 may have more (kifu restate)     \
               \x39the record has no diagram, and its handicap is not \xe5\xb9\xb3\xe6\x89\x8b                                        \
               \x15line # has no entry #                                                                            \
               \x59line # starts at ply 0; --plain writes the text without it and without the lines after it        ",

@@ -18,6 +18,10 @@ pub enum Word {
     Put,
     Cut,
     Show,
+    Restate,
+    BlockList,
+    BlockPut,
+    BlockCut,
     Help,
     Unknown,
 }
@@ -79,7 +83,7 @@ pub(crate) fn mode() -> Mode {
 
 // Word k, --plain not counted.
 pub(crate) fn arg(k: usize, w: &mut [u8]) -> usize
-    requires { ⌜ k ≤ 4 ⌝ }
+    requires { ⌜ k ≤ 5 ⌝ }
     ensures { λ r. ⌜ Counts r (now (w .exit)) ⌝ }
 {
     if plain_place() <= k {
@@ -88,7 +92,27 @@ pub(crate) fn arg(k: usize, w: &mut [u8]) -> usize
     os::arg(k, w)
 }
 
-// What the first word asks for, of the words for an edit, for a position and for help.
+// What the first word asks for, of the words for a block's file and for help.
+fn last_word_of(w: &[u8]) -> Word {
+    if check::same(w, b"restate") {
+        return Word::Restate;
+    }
+    if check::same(w, b"block-list") {
+        return Word::BlockList;
+    }
+    if check::same(w, b"block-put") {
+        return Word::BlockPut;
+    }
+    if check::same(w, b"block-cut") {
+        return Word::BlockCut;
+    }
+    if check::same(w, b"help") {
+        return Word::Help;
+    }
+    Word::Unknown
+}
+
+// What it asks for, of the words from those for an edit on.
 fn later_word_of(w: &[u8]) -> Word {
     if check::same(w, b"put") {
         return Word::Put;
@@ -99,10 +123,7 @@ fn later_word_of(w: &[u8]) -> Word {
     if check::same(w, b"show") {
         return Word::Show;
     }
-    if check::same(w, b"help") {
-        return Word::Help;
-    }
-    Word::Unknown
+    last_word_of(w)
 }
 
 // What the first word asks for, of all.
@@ -126,6 +147,18 @@ pub(crate) fn word_of(w: &[u8]) -> Word {
         return Word::Where;
     }
     later_word_of(w)
+}
+
+// Whether the second word names a block's file, and not a text's.
+pub(crate) fn is_of_block(word: Word) -> bool {
+    match word {
+        Word::Text => true,
+        Word::Restate => true,
+        Word::BlockList => true,
+        Word::BlockPut => true,
+        Word::BlockCut => true,
+        _ => false,
+    }
 }
 
 // Whether a word writes a text, so that --plain may stand behind it.
@@ -152,14 +185,17 @@ pub(crate) fn is_complete(word: Word) -> bool {
 
 // How many words there are with it, the program's name and itself among them.
 fn count(word: Word) -> usize
-    ensures { λ r. ⌜ r ≤ 5 ⌝ }
+    ensures { λ r. ⌜ r ≤ 6 ⌝ }
 {
     match word {
         Word::Help => 2,
         Word::Block => 4,
         Word::Cut => 4,
+        Word::Restate => 4,
         Word::Put => 5,
         Word::Show => 5,
+        Word::BlockCut => 5,
+        Word::BlockPut => 6,
         _ => 3,
     }
 }
@@ -211,6 +247,8 @@ pub(crate) fn spot_of(word: Word) -> Asked {
     match word {
         Word::Put => line_asked(),
         Word::Cut => line_asked(),
+        Word::BlockPut => line_asked(),
+        Word::BlockCut => line_asked(),
         Word::Show => entry_asked(),
         _ => Asked::At(Spot { line: 0, entry: 0 }),
     }
@@ -228,7 +266,11 @@ fn use_of(word: Word) -> usize {
         Word::Put => 666,
         Word::Cut => 777,
         Word::Show => 888,
-        _ => 999,
+        Word::Restate => 999,
+        Word::BlockList => 1110,
+        Word::BlockPut => 1221,
+        Word::BlockCut => 1332,
+        _ => 1443,
     }
 }
 
@@ -246,6 +288,10 @@ fn print_usage(fd: i32, word: Word) -> bool {
               \x65kifu put FILE LINE VARIATION [--plain] the file with a variation put into a line, to standard output\n         \
               \x6ekifu cut FILE LINE [--plain]           the file without a line and all that hangs from it, to standard output\n\
               \x6akifu show FILE LINE ENTRY              the position after an entry of a line, and the move that led to it\n    \
+              \x65kifu restate BLOCK OUT                 a block as version 2, whose moves may have several variations\n         \
+              \x4bkifu block-list BLOCK                  the lines of play of a block's file\n                                   \
+              \x68kifu block-put BLOCK LINE VARIATION OUT a block with a variation put into a line, into the new file OUT\n      \
+              \x63kifu block-cut BLOCK LINE OUT          a block without a line and all that hangs from it, into OUT\n           \
               \x33kifu help                              these lines\n                                                           ",
             use_of(word),
         ),
@@ -269,7 +315,7 @@ pub(crate) fn tell_unknown(w: &[u8]) {
     }
     io::write_all(
         STDERR_FILENO,
-        b"; the words are list, tidy, block, text, check, where, put, cut, show and help\n",
+        b"; the words are list, tidy, block, text, check, where, put, cut, show, restate, block-list, block-put, block-cut and help\n",
     );
 }
 
@@ -284,9 +330,13 @@ pub(crate) fn print_help() -> bool {
     print_usage(STDOUT_FILENO, Word::Put);
     print_usage(STDOUT_FILENO, Word::Cut);
     print_usage(STDOUT_FILENO, Word::Show);
+    print_usage(STDOUT_FILENO, Word::Restate);
+    print_usage(STDOUT_FILENO, Word::BlockList);
+    print_usage(STDOUT_FILENO, Word::BlockPut);
+    print_usage(STDOUT_FILENO, Word::BlockCut);
     print_usage(STDOUT_FILENO, Word::Help);
     io::write_all(
         STDOUT_FILENO,
-        b"--plain: the text as shogi-kifu-converter writes it, with notes on what it loses; without it nothing is lost\n",
+        b"--plain: the text as shogi-kifu-converter writes it, with notes on what it loses; without it nothing is lost but which variations are equals\n",
     )
 }

@@ -5,10 +5,10 @@ use Prim.Native.Nat.{ℕ, _+_, _≤_, _<_}
 use native.Mathlib.Omega.{arith}
 use mathlib.Core.Path.{_≡_, refl, sym, ap, ap₂, _∙_}
 use mathlib.Core.List.{List, []}
-use mathlib.Core.Bool.{Bool, false}
+use mathlib.Core.Bool.{Bool, true, false}
 use lib.ListN.{length, take, drop}
 use lib.Dec.{eqb}
-use borrow.Author.Tests.{ne-eqb}
+use borrow.Author.Tests.{eqb-true, ne-eqb}
 use Rattle.lists.specs.Pick.{pick}
 use Rattle.block.specs.PositionBytes.{positionIn}
 use Rattle.jkf.specs.declared.Entry.{Entry}
@@ -21,33 +21,43 @@ use Rattle.block.proofs.Tabling.{run-is, run-all, concat-sum, part-getD, part-w
 use Rattle.laws.proofs.Parts.{from-part}
 use Rattle.block.proofs.PositionsBack.{position-length, position-back}
 use Rattle.block.proofs.Lengths.{block-length}
+use Rattle.jkf.specs.Trees.{isVersion}
+use Rattle.jkf.proofs.OneTwo.{branched-as}
 use Rattle.laws.proofs.Hanging.{start-low, parent-low}
 use Rattle.laws.proofs.Fields.{notesOf, noHeader, noLine, noNoted, lengthOf, Fits, version-is, headers-are, lines-are, key-is, value-is, start-is, first-entry, entry-count-is, parent-is, first-comment, comment-count-is, what-is, comment-is, position-part}
 
 -- ---- a well-formed record fits
+
+-- a version is a number of two bytes
+version-small : (v : ℕ) → isVersion v ≡ true → v < 65536
+version-small v h = go (eqb v 1) refl h
+  where
+    go : (t : Bool) → eqb v 1 ≡ t → pick t true (eqb v 2) ≡ true → v < 65536
+    go true e h = omega (arith, eqb-true v 1 e)
+    go false e h = omega (arith, eqb-true v 2 h)
 
 pub formed-fits : (r : Record) → Formed r → Fits r
 formed-fits r g =
     let ls = r .lines in
     let w = position-length (r .position) (g .cells) (g .hands) in
     let n : lengthOf r ≤ 65535 = omega (arith, block-length r w, g .short) in
-    let v = g .version in
     let start : ℕ → ℕ = λ j. lineOf ls j .start in
     let count : ℕ → ℕ = λ j. length (lineOf ls j .entries) in
     let parent : ℕ → ℕ = λ j. lineOf ls j .parent in
+    let tree = branched-as start count parent (r .version) (length ls) (g .some) (λ k h. g .lines k h .1) in
     record {
       whole = w;
       short = g .short;
-      version = omega arith;
+      version = version-small (r .version) (g .version);
       starts =
           λ k h.
           omega (
             arith,
-            start-low start count parent (length ls) (λ k h. g .lines k h .1) k h,
+            start-low start count parent tree k h,
             concat-sum (λ (l : Line). l .entries) noLine count ls (λ i h. refl) k (omega arith),
             part-within (λ (l : Line). l .entries) noLine ls k h,
           );
-      parents = λ k h. omega (arith, parent-low start count parent (length ls) (λ k h. g .lines k h .1) k h);
+      parents = λ k h. omega (arith, parent-low start count parent tree k h);
     }
 
 -- ---- what is read is what was written

@@ -1,69 +1,83 @@
--- What the attaching rule says of a line that hangs where it should: its parent stands before it, and it starts no later than all entries
--- before it are many. And the rule looks at the lines up to the line itself only.
+-- What is known of lines that hang as a version asks, whichever it is: a parent stands before its line, and a line starts no later than all
+-- entries before it are many. And whether they do is told by their starts, entry counts and parents alone.
+--     start-low, parent-low          starts and parents fit
+--     branched-alike, hang-alike     lines with the same numbers hang alike
 -- Assumes nothing.
-use Prim.Native.Nat.{ℕ, _≤_, _<_}
+use Prim.Native.Nat.{ℕ, zero, suc, _-_, _≤_, _<_}
 use native.Mathlib.Omega.{arith}
 use native.Mathlib.Decide.{decLt}
-use mathlib.Core.Path.{_≡_, refl, sym, ap, _∙_, subst}
+use mathlib.Core.Path.{_≡_, sym, ap, ap₂, _∙_, subst}
 use mathlib.Core.Bool.{Bool, true, false}
 use lib.Dec.{eqb}
-use borrow.Author.Tests.{eqb-false}
-use Rattle.lists.specs.Pick.{pick}
-use Rattle.lists.specs.Test.{_equals_, _and_, flag, claim}
-use Rattle.jkf.specs.Attaching.{near, hangOn, hangs, onHang}
-use Rattle.block.specs.Sound.{sum, hangTest}
-use Rattle.block.proofs.Hanging.{hang-first, hang-says}
-use Rattle.jkf.proofs.Nears.{near-before, near-same}
-use Rattle.block.proofs.Attached.{start-low as lines-low}
+use Rattle.jkf.specs.Trees.{HangAs, HangsFrom, NoTwo}
+use Rattle.jkf.proofs.Chains.{from-same, parent-low as falls-low}
+use Rattle.jkf.proofs.Branching.{Chosen, Branched, branched-falls, branched-says, says-branched}
+use Rattle.jkf.proofs.OneTwo.{one-is-two, testAs}
+use Rattle.block.specs.Sound.{sum}
+use Rattle.block.proofs.Sums.{sum-within}
 
--- ---- where a line hangs
+-- ---- starts and parents fit
 
-module _ (start count parent : ℕ → ℕ) where
-  -- a line starts no later than the entries before it are many
-  module _ (n : ℕ) (hang : (k : ℕ) → k < n → claim (hangTest 1 start count parent k)) where
-    pub start-low : (k : ℕ) → k < n → start k ≤ sum count k
-    start-low k l =
-        lines-low start count (hang-first start count parent (hang 0 (omega arith)) .0) k
-        (λ j z m. hang-says start count parent j z (hang j (omega arith)) .1) k (omega arith)
+module _ (start count parent : ℕ → ℕ) {n : ℕ} (g : Branched start count parent n) where
+  low-within : (m k : ℕ) → k < m → k < n → start k ≤ sum count k
+  low-within zero k h l = absurd (omega arith)
+  low-within (suc m) k h l = go (decLt 0 k) (low-within m)
+    where
+      go : Dec (0 < k) → ((j : ℕ) → j < m → j < n → start j ≤ sum count j) → start k ≤ sum count k
+      go (yes z) ih =
+          let r = g .each k z l in
+          let p = parent k in
+          let b = r .before in
+          omega (arith, r .from, r .within, ih p (omega arith) (omega arith), sum-within count p k b)
+      go (no z) ih =
+          let e : 0 ≡ k = omega arith in
+          subst (λ (j : ℕ). start j ≤ sum count j) e (omega (arith, g .origin))
 
-    pub parent-low : (k : ℕ) → k < n → parent k ≤ k
-    parent-low k l = go (decLt 0 k)
-      where
-        go : Dec (0 < k) → parent k ≤ k
-        go (yes z) = omega (arith, hang-says start count parent k z (hang k l) .0, near-before start (start k) k z)
-        go (no z) =
-            let e : k ≡ 0 = omega arith in
-            let c : parent 0 ≡ 0 = hang-first start count parent (hang 0 (omega arith)) .1 in
-            subst (λ (j : ℕ). parent j ≤ j) (sym e) (omega arith)
+  pub start-low : (k : ℕ) → k < n → start k ≤ sum count k
+  start-low k l = low-within (suc k) k (omega arith) l
 
--- ---- the rule looks at the lines up to the line itself only
+  pub parent-low : (k : ℕ) → k < n → parent k ≤ k
+  parent-low = falls-low (branched-falls start count parent g)
 
-same-line : (s s′ p p′ t t′ n n′ q q′ : ℕ) → s ≡ s′ → p ≡ p′ → t ≡ t′ → n ≡ n′ → q ≡ q′
-    → onHang (hangOn s p t n) (λ p e. eqb q p) false ≡ true → onHang (hangOn s′ p′ t′ n′) (λ p e. eqb q′ p) false ≡ true
-same-line s s′ p p′ t t′ n n′ q q′ e₁ e₂ e₃ e₄ e₅ h = rw (← e₁, ← e₂, ← e₃, ← e₄, ← e₅) h
+-- ---- lines with the same numbers hang alike
 
--- a test by whether k is zero
-zero-or : (k : ℕ) (x y x′ y′ : Bool) → (x ≡ true → x′ ≡ true) → (0 < k → y ≡ true → y′ ≡ true) → pick (eqb k 0) x y ≡ true → pick (eqb k 0) x′ y′ ≡ true
-zero-or k x y x′ y′ f g h = go (eqb k 0) refl h
-  where
-    go : (t : Bool) → eqb k 0 ≡ t → pick t x y ≡ true → pick t x′ y′ ≡ true
-    go true e h = f h
-    go false e h = let z : k ≡ 0 → ⊥ = eqb-false k 0 e in g (omega arith) h
+module _ (f g c d p q : ℕ → ℕ) (n : ℕ) (some : 0 < n) (starts : (j : ℕ) → j < n → f j ≡ g j) (counts : (j : ℕ) → j < n → c j ≡ d j)
+    (parents : (j : ℕ) → j < n → p j ≡ q j) where
+  pub branched-alike : Branched f c p n → Branched g d q n
+  branched-alike b =
+      record {
+        origin = sym (starts 0 some) ∙ b .origin;
+        root = sym (parents 0 some) ∙ b .root;
+        each = each;
+      }
+    where
+      each : (k : ℕ) → 0 < k → k < n → Chosen g d q k
+      each k z l =
+          let r = b .each k z l in
+          let e = parents k l in
+          let m = r .before in
+          let s : f (p k) ≡ g (q k) = starts (p k) (omega arith) ∙ ap g e in
+          let t : c (p k) ≡ d (q k) = counts (p k) (omega arith) ∙ ap d e in
+          record {
+            before = omega arith;
+            from = omega (arith, r .from, starts k l);
+            within = omega (arith, r .within, starts k l);
+            chain =
+                subst (λ (a : ℕ). HangsFrom q a (k - 1)) e
+                (from-same (branched-falls f c p b) n (λ i h. sym (parents i h)) (r .chain) (omega arith) (omega arith));
+            descends = λ i y h u. omega (arith, starts k l, starts i (omega arith), r .descends i y h (parents i (omega arith) ∙ u ∙ sym e));
+          }
 
-module _ (f g c d p q : ℕ → ℕ) (k : ℕ) (e₁ : (j : ℕ) → j ≤ k → f j ≡ g j) (e₂ : (j : ℕ) → j ≤ k → c j ≡ d j) (e₃ : (j : ℕ) → j ≤ k → p j ≡ q j) where
-  first-same : flag (f 0 equals 0 and p 0 equals 0) ≡ true → flag (g 0 equals 0 and q 0 equals 0) ≡ true
-  first-same h = rw (← e₁ 0 (omega arith), ← e₃ 0 (omega arith)) h
+  single-alike : NoTwo f p n → NoTwo g q n
+  single-alike h i k z l m u v =
+      h i k z l m (parents i (omega arith) ∙ u ∙ sym (parents k m)) (starts i (omega arith) ∙ v ∙ sym (starts k m))
 
-  later-same : 0 < k → onHang (hangs f c (f k) k) (λ i e. eqb (p k) i) false ≡ true → onHang (hangs g d (g k) k) (λ i e. eqb (q k) i) false ≡ true
-  unfolding hangs
-  later-same z h =
-      let m = near f (f k) k in
-      let l : m ≤ k = omega (arith, near-before f (f k) k z) in
-      let e : m ≡ near g (g k) k = near-same f g (f k) k (λ j b. e₁ j (omega arith)) ∙ ap (λ (s : ℕ). near g s k) (e₁ k (omega arith)) in
-      same-line (f k) (g k) m (near g (g k) k) (f m) (g (near g (g k) k)) (c m) (d (near g (g k) k)) (p k) (q k) (e₁ k (omega arith)) e (e₁ m l ∙ ap g e) (e₂ m l ∙ ap d e)
-      (e₃ k (omega arith)) h
+  pub hang-alike : (v : ℕ) → HangAs v f c p n → HangAs v g d q n
+  hang-alike v h = go (eqb v 1) h
+    where
+      two : HangAs 2 f c p n → HangAs 2 g d q n
+      two s = says-branched g d q n (branched-alike (branched-says f c p n some s))
 
-  pub hang-same : claim (hangTest 1 f c p k) → claim (hangTest 1 g d q k)
-  hang-same h =
-      zero-or k (flag (f 0 equals 0 and p 0 equals 0)) (onHang (hangs f c (f k) k) (λ i e. eqb (p k) i) false)
-      (flag (g 0 equals 0 and q 0 equals 0)) (onHang (hangs g d (g k) k) (λ i e. eqb (q k) i) false) first-same later-same h
+      go : (one : Bool) → ((k : ℕ) → k < n → testAs f c p one k ≡ true) → (k : ℕ) → k < n → testAs g d q one k ≡ true
+      go true s = let (a, b) = one-is-two f c p n some .0 s in one-is-two g d q n some .1 (two a, single-alike b)
+      go false s = two s

@@ -26,5 +26,6 @@ pub mod Cases
 pub mod EditsDone
 pub mod Orders
 pub mod Edits
+pub mod Restating
 pub mod PositionsHold
 pub mod Theorems

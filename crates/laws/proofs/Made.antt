@@ -24,12 +24,13 @@ use Rattle.block.specs.Decode.{headersIn, linesIn, movesIn, commentsIn, linePla
 use Rattle.text.specs.Text.{same, before}
 use Rattle.block.specs.inner.Sounds.{Sound}
 use Rattle.block.specs.Sound.{valid, headTest, partsTest, totalsTest, positionTest, headerTest, lineTest, entryTest, commentTest, fitsTest, kindTest, ascends, headerBytes, commentBytes, commentsBefore, entriesBefore}
-use Rattle.block.specs.Formed.{headerOf, lineOf, notedOf, headerFits, lineFits, Formed}
+use Rattle.jkf.specs.Trees.{isVersion, hangTest, HangAs}
+use Rattle.block.specs.Formed.{headerOf, lineOf, notedOf, headerFits, Formed}
 use Rattle.text.proofs.Laws.{same-refl}
 use Rattle.block.proofs.Tabling.{concat-sum}
 use Rattle.laws.proofs.Parts.{from-part}
 use Rattle.block.proofs.Lengths.{block-length}
-use Rattle.laws.proofs.Hanging.{hang-same}
+use Rattle.laws.proofs.Hanging.{hang-alike}
 use Rattle.laws.proofs.Fields.{notesOf, remarksOf, remarkOf, noHeader, noLine, noNoted, Fits, fits, head-begins, version-is, length-is, headers-are, lines-are, moves-are, comments-are, key-offset, key-length, value-offset, value-length, key-is, value-is, start-is, first-entry, entry-count-is, parent-is, entry-row, comment-count-is, what-is, comment-offset, comment-length, comment-is, position-part}
 use Rattle.laws.proofs.Decoded.{formed-fits, position-is}
 
@@ -89,7 +90,7 @@ module _ (r : Record) (f : Fits r) where
 
   -- ---- the head
 
-  head-sound : r .version ≡ 1 → claim (headTest (encode r))
+  head-sound : isVersion (r .version) ≡ true → claim (headTest (encode r))
   unfolding headBytes
   head-sound v =
       let b = head-begins r f in
@@ -101,7 +102,7 @@ module _ (r : Record) (f : Fits r) where
             ap (λ (l : List ℕ). getD l 0 0) b,
             (
               ap (λ (l : List ℕ). getD l 1 0) b,
-              (version-is r f ∙ v, (length-is r f, (ap (λ (l : List ℕ). le16 l 24) b, ap (λ (l : List ℕ). le16 l 26) b))),
+              (ap isVersion (version-is r f) ∙ v, (length-is r f, (ap (λ (l : List ℕ). le16 l 24) b, ap (λ (l : List ℕ). le16 l 26) b))),
             ),
           ),
         ),
@@ -184,16 +185,22 @@ module _ (r : Record) (f : Fits r) where
           go true e a = rw (key-is r f k h, key-is r f (k + 1) (ltb-true (k + 1) (length (r .headers)) e)) a
           go false e a = refl
 
-  line-sound : (k : ℕ) → k < length (r .lines) → claim (lineFits (r .version) (r .lines) k) → claim (lineTest (encode r) k)
-  line-sound k h w =
-      let n = w .0 in (
-        first-entry r f k h ∙ sym (entries-before k (omega arith)),
-        (
-          omega (arith, entry-count-is r f k h),
-          hang-same (λ j. lineOf (r .lines) j .start) (startOf (encode r)) (λ j. length (lineOf (r .lines) j .entries)) (entryCount (encode r)) (λ j. lineOf (r .lines) j .parent) (parentOf (encode r)) k
-              (λ j l. sym (start-is r f j (omega arith))) (λ j l. sym (entry-count-is r f j (omega arith))) (λ j l. sym (parent-is r f j (omega arith))) (w .1),
-        ),
-      )
+  -- its lines hang as those of the record
+  lines-hung : (v : ℕ) → 0 < length (r .lines) → HangAs v (λ j. lineOf (r .lines) j .start) (λ j. length (lineOf (r .lines) j .entries)) (λ j. lineOf (r .lines) j .parent) (length (r .lines))
+      → HangAs v (startOf (encode r)) (entryCount (encode r)) (parentOf (encode r)) (length (r .lines))
+  lines-hung v some =
+      hang-alike (λ j. lineOf (r .lines) j .start) (startOf (encode r)) (λ j. length (lineOf (r .lines) j .entries)) (entryCount (encode r)) (λ j. lineOf (r .lines) j .parent) (parentOf (encode r)) (length (r .lines)) some
+      (λ j l. sym (start-is r f j l)) (λ j l. sym (entry-count-is r f j l)) (λ j l. sym (parent-is r f j l)) v
+
+  line-sound : (k : ℕ) → k < length (r .lines) → 1 ≤ length (lineOf (r .lines) k .entries) → claim (hangTest (r .version) (startOf (encode r)) (entryCount (encode r)) (parentOf (encode r)) k)
+      → claim (lineTest (encode r) k)
+  line-sound k h n w = (
+    first-entry r f k h ∙ sym (entries-before k (omega arith)),
+    (
+      omega (arith, entry-count-is r f k h),
+      subst (λ (v : ℕ). claim (hangTest v (startOf (encode r)) (entryCount (encode r)) (parentOf (encode r)) k)) (sym (version-is r f)) w,
+    ),
+  )
 
   entry-sound : (k : ℕ) → k < length (notesOf r) → claim (kindTest k (notedOf (notesOf r) k .what)) → claim (entryTest (encode r) k)
   entry-sound k h w =
@@ -226,7 +233,7 @@ sound-encode r g =
       totals = totals-sound r f (g .some);
       position = position-sound r f (g .cells) (g .hands) (g .position);
       headers = λ k h. let l : k < length (r .headers) = omega (arith, headers-are r f) in header-sound r f k l (g .headers k l);
-      lines = λ k h. let l : k < length (r .lines) = omega (arith, lines-are r f) in line-sound r f k l (g .lines k l);
+      lines = λ k h. let l : k < length (r .lines) = omega (arith, lines-are r f) in line-sound r f k l (g .lines k l .0) (lines-hung r f (r .version) (g .some) (λ j m. g .lines j m .1) k l);
       entries = λ k h. let l : k < length (notesOf r) = omega (arith, moves-are r f) in entry-sound r f k l (g .entries k l);
       comments = λ k h. let l : k < length (remarksOf r) = omega (arith, comments-are r f) in comment-sound r f k l (g .comments k l);
     }

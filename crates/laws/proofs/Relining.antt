@@ -1,5 +1,6 @@
--- A sound block's record with other lines of play is well formed, where the first of them begins with the slot, no other entry is a slot,
--- every entry can stand in a block, and all lines hang; and the lines of a sound block and of a variation's text are such lines.
+-- A sound block's record with other lines is well formed, as either version, where the first of them begins with the slot, no other entry is a slot,
+-- every entry can stand in a block, and the lines hang as the version asks; and the lines of a sound block and of a variation's text are such
+-- lines.
 --     relined-formed           the record with such lines
 --     block-lines, text-line   the lines of a block, and of a text
 -- Assumes nothing.
@@ -24,14 +25,14 @@ use Rattle.block.specs.PositionBytes.{positionBytes, positionIn}
 use Rattle.jkf.specs.declared.Entry.{Entry}
 use Rattle.jkf.specs.declared.Entry.the-variants.{Slot, Moved, End}
 use Rattle.block.proofs.ByteArrays.{bytes-length}
-use Rattle.jkf.specs.Model.{Header, Noted}
-use Rattle.jkf.specs.Attaching.{Play, play, counts, attach}
+use Rattle.jkf.specs.Model.{Header, Noted, Line}
+use Rattle.jkf.specs.Trees.{isVersion}
 use Rattle.block.specs.Encode.{encode, entryRow, entryStep, entriesOf, commentsOf, headerText}
-use Rattle.block.specs.Decode.{decode, run, headersIn, linesIn, movesIn, commentsIn, movePlace, textPlace, keyOffset, keyLength, valueOffset, valueLength, firstEntry, entryCount, firstComment, commentCount, commentOffset, commentLength, storedText, keyOf, valueOf, commentOf, headerIn, notedIn}
+use Rattle.block.specs.Decode.{decode, run, headersIn, linesIn, movesIn, commentsIn, movePlace, textPlace, keyOffset, keyLength, valueOffset, valueLength, firstEntry, entryCount, firstComment, commentCount, commentOffset, commentLength, storedText, keyOf, valueOf, commentOf, headerIn, notedIn, lineIn}
 use Rattle.text.specs.Text.{before}
 use Rattle.block.specs.inner.Sounds.{Sound}
 use Rattle.block.specs.Sound.{valid, kindTest, commentsBefore}
-use Rattle.block.specs.Formed.{headerOf, notedOf, headerFits, Formed}
+use Rattle.block.specs.Formed.{headerOf, lineOf, notedOf, headerFits, Formed}
 use Rattle.block.proofs.Sums.{sum-within}
 use Rattle.block.proofs.Tabling.{length-run, run-getD}
 use Rattle.block.proofs.Within.{first-comment, some-entry, entries-within, first-none}
@@ -40,12 +41,11 @@ use Rattle.moves.proofs.Fits.{move-line-fits}
 use Rattle.laws.proofs.EntryBytes.{entry-bytes-small}
 use Rattle.moves.proofs.Smalls.{Bytes as AllBytes, empty, each as eachByte, bytes-at, bytes-from, bytes-take, bytes-drop, bytes-join, bytes-16}
 use Rattle.parser.proofs.Alls.{all-at, all-concat}
-use Rattle.block.proofs.Attached.{attach-length, attach-entries, lines-hang}
 use Rattle.moves.proofs.Worded.{remark-well}
-use Rattle.edit.specs.Edit.{playsIn, isVariation, variationOf}
-use Rattle.edit.specs.inner.Splicing.{relined, Lines, playIn}
-use Rattle.edit.proofs.Played.{plays-are}
-use Rattle.edit.proofs.Sounds.{first-is}
+use Rattle.edit.specs.Edit.{isVariation, variationOf, lineOn}
+use Rattle.edit.specs.inner.Splicing.{relined}
+use Rattle.edit.proofs.Listing.{LinesAs}
+use Rattle.edit.proofs.Runs.{first-is}
 use Rattle.edit.proofs.Texts.{variation-says}
 use Rattle.laws.specs.Blocks.{Bytes}
 use Rattle.laws.proofs.Positions.{position-bytes}
@@ -72,15 +72,15 @@ abbrev pub Later : Noted → Type 0
 Later e = Stands e × claim (kindTest 1 (e .what))
 
 -- the main line, and a variation
-abbrev pub Main : Play → Type 0
-Main p = Led First Later (p .entries)
+abbrev pub Main : Line → Type 0
+Main l = Led First Later (l .entries)
 
-pub record Side (p : Play) : Type 0 where
-  pub some : 1 ≤ length (p .entries)
-  pub each : All Later (p .entries)
+pub record Side (l : Line) : Type 0 where
+  pub some : 1 ≤ length (l .entries)
+  pub each : All Later (l .entries)
 
-abbrev pub Standing : List Play → Type 0
-Standing ps = Led Main Side ps
+abbrev pub Standing : List Line → Type 0
+Standing ls = Led Main Side ls
 
 -- ---- the record with other lines
 
@@ -99,17 +99,18 @@ kinds (x ∷ es) (leads p h) (suc k) l =
 line-some : {es : List Noted} → Led First Later es → 1 ≤ length es
 line-some (leads a h) = omega arith
 
-some-each : (ps : List Play) → Standing ps → (k : ℕ) → k < length ps → 1 ≤ counts ps k
-some-each ps h k l = all-at (play 0 []) (led-so {R = λ p. 1 ≤ length (p .entries)} (λ p m. line-some m) (λ p m. m .some) h) k l
+pub some-each : (ls : List Line) → Standing ls → (k : ℕ) → k < length ls → 1 ≤ length (lineOf ls k .entries)
+some-each ls h k l =
+    all-at (record { start = 0; parent = 0; entries = [] }) (led-so {R = λ x. 1 ≤ length (x .entries)} (λ x m. line-some m) (λ x m. m .some) h) k l
 
-all-entries : (ps : List Play) → Standing ps → Led First Later (entriesOf (attach ps))
-all-entries ps h = subst (Led First Later) (sym (attach-entries ps)) (led-concat (λ (p : Play). p .entries) (entered h))
+all-entries : (ls : List Line) → Standing ls → Led First Later (entriesOf ls)
+all-entries ls h = led-concat (λ (x : Line). x .entries) (entered h)
   where
-    entered : {l : List Play} → Standing l → Led (λ p. Led First Later (p .entries)) (λ p. All Later (p .entries)) l
-    entered (leads m h) = leads m (all-so (λ p x. x .each) h)
+    entered : {l : List Line} → Standing l → Led (λ x. Led First Later (x .entries)) (λ x. All Later (x .entries)) l
+    entered (leads m h) = leads m (all-so (λ x y. y .each) h)
 
-all-stand : (ps : List Play) → Standing ps → All Stands (entriesOf (attach ps))
-all-stand ps h = led-so (λ e x. x .0) (λ e x. x .0) (all-entries ps h)
+all-stand : (ls : List Line) → Standing ls → All Stands (entriesOf ls)
+all-stand ls h = led-so (λ e x. x .0) (λ e x. x .0) (all-entries ls h)
 
 -- ---- an entry of a block
 
@@ -178,37 +179,38 @@ module _ (b : List ℕ) (s : Sound b) (u : Bytes b) where
 
   -- ---- with other lines
 
-  module _ (ps : List Play) (lines : Lines ps) (stand : Standing ps) where
-    relined-bytes : AllBytes (encode (relined (decode b) ps))
+  module _ (version : ℕ) (ls : List Line) (stand : Standing ls) where
+    relined-bytes : AllBytes (encode (relined version (decode b) ls))
     unfolding encode relined decode
     relined-bytes =
         let hs = run (headerIn b) 0 (headersIn b) in
-        let es = entriesOf (attach ps) in
-        let w = all-stand ps stand in
+        let es = entriesOf ls in
+        let w = all-stand ls stand in
         bytes-join (bytes-join (bytes-join (bytes-join (bytes-join (bytes-join (bytes-join (head-bytes _ _ _ _ _ _)
-        (subst AllBytes (sym position-part) (bytes-take 100 (bytes-drop 28 bytes)))) (headers-bytes 0 hs)) (lines-bytes 0 (attach ps)))
+        (subst AllBytes (sym position-part) (bytes-take 100 (bytes-drop 28 bytes)))) (headers-bytes 0 hs)) (lines-bytes 0 ls))
         (bytes-table entryRow entryStep (all-so (λ e x. x .row) w) 0)) (remarks-bytes (length (headerText hs)) (commentsOf es)))
         (bytes-concat (λ (h : Header). h .key ++ h .value) (all-run (headerIn b) (headersIn b) 0 (λ i _ _. header-bytes i))))
         (bytes-concat (λ (c : List ℕ). c) (all-concat (λ (e : Noted). e .comments) (all-so (λ e x. x .texts) w)))
 
-    pub relined-formed : length (encode (relined (decode b) ps)) ≤ 65535 → Formed (relined (decode b) ps)
+    pub relined-formed : isVersion version ≡ true → LinesAs version ls → length (encode (relined version (decode b) ls)) ≤ 65535
+        → Formed (relined version (decode b) ls)
     unfolding relined decode positionIn
-    relined-formed short =
+    relined-formed is lines short =
         record {
-          version = s .head .1 .1 .1 .1 .0;
+          version = is;
           short = short;
           bytes = bytes-at relined-bytes;
           cells = bytes-length (drop 28 b) 4 81;
           hands = bytes-length (drop 28 b) 85 14;
           position = s .position .1 .1;
           headers = headers-fit;
-          some = omega (arith, attach-length ps, some-lines stand);
-          lines = lines-hang ps (lines .origin) (some-each ps stand) (lines .hung);
-          entries = kinds (entriesOf (attach ps)) (all-entries ps stand);
-          comments = all-at [] (all-concat (λ (e : Noted). e .comments) (all-so (λ e x. x .valids) (all-stand ps stand)));
+          some = some-lines stand;
+          lines = λ k h. (some-each ls stand k h, lines k h);
+          entries = kinds (entriesOf ls) (all-entries ls stand);
+          comments = all-at [] (all-concat (λ (e : Noted). e .comments) (all-so (λ e x. x .valids) (all-stand ls stand)));
         }
       where
-        some-lines : {l : List Play} → Standing l → 1 ≤ length l
+        some-lines : {l : List Line} → Standing l → 1 ≤ length l
         some-lines (leads m h) = omega arith
 
   -- ---- the lines of the block
@@ -234,10 +236,10 @@ module _ (b : List ℕ) (s : Sound b) (u : Bytes b) where
         texts = comments-of AllBytes (λ j _. comment-bytes j) k h;
       }
 
-  pub block-lines : Standing (playsIn (decode b .lines))
-  block-lines = subst Standing (sym (plays-are b)) (led-run (playIn b) (linesIn b) (s .totals .0) main side)
+  pub block-lines : Standing (decode b .lines)
+  block-lines = unfold decode in led-run (lineIn b) (linesIn b) (s .totals .0) main side
     where
-      main : Main (playIn b 0)
+      main : Main (lineIn b 0)
       main =
           let n = entries-within b s 0 (s .totals .0) in
           let o = some-entry b s 0 (s .totals .0) in
@@ -246,7 +248,7 @@ module _ (b : List ℕ) (s : Sound b) (u : Bytes b) where
           (entry-stands 0 (omega arith), slot-first (notedIn b 0 .what) (s .entries 0 (omega arith) .0))
           (λ i a l. (entry-stands i (omega arith), kind-same i 1 (notedIn b i .what) a (omega arith) (s .entries i (omega arith) .0))))
 
-      side : (k : ℕ) → 0 < k → k < linesIn b → Side (playIn b k)
+      side : (k : ℕ) → 0 < k → k < linesIn b → Side (lineIn b k)
       side k z h =
           let n = entries-within b s k h in
           let e = first-is b s k h in
@@ -261,8 +263,8 @@ module _ (b : List ℕ) (s : Sound b) (u : Bytes b) where
 
 -- ---- the line of a text
 
-pub text-line : (t : List ℕ) → Bytes t → isVariation t ≡ true → Side (variationOf t)
-text-line t u v =
+pub text-line : (t : List ℕ) → Bytes t → isVariation t ≡ true → (k : ℕ) → Side (lineOn k (variationOf t))
+text-line t u v k =
     let said = variation-says t v in
     record {
       some = omega (arith, said .some);

@@ -19,6 +19,8 @@ use Rattle.jkf.specs.declared.Move.{Move}
 use Rattle.jkf.specs.declared.Entry.{Entry}
 use Rattle.jkf.specs.declared.Entry.the-variants.{Slot, Moved, End}
 use Rattle.jkf.specs.Model.{Record}
+use Rattle.jkf.specs.Trees.{NoTwo}
+use Rattle.block.specs.Formed.{lineOf}
 use Rattle.kakinoki.specs.Informations.{presetLineAt}
 use Rattle.moves.specs.Fits.{OriginFits}
 use Rattle.converter.specs.declared.Mode.{Mode}
@@ -32,11 +34,20 @@ use Rattle.laws.specs.Sayable.{OneLine, beginsHand}
 abbrev pub textIn : Mode → Record → List ℕ
 textIn mode r = recordText (saidRecord mode r)
 
+-- A record as reading gives it: version 1.                                                              (02, request (vi))
+abbrev pub asRead : Record → Record
+asRead r = record { version = 1; headers = r .headers; position = r .position; lines = r .lines }
+
 -- What reading that text back gives: of the plain text what it says, of the others the record itself.
 abbrev pub keptIn : Mode → Record → Record
-keptIn Plain r = saidRecord Plain r
-keptIn Whole r = r
-keptIn Shared r = r
+keptIn Plain r = asRead (saidRecord Plain r)
+keptIn Whole r = asRead r
+keptIn Shared r = asRead r
+
+-- No entry of the lines that are written has two variations: where one has, reading nests the second in the first. (02, request (vi): the premise
+-- that joins demand 2)
+abbrev pub SingleIn : Mode → Record → Type 0
+SingleIn mode r = NoTwo (λ j. lineOf (keptIn mode r .lines) j .start) (λ j. lineOf (keptIn mode r .lines) j .parent) (length (keptIn mode r .lines))
 
 -- The modes whose text keeps all of a record.
 pub data LosesNothing : Mode → Type 0 where

@@ -14,13 +14,14 @@ use Rattle.jkf.specs.Attaching.{hangs, onHang, all, first, Play, playOf, starts
 use Rattle.jkf.specs.declared.Hang.{Hang}
 use Rattle.jkf.specs.declared.Hang.the-variants.{On, Nowhere}
 use Rattle.jkf.specs.Model.{Noted, Line}
+use Rattle.block.specs.Formed.{lineOf}
 use Rattle.block.specs.Encode.{table, concat}
-use Rattle.block.proofs.Attached.{attach-length, parent-first}
+use Rattle.block.proofs.Attached.{attach-length, attach-line, parent-first}
 use Rattle.filling.specs.Filling.{putEntries, putLine, hangingOf}
 use Rattle.filling.specs.inner.Parts.{entryTexts, lineTexts, entryEnds, lineEnds, EntriesFit, Entered, LinesFit, LineFits, Lined}
 use Rattle.filling.specs.declared.Walk.{Walk}
 use Rattle.filling.proofs.Growing.{line}
-use Rattle.filling.proofs.Lines.{lineAt, take-more, lined-none, room-for, room-for-none, entries-fit, next-hangs, row-lined, all-lined}
+use Rattle.filling.proofs.Lines.{take-more, lined-none, room-for, room-for-none, entries-fit, next-hangs, row-lined, all-lined}
 use Rattle.plays.specs.Plays.{entriesAt, plyAt, skippedAt, skipsAt, slotAt, pastMain, mainAt, playsAt}
 use Rattle.plays.specs.Losses.{lostFrom, variationsLost, playsLost}
 use Rattle.plays.specs.declared.FilledPlay.{FilledPlay}
@@ -61,24 +62,29 @@ module _ (s : List ℕ) (at : ℕ) (w : Walk) (o₀ : List ℕ) (f : LinesFit (a
 
   -- ---- the main line
 
-  main-is : lineAt ps 0 ≡ mainLine s at
+  main-is : lineOf ls 0 ≡ mainLine s at
   unfolding playsAt
-  main-is = ap (λ (p : ℕ). line (starts ps 0) p (playOf ps 0 .entries)) (parent-first ps) ∙ ap (λ (n : ℕ). line n 0 (mainAt s at .entries)) started
+  main-is =
+      attach-line ps 0 (some-plays s at) ∙ ap (λ (p : ℕ). line (starts ps 0) p (playOf ps 0 .entries)) (parent-first ps)
+      ∙ ap (λ (n : ℕ). line n 0 (mainAt s at .entries)) started
     where
       started : mainAt s at .start ≡ 0
       started = unfold mainAt in refl
 
+  some-lines : 0 < length ls
+  some-lines = omega (arith, some-plays s at, attach-length ps)
+
   origin : starts ps 0 ≡ 0
-  origin = ap (λ (x : Line). x .start) main-is
+  origin = ap (λ (x : Line). x .start) (sym (attach-line ps 0 (some-plays s at)) ∙ main-is)
 
   pub main-fits : LineFits (mainLine s at) w o₀
-  main-fits = subst (λ (x : Line). LineFits x w o₀) main-is (room-for ps w o₀ f 0 (some-plays s at) (lined-none w o₀))
+  main-fits = subst (λ (x : Line). LineFits x w o₀) main-is (room-for ls w o₀ f 0 (lined-none w o₀) some-lines)
 
   pub lining-start : {v : Walk} {to : ℕ} {o : List ℕ} → Lined (mainLine s at ∷ []) w v o₀ o → to ≡ pastMain s (slotAt s at .at) → Lining s at 1 w v to o₀ o
   lining-start {v} {to} {o} d e = record { passed = passed-main s at e; done = subst (λ (l : List Line). Lined l w v o₀ o) (sym one) d }
     where
       one : take 1 ls ≡ mainLine s at ∷ []
-      one = take-more ps 0 (some-plays s at) ∙ ap (λ (x : Line). take 0 ls ++ (x ∷ [])) main-is
+      one = take-more ls 0 some-lines ∙ ap (λ (x : Line). take 0 ls ++ (x ∷ [])) main-is
 
   -- ---- a variation
 
@@ -96,15 +102,18 @@ module _ (s : List ℕ) (at : ℕ) (w : Walk) (o₀ : List ℕ) (f : LinesFit (a
     all-filled : length es ≡ 0 → o ≡ puts o₀ (lineEnds w) (lineTexts 0 0 (w .bytes) ls)
     all-filled e =
         let t : take k ls ≡ ls = take-all k ls (omega (arith, all-passed s at k to up e, attach-length ps)) in
-        all-lined ps w o₀ f (subst (λ (l : List Line). Lined l w v o₀ o) t (i .done))
+        all-lined ls w o₀ f (subst (λ (l : List Line). Lined l w v o₀ o) t (i .done))
 
     -- there is one
     module _ (some : length es ≡ 0 → ⊥) where
-      line-here : lineAt ps k ≡ line (plyAt s place) (parentIn ps k) es
-      line-here = ap (λ (p : Play). line (p .start) (parentIn ps k) (p .entries)) (play-here s at k to up some)
+      more : k < length ls
+      more = omega (arith, more-left s at k to up some, attach-length ps)
+
+      line-here : lineOf ls k ≡ line (plyAt s place) (parentIn ps k) es
+      line-here = attach-line ps k (more-left s at k to up some) ∙ ap (λ (p : Play). line (p .start) (parentIn ps k) (p .entries)) (play-here s at k to up some)
 
       line-fits : LineFits (line (plyAt s place) (parentIn ps k) es) v o
-      line-fits = subst (λ (x : Line). LineFits x v o) line-here (room-for ps w o₀ f k (more-left s at k to up some) (i .done))
+      line-fits = subst (λ (x : Line). LineFits x v o) line-here (room-for ls w o₀ f k (i .done) more)
 
     -- ---- the entries at the next place
 
@@ -118,8 +127,8 @@ module _ (s : List ℕ) (at : ℕ) (w : Walk) (o₀ : List ℕ) (f : LinesFit (a
         go : Dec (0 < length es) → EntriesFit es v o
         go (yes h) =
             let some : length es ≡ 0 → ⊥ = λ e. omega arith in
-            subst (λ (p : Play). EntriesFit (p .entries) v o) (play-here s at k to up some) (entries-fit ps w o₀ f k (up .few) (i .done) (more-left s at k to up some))
-        go (no h) = subst (λ (l : List Noted). EntriesFit l v o) (sym (nothing es (omega arith))) (room-for-none ps w o₀ f k (up .few) (i .done))
+            subst (λ (x : Line). EntriesFit (x .entries) v o) (line-here some) (entries-fit ls w o₀ f k (i .done) (more some))
+        go (no h) = subst (λ (l : List Noted). EntriesFit l v o) (sym (nothing es (omega arith))) (room-for-none ls w o₀ f k (i .done))
 
     module _ (c : Cursor) (p : c .at ≡ place) (x : FilledPlay) (o₁ : List ℕ) (a : x .walk ≡ putEntries (entriesAt s (c .at) .state) v o .walk)
         (b : o₁ ≡ putEntries (entriesAt s (c .at) .state) v o .buffer) (q : x .next .at ≡ entriesAt s (c .at) .at) where
@@ -171,8 +180,8 @@ module _ (s : List ℕ) (at : ℕ) (w : Walk) (o₀ : List ℕ) (f : LinesFit (a
         next-row = more-left s at k to up some-here
 
         module _ (h : Hang) (start : ℕ) (z : start ≡ plyAt s (c .at)) (y : hangingOf (w .lines) start (x .walk) o₁ ≡ h) where
-          start-is : starts ps k ≡ start
-          start-is = start-here s at k to up some-here ∙ ap (plyAt s) (sym p) ∙ sym z
+          here : lineOf ls k ≡ line (plyAt s place) (parentIn ps k) es
+          here = line-here some-here
 
           -- it hangs on nothing
           pub next-lost : h ≡ Nowhere → allHung ps ≡ first k start
@@ -186,9 +195,10 @@ module _ (s : List ℕ) (at : ℕ) (w : Walk) (o₀ : List ℕ) (f : LinesFit (a
 
             pub next-more : (q₂ : Cursor) → q₂ .at ≡ skippedAt s (x .next .at) → Lining s at (k + 1) w u (q₂ .at) o₀ o₂
             next-more q₂ n =
-                let own : Entered (playOf ps k .entries) v (x .walk) o o₁ = subst (λ (p : Play). Entered (p .entries) v (x .walk) o o₁) (sym (play-here s at k to up some-here)) entered in
+                let own : Entered (lineOf ls k .entries) v (x .walk) o o₁ = subst (λ (y : Line). Entered (y .entries) v (x .walk) o o₁) (sym here) entered in
                 let all-of : Lined (take (k + 1) ls) w u o₀ o₂ =
-                row-lined ps w o₀ f k (up .few) (i .done) (more-left s at k to up some-here) own (sym start-is) (sym (parent-of ps k parent e hang)) row rest-of in
+                row-lined ls w o₀ f k (i .done) (more some-here) own (z ∙ ap (plyAt s) p ∙ ap (λ (y : Line). y .start) (sym here)) refl
+                (sym (ap (λ (y : Line). y .parent) here ∙ parent-of ps k parent e hang)) row rest-of in
                 record { passed = next-passed s at k to up some-here hang (n ∙ ap (skippedAt s) past); done = all-of }
 
 -- what was lost up to the last line is lost in all

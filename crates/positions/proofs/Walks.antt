@@ -14,8 +14,7 @@ use Rattle.block.specs.Decode.{run, linesIn, startOf, firstEntry, entryCount, p
 use Rattle.block.specs.inner.Sounds.{Sound}
 use Rattle.block.proofs.Tabling.{run-next, run-end, run-more}
 use Rattle.block.proofs.Within.{entries-within, moves-small}
-use Rattle.jkf.proofs.Nears.{near-before}
-use Rattle.block.proofs.Hanging.{hang-says}
+use Rattle.block.proofs.Hanging.{sound-branched}
 use Rattle.lent.specs.Bytes.{fitting}
 use Rattle.lent.specs.Stored.{Stored}
 use Rattle.lent.proofs.Regions.{put-front, stored-all}
@@ -103,16 +102,12 @@ play-follows b k n w = ap (λ (l : List EntryPlace). playAll b l w) (path-next b
 module _ (b : List ℕ) (s : Sound b) where
   -- a parent is before its line
   pub parent-before : (k : ℕ) → 0 < k → k < linesIn b → parentOf b k < k
-  parent-before k z h =
-      let (e, g) = hang-says (startOf b) (entryCount b) (parentOf b) k z (s .lines k h .1 .1) in
-      rw e (near-before (startOf b) (startOf b k) k z)
+  parent-before k z h = sound-branched b s .each k z h .before
 
   -- what a line hangs on is an entry of its parent
   pub hang-within : (k : ℕ) → k < linesIn b → parentOf b k < k → hangEntry b k ≤ entryCount b (parentOf b k)
   hang-within k h l =
-      let (e, g) = hang-says (startOf b) (entryCount b) (parentOf b) k (omega arith) (s .lines k h .1 .1) in
-      let w = g .within in
-      let z : startOf b k - startOf b (parentOf b k) < entryCount b (parentOf b k) = rw e w in
+      let z : startOf b k - startOf b (parentOf b k) < entryCount b (parentOf b k) = sound-branched b s .each k (omega arith) h .within in
       omega arith
 
   -- its entries have numbers below 65536

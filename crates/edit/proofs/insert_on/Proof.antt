@@ -1,16 +1,20 @@
 -- The tests of the definition in its order; where they pass, the block with the new line is stored.
 -- Assumes nothing.
-use mathlib.Core.Path.{refl, sym, _∙_}
+use Prim.Native.Nat.{ℕ}
+use native.Mathlib.Omega.{arith}
+use mathlib.Core.Path.{refl, sym, ap, _∙_}
+use mathlib.Core.List.{[], _∷_}
 use denote.Ref.{now}
+use borrow.Author.Needs.{needs}
 use borrow.Author.Tests.{not-true, not-false}
 use Rattle.jkf.proofs.Answering.{told}
+use Rattle.block.specs.Encode.{encode}
 use Rattle.block.specs.Decode.{decode}
-use Rattle.edit.specs.Edit.{playsIn, variationOf}
-use Rattle.edit.proofs.Sounds.{puts-in}
-use Rattle.edit.proofs.Afresh.{put-still}
-use Rattle.edit.proofs.Outcomes.{outside, entry-taken, in-place}
+use Rattle.edit.specs.Edit.{variationOf, lineOn}
+use Rattle.edit.specs.Outcomes.{editStored}
+use Rattle.edit.specs.inner.Splicing.{recordAfter}
+use Rattle.edit.proofs.Outcomes.{outside, entry-taken, put-stored}
 use Rattle.edit.proofs.Texts.{variation-says}
-use borrow.Author.Needs.{needs}
 use Rattle.edit.proofs.insert_on.Statement.{statement}
 use Rattle.edit.proofs.insert_on.Tie as tie
 
@@ -24,40 +28,48 @@ returns c =
     let f = sym (c .before .is-ply-of .ensures) ∙ not-true _ (c .if1 .taken) in
     told (outside (decode (now (a .b))) (now (a .out)) (a .k) (variationOf (now (a .t))) j f) (refl, refl)
 
-carries-requires : tie.Need-carries-requires
-carries-requires c κs = search needs
+is-taken-requires : tie.Need-is-taken-requires
+is-taken-requires c κs = search needs
 
 returns-2 : tie.Need-returns-2
+unfolding decode
 returns-2 c =
     let a = c .before .before .before .before .before .before .before .args in
     let (s, h, v, j, e) = c .before .before .before .before .before .before .before .pre in
     let f = sym (c .before .before .before .is-ply-of .ensures) ∙ not-false _ (c .before .before .if1 .left) in
-    let g = sym (c .before .carries .ensures) ∙ c .if2 .taken in
+    let g = sym (c .before .is-taken .ensures) ∙ c .if2 .taken in
     told (entry-taken (decode (now (a .b))) (now (a .out)) (a .k) (variationOf (now (a .t))) j f g) (refl, refl)
 
 place-of-requires : tie.Need-place-of-requires
 place-of-requires c κs = search needs
 
-store-with-requires : tie.Need-store-with-requires
-store-with-requires c κs =
-    let a = c .before .before .before .before .before .before .before .before .before .args in
-    let (s, h, v, j, e) = c .before .before .before .before .before .before .before .before .before .pre in
-    let f = sym (c .before .before .before .before .before .is-ply-of .ensures) ∙ not-false _ (c .before .before .before .before .if1 .left) in
-    let g = sym (c .before .before .before .carries .ensures) ∙ c .before .before .if2 .left in
-    let ok = puts-in (now (a .b)) s (a .k) (a .j) h f g in
-    let (p, _, l) = c .before .place-of .ensures in
-    ((s, l, variation-says (now (a .t)) v .short, e, j), put-still (playsIn (decode (now (a .b)) .lines)) (a .k) (variationOf (now (a .t))) j p ok)
+version-in-requires : tie.Need-version-in-requires
+version-in-requires c κs = tt
+
+cast-version : tie.Need-cast-version
+cast-version c = search needs
+
+store-requires : tie.Need-store-requires
+store-requires c κs =
+    let a = c .before .before .before .before .before .before .before .before .before .before .args in
+    let (s, h, v, j, e) = c .before .before .before .before .before .before .before .before .before .before .pre in
+    (s, omega arith, c .before .before .place-of .ensures .2, (j, e, variation-says (now (a .t)) v .short))
 
 same-length : tie.Need-same-length
 same-length c = search needs
 
 returns-3 : tie.Need-returns-3
 returns-3 c =
-    let a = c .before .before .before .before .before .before .before .before .before .before .before .before .args in
-    let (s, h, v, j, e) = c .before .before .before .before .before .before .before .before .before .before .before .before .pre in
-    let f = sym (c .before .before .before .before .before .before .before .before .is-ply-of .ensures) ∙ not-false _ (c .before .before .before .before .before .before .before .if1 .left) in
-    let g = sym (c .before .before .before .before .before .before .carries .ensures) ∙ c .before .before .before .before .before .if2 .left in
-    told (in-place (decode (now (a .b))) (now (a .out)) (a .k) (variationOf (now (a .t))) j f g (c .before .before .before .before .place-of .ensures .0)) (c .before .before .store-with .ensures)
+    let a = c .before .before .before .before .before .before .before .before .before .before .before .before .before .args in
+    let (s, h, v, j, e) = c .before .before .before .before .before .before .before .before .before .before .before .before .before .pre in
+    let f = sym (c .before .before .before .before .before .before .before .before .before .is-ply-of .ensures) ∙ not-false _ (c .before .before .before .before .before .before .before .before .if1 .left) in
+    let g = sym (c .before .before .before .before .before .before .before .is-taken .ensures) ∙ c .before .before .before .before .before .before .if2 .left in
+    let n = c .before .before .before .before .before .place-of in
+    let new = lineOn (a .k) (variationOf (now (a .t))) in
+    told
+    (put-stored (now (a .b)) s (now (a .out)) (a .k) (variationOf (now (a .t))) j h f g (n .ensures .0)
+    ∙ ap (λ (w : ℕ). editStored (encode (recordAfter w (now (a .b)) (n .result) (n .result) (new ∷ []))) (n .result) (now (a .out))) (sym (c .before .before .before .before .version-in .ensures .0)))
+    (c .before .before .store .ensures)
 
 pub insert-on-spec : {M : Type 1} → statement M
 insert-on-spec =
@@ -65,9 +77,11 @@ insert-on-spec =
     (tie.spec
     is-ply-of-requires
     returns
-    carries-requires
+    is-taken-requires
     returns-2
     place-of-requires
-    store-with-requires
+    version-in-requires
+    cast-version
+    store-requires
     same-length
     returns-3)

@@ -1,24 +1,24 @@
 -- The tests of the definition in its order; where they pass, the block without the lines is stored.
 -- Assumes nothing.
+use Prim.Native.Nat.{ℕ, _+_}
 use native.Mathlib.Omega.{arith}
-use mathlib.Core.Path.{refl}
+use mathlib.Core.Path.{refl, sym, ap, _∙_}
+use mathlib.Core.List.{[]}
 use denote.Ref.{now}
+use borrow.Author.Needs.{needs}
 use Rattle.jkf.proofs.Answering.{told}
-use Rattle.edit.proofs.Outcomes.{main-line, remove-past, removed}
-use Prim.Native.Nat.{ℕ, _<_}
-use mathlib.Core.Path.{sym, ap₂, _∙_}
-use Rattle.jkf.specs.Model.{Record}
 use Rattle.block.specs.Encode.{encode}
 use Rattle.edit.specs.Outcomes.{editStored}
-use Rattle.edit.proofs.Afresh.{cut-record, cut-still}
-use borrow.Author.Needs.{needs}
+use Rattle.edit.specs.inner.Splicing.{recordAfter}
+use Rattle.edit.proofs.Outcomes.{main-line, remove-past, cut-stored}
 use Rattle.edit.proofs.remove.Statement.{statement}
 use Rattle.edit.proofs.remove.Tie as tie
 use Rattle.edit.proofs.remove.Reads as reads
 use Rattle.edit.proofs.remove.Lts as lts
 use Rattle.block.proofs.lines_in.Reads as lines-in-reads
+use Rattle.block.proofs.version_in.Reads as version-in-reads
 use Rattle.edit.proofs.checks.removed_from.Reads as removed-from-reads
-use Rattle.edit.proofs.stores.store_without.Reads as store-without-reads
+use Rattle.edit.proofs.stores.store.Reads as store-reads
 
 returns : tie.Need-returns
 returns c =
@@ -36,24 +36,34 @@ returns-2 c =
 removed-from-requires : tie.Need-removed-from-requires
 removed-from-requires c κs = search needs
 
-store-without-requires : tie.Need-store-without-requires
-store-without-requires c κs =
-    let a = c .before .before .before .before .before .before .before in
-    let (e, z, l) = c .before .removed-from .ensures in
-    let some : 0 < a .args .line = omega (arith, c .before .before .before .before .if1 .left) in
-    (a .pre, l, cut-still (now (a .args .b)) (a .args .line) e (a .pre) some (omega (arith, c .before .before .if2 .left, c .before .before .before .lines-in .ensures .0)))
+version-in-requires : tie.Need-version-in-requires
+version-in-requires c κs = search needs
+
+cast-version : tie.Need-cast-version
+cast-version c = search needs
+
+add-store : tie.Need-add-store
+add-store c = search needs
+
+slice-aggregate-store : tie.Need-slice-aggregate-store
+slice-aggregate-store c = search needs
+
+store-requires : tie.Need-store-requires
+store-requires c κs = search needs
 
 same-length : tie.Need-same-length
 same-length c = search needs
 
 returns-3 : tie.Need-returns-3
 returns-3 c =
-    let a = c .before .before .before .before .before .before .before .before .before .before .args in
-    let e = c .before .before .before .before .removed-from .ensures .0 in
+    let a = c .before .before .before .before .before .before .before .before .before .before .before .before .args in
+    let s = c .before .before .before .before .before .before .before .before .before .before .before .before .pre in
+    let m = c .before .before .before .before .before .before .removed-from in
+    let z = c .before .before .before .before .before .before .before .before .before .if1 .left in
     told
-    (removed (now (a .b)) (a .line) (now (a .out)) (c .before .before .before .before .before .before .before .if1 .left) (omega (arith, c .before .before .before .before .before .if2 .left, c .before .before .before .before .before .before .lines-in .ensures .0))
-    ∙ ap₂ (λ (r : Record) (n : ℕ). editStored (encode r) n (now (a .out))) (cut-record (now (a .b)) (a .line) e) (sym e))
-    (c .before .before .store-without .ensures)
+    (cut-stored (now (a .b)) (a .line) (now (a .out)) s z (omega (arith, c .before .before .before .before .before .before .before .if2 .left, c .before .before .before .before .before .before .before .before .lines-in .ensures .0)) (m .ensures .0)
+    ∙ ap (λ (w : ℕ). editStored (encode (recordAfter w (now (a .b)) (a .line) (a .line + m .result) [])) (m .result) (now (a .out))) (sym (c .before .before .before .before .before .version-in .ensures .0)))
+    (c .before .before .store .ensures)
 
 pub remove-spec : {M : Type 1} → statement M
 remove-spec =
@@ -63,6 +73,10 @@ remove-spec =
     lines-in-requires
     returns-2
     removed-from-requires
-    store-without-requires
+    version-in-requires
+    cast-version
+    add-store
+    slice-aggregate-store
+    store-requires
     same-length
     returns-3)

@@ -1,26 +1,29 @@
 -- On the way to an edited block: what was counted of a text; the lines before line p, new ones, and the lines from line q on; how they are
 -- put, and their sizes.
 -- Assumes nothing: these are definitions.
-use Prim.Native.Nat.{ℕ, _+_, _-_}
+use Prim.Native.Nat.{ℕ, _+_, _-_, _≤_}
 use mathlib.Core.Path.{_≡_}
-use mathlib.Core.List.{List, _++_}
+use mathlib.Core.List.{List, [], _∷_, _++_, map}
 use lib.ListN.{length, take, drop}
+use lib.Dec.{leb}
+use Rattle.lists.specs.Pick.{pick}
 use Rattle.lists.specs.Repeat.{Ended}
-use Rattle.jkf.specs.Attaching.{all, Play, play, starts, attach, allHung}
-use Rattle.jkf.specs.Model.{Noted, Record}
-use Rattle.block.specs.Encode.{commentsOf, commentText}
-use Rattle.block.specs.Decode.{run, headersIn, linesIn, movesIn, headerIn, startOf, firstEntry, entryCount, notedIn, decode}
+use Rattle.jkf.specs.Model.{Noted, Line, Record}
+use Rattle.block.specs.Encode.{entriesOf, commentsOf, commentText}
+use Rattle.block.specs.Decode.{run, headersIn, linesIn, movesIn, headerIn, notedIn, decode}
 use Rattle.block.specs.Sound.{headerBytes, entriesBefore}
 use Rattle.block.specs.PositionBytes.{positionIn}
-use Rattle.filling.specs.Filling.{opening, opened, Grown, grown, hookedOf, hookedIn, putAll, putEntries}
-use Rattle.filling.specs.inner.Parts.{onOpening, putHeaders, onHooked}
+use Rattle.filling.specs.Filling.{opening, opened, Grown, putLine, putAll, putEntries}
+use Rattle.filling.specs.inner.Parts.{onOpening, putHeaders}
 use Rattle.filling.specs.declared.Sizes.{Sizes}
 use Rattle.filling.specs.declared.Walk.{Walk}
 use Rattle.filling.specs.declared.Opening.{Opening}
 use Rattle.filling.specs.declared.Opening.the-variants.{Begun, Refused}
 use Rattle.plays.specs.Plays.{plyAt, sequenceAt}
-use Rattle.plays.specs.inner.Entries.{playEntries}
-use Rattle.edit.specs.Edit.{playsIn}
+use Rattle.plays.specs.Counted.{extentAt}
+use Rattle.edit.specs.Edit.{reparented, variationOf, lineOn}
+use Rattle.edit.specs.declared.Added.{Added}
+use Rattle.edit.specs.declared.Added.the-variants.{Nothing, Variation}
 
 -- ---- the text
 
@@ -28,47 +31,47 @@ use Rattle.edit.specs.Edit.{playsIn}
 abbrev pub numberedIn : List ℕ → Ended (List Noted)
 numberedIn t = sequenceAt (plyAt t 0) t 0
 
+-- ---- the new lines
+
+-- None, or the line of a text.
+abbrev pub newLines : Added → List ℕ → List Line
+newLines Nothing t = []
+newLines (Variation k ply x) t = lineOn k (variationOf t) ∷ []
+
+-- What is handed on about the text was counted of it.
+abbrev pub Counted : Added → List ℕ → Type 0
+Counted Nothing t = Unit {0}
+Counted (Variation k ply x) t = (ply ≡ plyAt t 0) × (x ≡ extentAt t 0) × (length t ≤ 65535)
+
 -- ---- the lines
 
--- A record with other lines of play, each hung by the attaching rule.
-unfoldable pub relined : Record → List Play → Record
-relined r ps = record { version = r .version; headers = r .headers; position = r .position; lines = attach ps }
+-- A line's number once the lines from p to q - 1 gave way to n new ones.
+unfoldable pub shifted : ℕ → ℕ → ℕ → ℕ → ℕ
+shifted p q n i = pick (leb p i) (i + n - (q - p)) i
 
--- The lines of play without n from line k on.
-abbrev pub without : ℕ → ℕ → List Play → List Play
-without k n ps = take k ps ++ drop (k + n) ps
+-- The lines before line p, new ones, and those from line q on: each of the old ones on its old parent, renumbered.
+abbrev pub spliced : ℕ → ℕ → List Line → List Line → List Line
+spliced p q vs ls = let qs = map (reparented (shifted p q (length vs))) ls in take p qs ++ (vs ++ drop q qs)
 
--- The lines of play before line p, new ones, and those from line q on.
-abbrev pub spliced : ℕ → ℕ → List Play → List Play → List Play
-spliced p q vs ps = take p ps ++ (vs ++ drop q ps)
+abbrev pub linesAfter : List ℕ → ℕ → ℕ → List Line → List Line
+linesAfter b p q vs = spliced p q vs (decode b .lines)
 
-abbrev pub linesAfter : List ℕ → ℕ → ℕ → List Play → List Play
-linesAfter b p q vs = spliced p q vs (playsIn (decode b .lines))
+-- A record of a version, with other lines.
+unfoldable pub relined : ℕ → Record → List Line → Record
+relined version r ls = record { version = version; headers = r .headers; position = r .position; lines = ls }
 
-abbrev pub recordAfter : List ℕ → ℕ → ℕ → List Play → Record
-recordAfter b p q vs = relined (decode b) (linesAfter b p q vs)
-
--- Lines of play that all hang, the first of them the main line.
-pub record Lines (ps : List Play) : Type 0 where
-  pub origin : starts ps 0 ≡ 0
-  pub hung : allHung ps ≡ all
-
--- Line k of a block without its parent.
-abbrev pub playIn : List ℕ → ℕ → Play
-playIn b k = play (startOf b k) (run (notedIn b) (firstEntry b k) (entryCount b k))
+abbrev pub recordAfter : ℕ → List ℕ → ℕ → ℕ → List Line → Record
+recordAfter version b p q vs = relined version (decode b) (linesAfter b p q vs)
 
 -- ---- lines put one after another
 
--- The row of a line whose entries were put between two walks; where the line hangs on none, which is not met, the block is as it was.
-abbrev pub putHung : ℕ → ℕ → Walk → Walk → List ℕ → Grown
-putHung rows start w v o = grown (onHooked (hookedOf rows start w v o) (λ u. u) v) (hookedIn rows start w v o)
+-- A line: its entries, and then its row, on its parent.
+unfoldable pub putWhole : Line → Walk → List ℕ → Grown
+putWhole l w o =
+    let g = putEntries (l .entries) w o in putLine (l .start) (w .entries) (length (l .entries)) (l .parent) (g .walk) (g .buffer)
 
--- A line of play: its entries, and then its row.
-unfoldable pub putPlay : ℕ → Play → Walk → List ℕ → Grown
-putPlay rows p w o = let g = putEntries (p .entries) w o in putHung rows (p .start) w (g .walk) (g .buffer)
-
-abbrev pub putPlays : ℕ → List Play → Walk → List ℕ → Grown
-putPlays rows = putAll (putPlay rows)
+abbrev pub putWholes : List Line → Walk → List ℕ → Grown
+putWholes = putAll putWhole
 
 -- ---- their entries
 
@@ -84,14 +87,14 @@ abbrev pub bytesWithin : List ℕ → ℕ → ℕ → ℕ
 bytesWithin b k n = length (commentText (commentsOf (run (notedIn b) k n)))
 
 -- New lines, counted; and the sizes of the block that has them.
-abbrev pub addedSizes : List Play → Sizes
+abbrev pub addedSizes : List Line → Sizes
 addedSizes vs =
     record {
       headers = 0;
       lines = length vs;
-      entries = length (playEntries vs);
-      comments = length (commentsOf (playEntries vs));
-      bytes = length (commentText (commentsOf (playEntries vs)));
+      entries = length (entriesOf vs);
+      comments = length (commentsOf (entriesOf vs));
+      bytes = length (commentText (commentsOf (entriesOf vs)));
     }
 
 abbrev pub sizesAfter : List ℕ → ℕ → ℕ → Sizes → Sizes
@@ -111,14 +114,14 @@ sizesAfter b p q z =
 abbrev pub headersPut : List ℕ → Walk → List ℕ → Grown
 headersPut b w o = putHeaders (run (headerIn b) 0 (headersIn b)) w o
 
--- A block of these sizes that is begun, and its header entries filled in.
-unfoldable pub beginning : List ℕ → Sizes → List ℕ → Opening
-beginning b z o =
+-- A block of a version and of these sizes that is begun, and its header entries filled in.
+unfoldable pub beginning : ℕ → List ℕ → Sizes → List ℕ → Opening
+beginning version b z o =
     onOpening (opening z (length o))
-    (λ w n. Begun (headersPut b w (opened 1 z (positionIn (drop 28 b)) o) .walk) n)
+    (λ w n. Begun (headersPut b w (opened version z (positionIn (drop 28 b)) o) .walk) n)
     (λ a. Refused a)
 
-unfoldable pub beginningOf : List ℕ → Sizes → List ℕ → List ℕ
-beginningOf b z o =
-    let q = opened 1 z (positionIn (drop 28 b)) o in
+unfoldable pub beginningOf : ℕ → List ℕ → Sizes → List ℕ → List ℕ
+beginningOf version b z o =
+    let q = opened version z (positionIn (drop 28 b)) o in
     onOpening (opening z (length o)) (λ w n. headersPut b w q .buffer) (λ a. q)

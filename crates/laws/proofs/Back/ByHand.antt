@@ -163,12 +163,12 @@ module _ (mode : Mode) where
   main-sayable : {es : List Noted} → Led First Later es → All (λ e. EntryByHand (e .what)) es → All (λ e. All OneLine (e .comments)) es → All (Writable mode) es → Led SlotSayable NotedSayable es
   main-sayable (leads (s, q) ls) (next h hs) (next c cs) (next w ws) = leads (record { slot = q; comments = c }) (notes-sayable ls hs cs ws)
 
-  sides-sayable : (ls : List Line) → All Side (playsIn ls) → All (λ l. All (λ e. EntryByHand (e .what)) (l .entries)) ls → All (λ l. All (λ e. All OneLine (e .comments)) (l .entries)) ls
+  sides-sayable : (ls : List Line) → All Side ls → All (λ l. All (λ e. EntryByHand (e .what)) (l .entries)) ls → All (λ l. All (λ e. All OneLine (e .comments)) (l .entries)) ls
       → All (λ l. All (Writable mode) (l .entries)) ls → All (λ p. All NotedSayable (p .entries)) (playsIn ls)
   sides-sayable [] ss hs cs ws = none
   sides-sayable (l ∷ ls) (next s ss) (next h hs) (next c cs) (next w ws) = next (notes-sayable (s .each) h c w) (sides-sayable ls ss hs cs ws)
 
-  plays-sayable : (ls : List Line) → Standing (playsIn ls) → All (λ l. All (λ e. EntryByHand (e .what)) (l .entries)) ls → All (λ l. All (λ e. All OneLine (e .comments)) (l .entries)) ls
+  plays-sayable : (ls : List Line) → Standing ls → All (λ l. All (λ e. EntryByHand (e .what)) (l .entries)) ls → All (λ l. All (λ e. All OneLine (e .comments)) (l .entries)) ls
       → All (λ l. All (Writable mode) (l .entries)) ls → PlaysSayable (playsIn ls)
   plays-sayable (l ∷ ls) (leads m ss) (next h hs) (next c cs) (next w ws) = leads (main-sayable m h c w) (sides-sayable ls ss hs cs ws)
 

@@ -18,10 +18,10 @@ use Rattle.text.specs.declared.Number.the-variants.{Value, NoDigit, TooLarge}
 use Rattle.jkf.specs.declared.Entry.{Entry}
 use Rattle.jkf.specs.declared.Entry.the-variants.{Slot, Moved, End}
 use Rattle.jkf.specs.declared.Time.{Time}
-use Rattle.jkf.specs.Model.{Noted, Record}
+use Rattle.jkf.specs.Model.{Noted, Line, Record}
 use Rattle.jkf.specs.Attaching.{Play}
 use Rattle.block.specs.Encode.{encode}
-use Rattle.block.specs.Decode.{decode}
+use Rattle.block.specs.Decode.{versionIn, decode}
 use Rattle.block.specs.Formed.{Formed}
 use Rattle.text.specs.declared.Place.{Place}
 use Rattle.text.specs.declared.Place.the-variants.{Past, Absent}
@@ -33,17 +33,18 @@ use Rattle.moves.specs.declared.MoveLine.{MoveLine}
 use Rattle.moves.specs.declared.MoveLine.the-variants.{Numbered, NoLine}
 use Rattle.plays.specs.Plays.{noted, commentsAt, entryItem, entriesAt, numberItem, numbersAt, inSequence, plyAt}
 use Rattle.plays.proofs.Sequences.{numbers-many}
-use Rattle.edit.specs.Edit.{playsIn, isVariation, placeOf}
+use Rattle.edit.specs.Edit.{playsIn, isVariation, variationOf}
 use Rattle.edit.specs.inner.Splicing.{relined}
-use Rattle.edit.proofs.Sounds.{plays-back}
+use Rattle.edit.proofs.Listing.{plays-put}
 use Rattle.edit.proofs.Texts.{variation-says}
 use Rattle.laws.specs.Blocks.{Bytes}
 use Rattle.laws.specs.Sayable.{Follows, slot, move, ending, Colored, end, then, ColorsFollow}
-use Rattle.laws.specs.Back.{EditOf, put, cut, EditsOf, none, then as after, ColorsStay}
+use Rattle.laws.specs.Back.{EditOf, put, cut, restate, EditsOf, none, then as after, ColorsStay}
 use Rattle.laws.proofs.Decoded.{decode-encode}
 use Rattle.laws.proofs.Firsts.{all-take, all-drop}
 use Rattle.parser.proofs.Alls.{all-append}
-use Rattle.laws.proofs.EditsDone.{put-done, cutMany, cut-done}
+use Rattle.laws.proofs.EditsDone.{putPlace, putLines, put-done, cutMany, cutLines, cut-done, restate-done}
+use Rattle.laws.proofs.Back.Keeps.{cut-all}
 use Rattle.moves.proofs.Answers.{OnMoveLine, numbered, noLine, line-is}
 
 -- ---- a move line
@@ -124,9 +125,9 @@ module _ (t : List ℕ) where
 abbrev InColor : List Play → Type 0
 InColor = All (λ p. Colored (p .start) (p .entries))
 
-relined-colors : (r : Record) (ps : List Play) → InColor ps → ColorsFollow (relined r ps)
+relined-colors : (v : ℕ) (r : Record) (ls : List Line) → InColor (playsIn ls) → ColorsFollow (relined v r ls)
 unfolding relined
-relined-colors r ps h = subst InColor (sym (plays-back ps)) h
+relined-colors v r ls h = h
 
 -- what is kept along the way
 record ColoredBlock (b : List ℕ) : Type 0 where
@@ -139,14 +140,17 @@ colored-encode r g h = record { bytes = g .bytes; colors = subst ColorsFollow (s
 edit-colored : {b c : List ℕ} → ColoredBlock b → EditOf b c → ColoredBlock c
 edit-colored {b} w (put k t o n i ts e) =
     let d = put-done b t o (w .bytes) ts k n i e in
-    let ps = playsIn (decode b .lines) in
-    let p = placeOf ps k (plyAt t 0) in
+    let p = putPlace b k t in
     subst ColoredBlock (sym (d .front))
-    (colored-encode _ (d .formed) (relined-colors (decode b) _ (all-append (all-take p (w .colors)) (next (text-colored t (d .text)) (all-drop p (w .colors))))))
+    (colored-encode _ (d .formed) (relined-colors (versionIn b) (decode b) (putLines b k t)
+    (subst InColor (sym (plays-put p k (variationOf t) (decode b .lines))) (all-append (all-take p (w .colors)) (next (text-colored t (d .text)) (all-drop p (w .colors)))))))
 edit-colored {b} w (cut k o n m e) =
     let d = cut-done b o (w .bytes) k n m e in
     subst ColoredBlock (sym (d .front))
-    (colored-encode _ (d .formed) (relined-colors (decode b) _ (all-append (all-take k (w .colors)) (all-drop (k + cutMany b k) (w .colors)))))
+    (colored-encode _ (d .formed) (relined-colors (versionIn b) (decode b) (cutLines b k) (cut-all k (cutMany b k) (decode b .lines) (w .colors))))
+edit-colored {b} w (restate o n m e) =
+    let d = restate-done b o (w .bytes) n m e in
+    subst ColoredBlock (sym (d .front)) (colored-encode _ (d .formed) (w .colors))
 
 edits-colored : {b c : List ℕ} → ColoredBlock b → EditsOf b c → ColoredBlock c
 edits-colored w none = w

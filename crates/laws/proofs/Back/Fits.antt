@@ -17,14 +17,11 @@ use Rattle.lists.specs.Test.{claim, each, _and_, _equals_, flag}
 use Rattle.lists.proofs.Tests.{says}
 use Rattle.jkf.specs.declared.Position.{Position}
 use Rattle.jkf.specs.declared.Entry.the-variants.{Slot}
-use Rattle.jkf.specs.Attaching.{near}
-use Rattle.jkf.proofs.Nears.{near-before}
 use Rattle.jkf.specs.Model.{Header, Noted, Line, Record}
 use Rattle.block.specs.Encode.{concat, entriesOf}
 use Rattle.text.specs.Text.{before}
 use Rattle.block.specs.Sound.{isCell, fitsTest}
-use Rattle.block.specs.Formed.{headerOf, lineOf, headerFits, lineFits, Formed}
-use Rattle.block.proofs.Hanging.{hang-first, hang-says}
+use Rattle.block.specs.Formed.{headerOf, lineOf, headerFits, Formed}
 use Rattle.kakinoki.specs.Boards.{noCells}
 use Rattle.sorted.specs.Sorted.{onOrder, compared, byBytes}
 use Rattle.sorted.specs.inner.Orders.{Ascending}
@@ -37,6 +34,7 @@ use Rattle.converter.specs.Said.{shown}
 use Rattle.converter.specs.Show.{handObstacle, handsObstacle}
 use Rattle.converter.specs.declared.Obstacle.the-variants.{At, Clear}
 use Rattle.edit.specs.Edit.{playsIn}
+use Rattle.edit.proofs.Listing.{startsIn, countsIn, BranchedIn, as-branched}
 use Rattle.parser.proofs.Alls.{index-all}
 use Rattle.laws.proofs.Decoded.{formed-fits}
 use Rattle.laws.proofs.Fields.{fits}
@@ -214,43 +212,28 @@ shownLines (l ∷ ls) = l ∷ shown ls
 abbrev pub shownRecord : Record → Record
 shownRecord r = record { version = r .version; headers = r .headers; position = r .position; lines = shownLines (r .lines) }
 
-all-fitted : (ls : List Line) → 1 ≤ length ls → claim (each (length ls) (lineFits 1 ls)) → All Known ls → PlaysSayable (playsIn ls) → All (λ p. Colored (p .start) (p .entries)) (playsIn ls) → LinesFit (shownLines ls)
-all-fitted [] n f ks s c = absurd (omega arith)
-all-fitted (l ∷ ls) n f (next k ks) (leads s ss) (next c cs) = go (l .entries) refl s c
+all-fitted : (ls : List Line) → 1 ≤ length ls → BranchedIn ls → All Known ls → PlaysSayable (playsIn ls) → All (λ p. Colored (p .start) (p .entries)) (playsIn ls) → LinesFit (shownLines ls)
+all-fitted [] n g ks s c = absurd (omega arith)
+all-fitted (l ∷ ls) n g (next k ks) (leads s ss) (next c cs) = go (l .entries) refl s c
   where
-    start : ℕ → ℕ
-    start j = lineOf (l ∷ ls) j .start
-
-    count : ℕ → ℕ
-    count j = length (lineOf (l ∷ ls) j .entries)
-
-    parent : ℕ → ℕ
-    parent j = lineOf (l ∷ ls) j .parent
-
-    first : (l .start ≡ 0) × (l .parent ≡ 0)
-    first = hang-first start count parent (f 0 (omega arith) .1)
-
     -- where the main line has only its slot, a variation can only start at 0
-    alone : (m : ℕ) → length (l .entries) ≡ suc m → m ≡ 0 → (ls : List Line) → claim (each (length (l ∷ ls)) (lineFits 1 (l ∷ ls))) → shown ls ≡ []
-    alone m e q [] f = no-lines
-    alone m e q (x ∷ xs) f =
-        let start : ℕ → ℕ = λ j. lineOf (l ∷ x ∷ xs) j .start in
-        let count : ℕ → ℕ = λ j. length (lineOf (l ∷ x ∷ xs) j .entries) in
-        let parent : ℕ → ℕ = λ j. lineOf (l ∷ x ∷ xs) j .parent in
-        let h = hang-says start count parent 1 (omega arith) (f 1 (omega arith) .1) .1 in
-        let b : near start (x .start) 1 ≡ 0 = omega (arith, near-before start (x .start) 1 (omega arith)) in
-        let w : x .start - start 0 < count 0 = subst (λ (j : ℕ). x .start - start j < count j) b (h .within) in
-        none-shown x xs (omega (arith, first .0))
+    alone : (m : ℕ) → length (l .entries) ≡ suc m → m ≡ 0 → (ls : List Line) → BranchedIn (l ∷ ls) → shown ls ≡ []
+    alone m e q [] g = no-lines
+    alone m e q (x ∷ xs) g =
+        let t = g .each 1 (omega arith) (omega arith) in
+        let b : x .parent ≡ 0 = omega (arith, t .before) in
+        let w : x .start - l .start < length (l .entries) = subst (λ (j : ℕ). x .start - startsIn (l ∷ x ∷ xs) j < countsIn (l ∷ x ∷ xs) j) b (t .within) in
+        none-shown x xs (omega (arith, g .origin))
 
     go : (es : List Noted) → l .entries ≡ es → Led SlotSayable NotedSayable es → Colored (l .start) es → LinesFit (l ∷ shown ls)
     go (x ∷ es) e (leads t ts) c =
         let e′ : l .entries ≡ noted Slot (x .comments) ∷ es = e ∙ ap (λ (y : Noted). y ∷ es) (slot-is x (t .slot)) in
-        let q : l ≡ record { start = 0; parent = 0; entries = noted Slot (x .comments) ∷ es } = main-is l (first .0) (first .1) e′ in
-        let c₁ : Colored 1 es = subst (λ (p : ℕ). Colored (p + 1) es) (first .0) (later-colored c) in
+        let q : l ≡ record { start = 0; parent = 0; entries = noted Slot (x .comments) ∷ es } = main-is l (g .origin) (g .root) e′ in
+        let c₁ : Colored 1 es = subst (λ (p : ℕ). Colored (p + 1) es) (g .origin) (later-colored c) in
         let n₁ : 1 + length es ≤ 18446744073709551615 = omega (arith, k .low, ap length e) in
         subst (λ (l : Line). LinesFit (l ∷ shown ls)) (sym q)
         (fit (t .comments) (entries-fitted 1 ts c₁ n₁)
-        (lines-fitted (shown-later ls) (shown-all ks) (shown-all (all-unmap _ ls ss)) (shown-all (all-unmap _ ls cs))) (λ y. alone (length es) (ap length e) y ls f))
+        (lines-fitted (shown-later ls) (shown-all ks) (shown-all (all-unmap _ ls ss)) (shown-all (all-unmap _ ls cs))) (λ y. alone (length es) (ap length e) y ls g))
 
 pub record-fitted : (r : Record) → Formed r → Sayable r → ColorsFollow r → handsObstacle (r .position) ≡ Clear → RecordFits (shownRecord r)
 record-fitted r g s c o =
@@ -261,7 +244,7 @@ record-fitted r g s c o =
       headers = s .headers;
       position = position-fitted (r .position) (g .cells) (g .hands) (g .position) o;
       lines =
-          all-fitted (r .lines) (g .some) (g .lines)
+          all-fitted (r .lines) (g .some) (as-branched (r .version) (r .lines) (g .some) (λ k h. g .lines k h .1))
           (index-all Known (record { start = 0; parent = 0; entries = [] }) (r .lines)
           (λ k h. record { some = g .lines k h .0; low = omega (arith, w .starts k h, entries-long (r .lines) k h) })) (s .plays) c;
     }

@@ -1,9 +1,9 @@
 -- What was written reads back: `fill` of a text that loses nothing answers the block of the record, and of the plain text, which is such a text of
--- what it says, the block of that.
+-- what it says, the block of that, as version 1 and where no entry of the lines that are written has two variations.
 -- Assumes nothing.
 use Prim.Native.Nat.{ℕ, _+_, _*_, _≤_, _<_}
 use native.Mathlib.Omega.{arith}
-use mathlib.Core.Path.{_≡_, refl, sym, ap, ap₂, _∙_, subst}
+use mathlib.Core.Path.{_≡_, refl, sym, ap, _∙_, subst}
 use mathlib.Core.List.{List, [], _∷_, _++_, map}
 use lib.ListN.{length, getD, take, drop, length-map, length-append, take-append-drop}
 use borrow.Author.Tests.{le-ltb}
@@ -12,7 +12,7 @@ use Rattle.text.specs.Utf8.{wellFormedBytes}
 use Rattle.jkf.specs.Answers.{Outcome}
 use Rattle.jkf.specs.declared.Answer.the-variants.{Done}
 use Rattle.jkf.specs.Model.{Noted, Line, Record, Header}
-use Rattle.jkf.specs.Attaching.{attach}
+use Rattle.jkf.specs.Attaching.{attach, all, allHung}
 use Rattle.block.specs.Encode.{concat, encode, entriesOf, commentsOf, commentText, flatLength}
 use Rattle.block.specs.Formed.{Formed}
 use Rattle.block.proofs.Tabling.{concat-append}
@@ -21,18 +21,16 @@ use Rattle.filling.specs.Filling.{atFront}
 use Rattle.parser.specs.Parse.{parse, recordOf, needed}
 use Rattle.parser.specs.Read.{filledWith, readStored, earlyOf, faultless, fillOf}
 use Rattle.converter.specs.declared.Mode.{Mode}
-use Rattle.converter.specs.declared.Mode.the-variants.{Plain, Whole}
+use Rattle.converter.specs.declared.Mode.the-variants.{Plain, Whole, Shared}
 use Rattle.converter.specs.Said.{saidNoted, saidLine, saidLines, saidRecord}
 use Rattle.converter.specs.Show.{handsObstacle}
 use Rattle.converter.specs.declared.Obstacle.the-variants.{Clear}
 use Rattle.edit.specs.Edit.{playsIn}
-use Rattle.edit.specs.inner.Splicing.{Lines}
-use Rattle.edit.proofs.Sounds.{lines-hang, lines-afresh}
+use Rattle.edit.proofs.Afresh.{back-nests, back-2}
 use Rattle.parser.proofs.Alls.{index-all}
-use Rattle.laws.proofs.Decoded.{formed-fits, decode-encode}
-use Rattle.laws.proofs.Made.{sound-encode}
+use Rattle.laws.proofs.Decoded.{formed-fits}
 use Rattle.laws.proofs.Fields.{fits}
-use Rattle.laws.specs.Modes.{textIn, LosesNothing, whole}
+use Rattle.laws.specs.Modes.{textIn, asRead, keptIn, SingleIn, LosesNothing, whole, shared}
 use Rattle.laws.specs.Sayable.{Sayable, ColorsFollow}
 use Rattle.laws.specs.Back.{parsedOf, readInto}
 use Rattle.laws.proofs.Back.Texts.{RecordFits, parse-back}
@@ -41,7 +39,7 @@ use Rattle.laws.proofs.Back.Shown.{shown-all, shown-same}
 use Rattle.laws.proofs.Back.Fits.{shownLines, record-fitted}
 use Rattle.laws.proofs.Back.Characters.{Chars, chars-well, well-chars, chars-small}
 use Rattle.laws.proofs.Back.WellFormed.{NotesValid, LinesValid, HeaderValid, text-chars}
-use Rattle.laws.proofs.Back.Said.{said-fits, taken-of, Attached, said-attached}
+use Rattle.laws.proofs.Back.Said.{said-fits, taken-of, Hung, said-hung}
 
 -- ---- texts are valid
 
@@ -144,10 +142,15 @@ weight-less ls h =
 abbrev longBy : List Header → List Line → ℕ
 longBy hs ls = flatLength hs ls (entriesOf ls) (commentsOf (entriesOf ls))
 
-module _ (r : Record) (f : RecordFits r) (one : r .version ≡ 1) (a : Attached (r .lines)) (hs : All HeaderValid (r .headers)) (ls : LinesValid (r .lines)) where
-  -- the record of what is said is the record
-  record-back : (n : ℕ) → recordOf (parsedOf r n) ≡ r
-  record-back n = ap₂ (λ (v : ℕ) (l : List Line). record { version = v; headers = r .headers; position = r .position; lines = l }) (sym one) (a .same)
+-- lines that all hang, where the attaching rule hangs them
+pub record Attached (ls : List Line) : Type 0 where
+  pub hung : allHung (playsIn ls) ≡ all
+  pub same : attach (playsIn ls) ≡ ls
+
+module _ (r : Record) (f : RecordFits r) (a : Attached (r .lines)) (hs : All HeaderValid (r .headers)) (ls : LinesValid (r .lines)) where
+  -- the record of what is said is the record, as version 1
+  record-back : (n : ℕ) → recordOf (parsedOf r n) ≡ asRead r
+  record-back n = ap (λ (l : List Line). record { version = 1; headers = r .headers; position = r .position; lines = l }) (a .same)
 
   needed-back : (n : ℕ) → needed (parsedOf r n) ≡ longBy (r .headers) (r .lines)
   unfolding needed
@@ -156,11 +159,11 @@ module _ (r : Record) (f : RecordFits r) (one : r .version ≡ 1) (a : Attached 
   module _ (fits : longBy (r .headers) (r .lines) ≤ 65535) (o : List ℕ) (room : longBy (r .headers) (r .lines) ≤ length o) where
     -- what `fill` answers
     abbrev answered : ℕ → Outcome
-    answered n = record { answer = Done n (longBy (r .headers) (r .lines)); buffer = atFront (encode r) o }
+    answered n = record { answer = Done n (longBy (r .headers) (r .lines)); buffer = atFront (encode (asRead r)) o }
 
     filled-back : (n : ℕ) → filledWith (parsedOf r n) o ≡ answered n
     unfolding filledWith
-    filled-back n = rw (a .lines .hung, needed-back n, record-back n)
+    filled-back n = rw (a .hung, needed-back n, record-back n)
 
     stored-back : (n : ℕ) → readStored (parsedOf r n) o ≡ answered n
     unfolding readStored
@@ -175,14 +178,29 @@ module _ (r : Record) (f : RecordFits r) (one : r .version ≡ 1) (a : Attached 
 
 -- ---- a well-formed record
 
-pub formed-attached : (r : Record) → Formed r → Attached (r .lines)
-formed-attached r g =
-    let s = sound-encode r g in
-    let e = decode-encode r g in
+-- the lines that are kept hang as its version asks
+formed-hung : (r : Record) → Formed r → Hung (r .version) (r .lines)
+formed-hung r g = record { some = g .some; hangs = λ k h. g .lines k h .1; full = λ k h. g .lines k h .0 }
+
+pub kept-hung : (mode : Mode) (r : Record) → Formed r → Hung (r .version) (keptIn mode r .lines)
+unfolding saidRecord
+kept-hung Plain r g = said-hung (formed-hung r g)
+kept-hung Whole r g = formed-hung r g
+kept-hung Shared r g = formed-hung r g
+
+-- so they all hang, and where no entry has two, where they did
+pub kept-attached : (mode : Mode) (r : Record) → Formed r → SingleIn mode r → Attached (keptIn mode r .lines)
+kept-attached mode r g single =
+    let h = kept-hung mode r g in
     record {
-      lines = subst (λ (x : Record). Lines (playsIn (x .lines))) e (lines-hang (encode r) s);
-      same = sym (subst (λ (x : Record). x .lines ≡ attach (playsIn (x .lines))) e (lines-afresh (encode r) s));
+      hung = back-nests (keptIn mode r .lines) (h .some) (r .version) (h .hangs) (h .full);
+      same = back-2 (keptIn mode r .lines) (h .some) (r .version) (h .hangs) (h .full) .0 single;
     }
+
+-- of a text that loses nothing they are the record's
+all-attached : {mode : Mode} → LosesNothing mode → (r : Record) → Formed r → SingleIn mode r → Attached (r .lines)
+all-attached whole r g single = kept-attached Whole r g single
+all-attached shared r g single = kept-attached Shared r g single
 
 module _ (r : Record) (g : Formed r) (s : Sayable r) (c : ColorsFollow r) (h : handsObstacle (r .position) ≡ Clear) where
   -- it is fit to be read back where no variation starts at 0, and what the plain text says of it always is
@@ -200,42 +218,39 @@ module _ (r : Record) (g : Formed r) (s : Sayable r) (c : ColorsFollow r) (h : h
   plain-fit = said-fits r (record-fitted r g s c h)
 
   -- a text that loses nothing                                                                            (02, xi)
-  pub all-back : {mode : Mode} → LosesNothing mode → All (λ l. 0 < l .start) (drop 1 (r .lines)) → length (textIn mode r) ≤ 65535 → (o : List ℕ)
-      → length (encode r) ≤ length o → fillOf (textIn mode r) o ≡ readInto (length (textIn mode r)) r o
-  all-back {mode} n z short o room =
+  pub all-back : {mode : Mode} → LosesNothing mode → SingleIn mode r → All (λ l. 0 < l .start) (drop 1 (r .lines)) → length (textIn mode r) ≤ 65535 → (o : List ℕ)
+      → length (encode (asRead r)) ≤ length o → fillOf (textIn mode r) o ≡ readInto (length (textIn mode r)) (asRead r) o
+  all-back {mode} n single z short o room =
       let w = formed-fits r g in
-      let e : length (encode r) ≡ longBy (r .headers) (r .lines) = block-length r (w .whole) in
-      text-read r (all-fit z) (g .version) (formed-attached r g) (headers-valid r g) (comments-valid r g) (omega (arith, g .short)) o (omega arith) n short
-      ∙ ap (λ (k : ℕ). record { answer = Done (length (textIn mode r)) k; buffer = atFront (encode r) o }) (sym e)
-
-  plain-attached : Attached (saidRecord Plain r .lines)
-  unfolding saidRecord
-  plain-attached = said-attached (r .lines) (g .some) (formed-attached r g)
+      let e : length (encode (asRead r)) ≡ longBy (r .headers) (r .lines) = block-length (asRead r) (w .whole) in
+      text-read r (all-fit z) (all-attached n r g single) (headers-valid r g) (comments-valid r g) (omega (arith, block-length r (w .whole), g .short)) o (omega arith) n short
+      ∙ ap (λ (k : ℕ). record { answer = Done (length (textIn mode r)) k; buffer = atFront (encode (asRead r)) o }) (sym e)
 
   plain-valid : LinesValid (saidRecord Plain r .lines)
   unfolding saidRecord
   plain-valid = said-valid Plain (comments-valid r g)
 
-  -- the plain text                                                                                       (01, Writing, and what is lost)
-  pub plain-back : length (textIn Plain r) ≤ 65535 → (o : List ℕ) → length (encode (saidRecord Plain r)) ≤ length o
-      → fillOf (textIn Plain r) o ≡ readInto (length (textIn Plain r)) (saidRecord Plain r) o
-  unfolding saidRecord
-  plain-back short o room =
-      let w = formed-fits r g in
-      let e : length (encode (saidRecord Plain r)) ≡ longBy (r .headers) (saidLines Plain (r .lines)) = block-length (saidRecord Plain r) (w .whole) in
-      let m : longBy (r .headers) (saidLines Plain (r .lines)) ≤ 65535 = omega (arith, weight-less (r .lines) (g .some), fits r w) in
-      rw (← plain-is-whole r)
-      (text-read (saidRecord Plain r) plain-fit (g .version) plain-attached (headers-valid r g) plain-valid m o (omega arith) whole
-      (subst (λ (t : List ℕ). length t ≤ 65535) (sym (plain-is-whole r)) short)
-      ∙ ap (λ (k : ℕ). record { answer = Done (length (textIn Whole (saidRecord Plain r))) k; buffer = atFront (encode (saidRecord Plain r)) o }) (sym e))
+  module _ (single : SingleIn Plain r) where
+    -- the plain text                                                                                       (01, Writing, and what is lost)
+    pub plain-back : length (textIn Plain r) ≤ 65535 → (o : List ℕ) → length (encode (keptIn Plain r)) ≤ length o
+        → fillOf (textIn Plain r) o ≡ readInto (length (textIn Plain r)) (keptIn Plain r) o
+    unfolding saidRecord
+    plain-back short o room =
+        let w = formed-fits r g in
+        let e : length (encode (keptIn Plain r)) ≡ longBy (r .headers) (saidLines Plain (r .lines)) = block-length (keptIn Plain r) (w .whole) in
+        let m : longBy (r .headers) (saidLines Plain (r .lines)) ≤ 65535 = omega (arith, weight-less (r .lines) (g .some), fits r w) in
+        rw (← plain-is-whole r)
+        (text-read (saidRecord Plain r) plain-fit (kept-attached Plain r g single) (headers-valid r g) plain-valid m o (omega arith) whole
+        (subst (λ (t : List ℕ). length t ≤ 65535) (sym (plain-is-whole r)) short)
+        ∙ ap (λ (k : ℕ). record { answer = Done (length (textIn Whole (saidRecord Plain r))) k; buffer = atFront (encode (keptIn Plain r)) o }) (sym e))
 
-  -- the record that it says
-  pub plain-said : recordOf (parse (textIn Plain r)) ≡ saidRecord Plain r
-  unfolding saidRecord
-  plain-said =
-      rw (← plain-is-whole r)
-      (ap recordOf (parse-back whole (saidRecord Plain r) plain-fit .0)
-      ∙ record-back (saidRecord Plain r) plain-fit (g .version) plain-attached (headers-valid r g) plain-valid (length (textIn Whole (saidRecord Plain r))))
+    -- the record that it says
+    pub plain-said : recordOf (parse (textIn Plain r)) ≡ keptIn Plain r
+    unfolding saidRecord
+    plain-said =
+        rw (← plain-is-whole r)
+        (ap recordOf (parse-back whole (saidRecord Plain r) plain-fit .0)
+        ∙ record-back (saidRecord Plain r) plain-fit (kept-attached Plain r g single) (headers-valid r g) plain-valid (length (textIn Whole (saidRecord Plain r))))
 
   -- its bytes are bytes
   pub plain-bytes : (k : ℕ) → getD (textIn Plain r) k 0 < 256

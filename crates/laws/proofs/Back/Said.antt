@@ -1,30 +1,24 @@
 -- What the plain text says of a record is fit to be read back where the record is: each loss is of a kind that reads, and its lines hang as they did.
 -- Assumes nothing.
-use Prim.Native.Nat.{ℕ, zero, suc, _+_, _-_, _≤_, _<_}
+use Prim.Native.Nat.{ℕ, suc, _≤_, _<_}
 use native.Mathlib.Omega.{arith}
-use native.Mathlib.Decide.{decLt}
-use mathlib.Core.Path.{_≡_, refl, sym, ap, ap₂, _∙_, subst}
+use mathlib.Core.Path.{_≡_, refl, sym, ap, _∙_, subst}
 use mathlib.Core.List.{List, [], _∷_, map}
-use lib.ListN.{length, take, length-map}
+use lib.ListN.{length, take, length-map, List·getD-map}
 use lib.Dec.{eqb}
-use lib.Seq.{length-take-le}
+use lib.Seq.{length-take-le, getD-take}
 use Rattle.lists.proofs.Laws.{by-pick}
-use Rattle.jkf.specs.Attaching.{near, Play, play, playOf, starts, counts, parentIn, attachFrom, attach, allHung}
 use Rattle.jkf.specs.declared.Clock.{Clock}
 use Rattle.jkf.specs.declared.Time.{Time}
 use Rattle.jkf.specs.declared.Entry.{Entry}
-use Rattle.jkf.proofs.Nears.{near-before, near-same, Hangs}
 use Rattle.jkf.specs.Model.{Noted, Line, Record}
 use Rattle.moves.specs.Fits.{ClockFits, hmsFits, msFits, TimeFits, untimedFits, timedFits, EntryFits, playFits, endFits}
-use Rattle.block.proofs.Attached.{all-hang, parent-first, parent-later}
+use Rattle.block.specs.Formed.{lineOf}
 use Rattle.converter.specs.declared.Mode.the-variants.{Plain}
 use Rattle.converter.specs.Said.{hour, minute, second, saidMark, saidNow, saidTotal, saidOrigin, saidTime, saidMove, saidEntry, saidNoted, saidLine, shown, saidLines, saidRecord}
 use Rattle.parser.proofs.Alls.{all-map}
-use Rattle.edit.proofs.Parents.{plays-take}
+use Rattle.edit.proofs.Listing.{startsIn, countsIn, parentsIn, LinesAs, none, as-front}
 use Rattle.laws.proofs.Firsts.{all-so}
-use Rattle.edit.specs.Edit.{playsIn}
-use Rattle.edit.specs.inner.Splicing.{Lines}
-use Rattle.edit.proofs.Nearing.{hang-moved, hung-all}
 use Rattle.laws.specs.Sayable.{Follows, slot, move, ending}
 use Rattle.laws.proofs.Back.Entries.{NotedFits, EntriesFit, done, also}
 use Rattle.laws.proofs.Back.Lines.{LineFits}
@@ -120,89 +114,44 @@ taken-of (l ∷ ls) h = record {
 
 -- ---- they hang as they did
 
-abbrev saidPlay : Play → Play
-saidPlay p = play (p .start) (map (saidNoted Plain) (p .entries))
+-- lines that hang as a version asks, each with an entry
+pub record Hung (version : ℕ) (ls : List Line) : Type 0 where
+  pub some : 1 ≤ length ls
+  pub hangs : LinesAs version ls
+  pub full : (k : ℕ) → k < length ls → 1 ≤ countsIn ls k
 
-plays-said : (ls : List Line) → playsIn (map (saidLine Plain) ls) ≡ map saidPlay (playsIn ls)
+line-at : (n : ℕ) (ls : List Line) (i : ℕ) → i < n → lineOf (map (saidLine Plain) (take n ls)) i ≡ saidLine Plain (lineOf ls i)
 unfolding saidLine
-plays-said [] = refl
-plays-said (l ∷ ls) = ap (λ (k : List Play). saidPlay (play (l .start) (l .entries)) ∷ k) (plays-said ls)
+line-at n ls i h = List·getD-map (saidLine Plain) (take n ls) i none ∙ ap (saidLine Plain) (getD-take n ls i none h)
 
-play-at : (n : ℕ) (ps : List Play) (i : ℕ) → i < n → i < length ps → playOf (map saidPlay (take n ps)) i ≡ saidPlay (playOf ps i)
-play-at zero ps i h k = absurd (omega arith)
-play-at (suc n) [] i h k = absurd (omega arith)
-play-at (suc n) (p ∷ ps) zero h k = refl
-play-at (suc n) (p ∷ ps) (suc i) h k = play-at n ps i (omega arith) (omega arith)
+module _ (n : ℕ) (ls : List Line) (some : 1 ≤ n) (most : n ≤ length ls) where
+  abbrev ms : List Line
+  ms = map (saidLine Plain) (take n ls)
 
-module _ (ps : List Play) (n : ℕ) (some : 1 ≤ n) (most : n ≤ length ps) (lines : Lines ps) where
-  abbrev qs : List Play
-  qs = map saidPlay (take n ps)
+  start-at : (i : ℕ) → i < n → startsIn ms i ≡ startsIn ls i
+  unfolding saidLine
+  start-at i h = ap (λ (l : Line). l .start) (line-at n ls i h)
 
-  start-same : (i : ℕ) → i < n → starts qs i ≡ starts ps i
-  start-same i h = ap (λ (p : Play). p .start) (play-at n ps i h (omega arith))
+  count-at : (i : ℕ) → i < n → countsIn ms i ≡ countsIn ls i
+  unfolding saidLine
+  count-at i h = ap (λ (l : Line). length (l .entries)) (line-at n ls i h) ∙ length-map (lineOf ls i .entries) (saidNoted Plain)
 
-  count-same : (i : ℕ) → i < n → counts qs i ≡ counts ps i
-  count-same i h = ap (λ (p : Play). length (p .entries)) (play-at n ps i h (omega arith)) ∙ length-map (playOf ps i .entries) (saidNoted Plain)
+  parent-at : (i : ℕ) → i < n → parentsIn ms i ≡ parentsIn ls i
+  unfolding saidLine
+  parent-at i h = ap (λ (l : Line). l .parent) (line-at n ls i h)
 
-  hung-before : (k : ℕ) → 0 < k → k < length ps → Hangs (starts ps) (counts ps) k
-  unfolding allHung
-  hung-before k z h = all-hang (starts ps) (counts ps) (length ps - 1) (lines .hung) k z (omega arith)
+  many : length ms ≡ n
+  many = length-map (take n ls) (saidLine Plain) ∙ length-take-le n ls most
 
-  nears : (k : ℕ) → k < n → near (starts qs) (starts ps k) k ≡ near (starts ps) (starts ps k) k
-  nears k h = near-same (starts qs) (starts ps) (starts ps k) k (λ j l. start-same j (omega arith))
+  front-hung : (version : ℕ) → Hung version ls → Hung version ms
+  front-hung version h =
+      record {
+        some = omega (arith, many);
+        hangs =
+            as-front version ls ms (omega (arith, many)) (omega (arith, many)) (λ i l. start-at i (omega (arith, many))) (λ i l. count-at i (omega (arith, many)))
+            (λ i l. parent-at i (omega (arith, many))) (h .hangs);
+        full = λ i l. omega (arith, many, count-at i (omega (arith, many)), h .full i (omega (arith, many)));
+      }
 
-  hung-after : (k : ℕ) → 0 < k → k < n → Hangs (starts qs) (counts qs) k
-  hung-after k z h =
-      let p = near (starts ps) (starts ps k) k in
-      let l : p < n = omega (arith, near-before (starts ps) (starts ps k) k z) in
-      hang-moved (starts ps) (counts ps) (starts qs) (counts qs) k k p (start-same k h) (nears k h) (start-same p l) (count-same p l) (hung-before k z (omega arith))
-
-  length-qs : length qs ≡ n
-  length-qs = length-map (take n ps) saidPlay ∙ length-take-le n ps most
-
-  pub lines-after : Lines qs
-  unfolding allHung
-  lines-after = record {
-    origin = start-same 0 some ∙ lines .origin;
-    hung = hung-all (starts qs) (counts qs) (length qs - 1) 1 (λ j z l. hung-after j z (omega (arith, length-qs)));
-  }
-
-  parent-same : (k : ℕ) → k < n → parentIn qs k ≡ parentIn ps k
-  parent-same k h = go (decLt 0 k)
-    where
-      go : Dec (0 < k) → parentIn qs k ≡ parentIn ps k
-      go (yes z) = parent-later qs k (hung-after k z h) ∙ ap (λ (s : ℕ). near (starts qs) s k) (start-same k h) ∙ nears k h ∙ sym (parent-later ps k (hung-before k z (omega arith)))
-      go (no z) = let e : 0 ≡ k = omega arith in subst (λ (j : ℕ). parentIn qs j ≡ parentIn ps j) e (parent-first qs ∙ sym (parent-first ps))
-
-  attach-said : (k : ℕ) (rs : List Play) → k + length rs ≤ n → attachFrom qs k (map saidPlay rs) ≡ map (saidLine Plain) (attachFrom ps k rs)
-  unfolding attachFrom saidLine
-  attach-said k [] h = refl
-  attach-said k (p ∷ rs) h =
-      ap₂ (λ (i : ℕ) (l : List Line). record { start = p .start; parent = i; entries = map (saidNoted Plain) (p .entries) } ∷ l) (parent-same k (omega arith)) (attach-said (k + 1) rs (omega arith))
-
-attach-take : (ps : List Play) (n k : ℕ) (rs : List Play) → attachFrom ps k (take n rs) ≡ take n (attachFrom ps k rs)
-unfolding attachFrom
-attach-take ps zero k rs = refl
-attach-take ps (suc n) k [] = refl
-attach-take ps (suc n) k (p ∷ rs) = ap (λ (l : List Line). record { start = p .start; parent = parentIn ps k; entries = p .entries } ∷ l) (attach-take ps n (k + 1) rs)
-
--- lines that hang and are as the attaching rule makes them
-pub record Attached (ls : List Line) : Type 0 where
-  pub lines : Lines (playsIn ls)
-  pub same : attach (playsIn ls) ≡ ls
-
-pub said-attached : (ls : List Line) → 1 ≤ length ls → Attached ls → Attached (saidLines Plain ls)
-unfolding attach
-said-attached ls h a =
-    let t = taken-of ls h in
-    let ps = playsIn ls in
-    let m : t .n ≤ length ps = omega (arith, t .most, length-map ls (λ l. play (l .start) (l .entries))) in
-    let e : playsIn (saidLines Plain ls) ≡ map saidPlay (take (t .n) ps) = ap playsIn (t .is) ∙ plays-said (take (t .n) ls) ∙ ap (map saidPlay) (plays-take (t .n) ls) in
-    let k : 0 + length (take (t .n) ps) ≤ t .n = omega (arith, length-take-le (t .n) ps m) in
-    record {
-      lines = subst Lines (sym e) (lines-after ps (t .n) (t .some) m (a .lines));
-      same =
-          ap (λ (qs : List Play). attachFrom qs 0 qs) e
-          ∙ attach-said ps (t .n) (t .some) m (a .lines) 0 (take (t .n) ps) k
-          ∙ ap (map (saidLine Plain)) (attach-take ps (t .n) 0 ps ∙ ap (take (t .n)) (a .same)) ∙ sym (t .is);
-    }
+pub said-hung : {version : ℕ} {ls : List Line} → Hung version ls → Hung version (saidLines Plain ls)
+said-hung {version} {ls} h = let t = taken-of ls (h .some) in subst (Hung version) (sym (t .is)) (front-hung (t .n) ls (t .some) (t .most) version h)

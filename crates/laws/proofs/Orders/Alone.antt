@@ -6,9 +6,9 @@
 -- Assumes nothing.
 use Prim.Native.Nat.{ℕ, _≤_}
 use native.Mathlib.Omega.{arith}
-use mathlib.Core.Path.{_≡_, refl, sym, ap, _∙_, subst}
+use mathlib.Core.Path.{_≡_, refl, sym, ap, ap₂, _∙_}
 use mathlib.Core.List.{List}
-use mathlib.Core.Bool.{true, false, false≢true}
+use mathlib.Core.Bool.{true, false≢true}
 use lib.ListN.{length, drop}
 use lib.Seq.{take-at}
 use lib.Dec.{ltb}
@@ -18,20 +18,21 @@ use Rattle.jkf.specs.declared.Answer.{Answer}
 use Rattle.jkf.specs.declared.Answer.the-variants.{Done}
 use Rattle.jkf.specs.Answers.{figured, figures, Outcome}
 use Rattle.jkf.proofs.Answering.{figures-one}
-use Rattle.jkf.specs.Model.{Line}
+use Rattle.jkf.specs.Model.{Record}
+use Rattle.jkf.specs.Attaching.{starts, counts}
 use Rattle.block.specs.Encode.{encode}
-use Rattle.block.specs.Decode.{decode}
+use Rattle.block.specs.Decode.{versionIn, decode}
 use Rattle.block.specs.inner.Sounds.{Sound}
 use Rattle.block.specs.Formed.{Formed}
 use Rattle.block.proofs.Deciding.{sound-answers}
 use Rattle.plays.specs.Plays.{plyAt}
 use Rattle.filling.specs.Filling.{atFront}
-use Rattle.edit.specs.Edit.{playsIn, isVariation, variationOf, carries}
+use Rattle.edit.specs.Edit.{playsIn, isVariation, variationOf, isPlyOf}
 use Rattle.edit.specs.inner.Splicing.{relined}
 use Rattle.edit.specs.Outcomes.{editStored}
-use Rattle.edit.proofs.Placing.{PutsIn}
-use Rattle.edit.proofs.Played.{plays-long}
-use Rattle.edit.proofs.Sounds.{lines-afresh}
+use Rattle.edit.proofs.Listing.{plays-start, plays-count}
+use Rattle.edit.proofs.Inserted.{PutsIn, put-fresh}
+use Rattle.edit.proofs.Blocks.{lines-counted}
 use Rattle.edit.proofs.Outcomes.{put-sound, variation, in-place}
 use Rattle.laws.specs.Blocks.{Bytes}
 use Rattle.laws.specs.Orders.{PutAsked, putAnswer, isDone, blockAfter, newLineOf}
@@ -69,7 +70,7 @@ done-is a e = figures-one a (Done (figures a .first) (figures a .second)) (ap (�
 pub record MayPut (b : List ℕ) (p : PutAsked) : Type 0 where
   pub sound : Sound b
   pub text : isVariation (p .text) ≡ true
-  pub put : PutsIn (playsIn (decode b .lines)) (p .line) (plyAt (p .text) 0)
+  pub put : PutsIn (versionIn b) (decode b .lines) (p .line) (plyAt (p .text) 0)
 
 module _ (b : List ℕ) (p : PutAsked) where
   -- the new line's number, and the block
@@ -77,16 +78,19 @@ module _ (b : List ℕ) (p : PutAsked) where
   placeFor = putPlace b (p .line) (p .text)
 
   abbrev pub blockFor : List ℕ
-  blockFor = encode (relined (decode b) (putLines b (p .line) (p .text)))
+  blockFor = encode (relined (versionIn b) (decode b) (putLines b (p .line) (p .text)))
 
   put-is : MayPut b p → (o : List ℕ) → putAnswer b p o ≡ editStored blockFor placeFor o
+  unfolding decode
   put-is a o =
       put-sound b (p .line) o (p .text) (sound-answers b (a .sound))
-      ∙ variation b (p .line) o (p .text) (omega (arith, a .put .line, plays-long b)) (a .text)
-      ∙ in-place (decode b) o (p .line) (variationOf (p .text)) refl (a .put .ply) free refl
+      ∙ variation b (p .line) o (p .text) (omega (arith, a .put .line, lines-counted b)) (a .text)
+      ∙ in-place (decode b) o (p .line) (variationOf (p .text)) refl ply (a .put .free) refl
+      ∙ ap (λ (r : Record). editStored (encode r) placeFor o) (put-fresh (versionIn b) (decode b .lines) (p .line) (variationOf (p .text)) (a .put) (decode b) refl)
     where
-      free : carries (p .line) (plyAt (p .text) 0) (drop 1 (decode b .lines)) ≡ false
-      free = subst (λ (ls : List Line). carries (p .line) (plyAt (p .text) 0) (drop 1 ls) ≡ false) (sym (lines-afresh b (a .sound))) (a .put .free)
+      ply : isPlyOf (starts (playsIn (decode b .lines)) (p .line)) (counts (playsIn (decode b .lines)) (p .line)) (plyAt (p .text) 0) ≡ true
+      ply =
+          ap₂ (λ (f g : ℕ → ℕ). isPlyOf (f (p .line)) (g (p .line)) (plyAt (p .text) 0)) (plays-start (decode b .lines)) (plays-count (decode b .lines)) ∙ a .put .ply
 
   -- which is done where there is room
   pub put-does : MayPut b p → (o : List ℕ) → HasRoom blockFor o
@@ -99,7 +103,7 @@ module _ (b : List ℕ) (p : PutAsked) where
   -- where it is done, there was
   pub record DoneAlone (o : List ℕ) : Type 0 where
     pub may : MayPut b p
-    pub formed : Formed (relined (decode b) (putLines b (p .line) (p .text)))
+    pub formed : Formed (relined (versionIn b) (decode b) (putLines b (p .line) (p .text)))
     pub room : HasRoom blockFor o
 
   pub put-says : Bytes b → Bytes (p .text) → (o : List ℕ) → isDone (putAnswer b p o) ≡ true → DoneAlone o

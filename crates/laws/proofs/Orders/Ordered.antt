@@ -4,66 +4,60 @@
 --     order-done      and the other way
 -- Assumes nothing.
 use Prim.Native.Nat.{ℕ}
-use mathlib.Core.Path.{_≡_, sym, ap, ap₂, _∙_, subst}
+use mathlib.Core.Path.{_≡_, sym, ap, ap₂, _∙_, subst, transport}
 use mathlib.Core.List.{List}
 use mathlib.Core.Bool.{Bool, true}
 use Rattle.lists.specs.Pick.{pick}
 use Rattle.lists.proofs.Laws.{by-pick}
 use Rattle.jkf.specs.Answers.{Outcome}
 use Rattle.jkf.specs.Model.{Record}
-use Rattle.jkf.specs.Attaching.{Play}
 use Rattle.block.specs.Encode.{encode}
-use Rattle.block.specs.Decode.{decode}
+use Rattle.block.specs.Decode.{versionIn, decode}
 use Rattle.block.specs.Formed.{Formed}
 use Rattle.plays.specs.Plays.{plyAt}
-use Rattle.edit.specs.Edit.{playsIn, isVariation, variationOf, placeOf, withPlay, renumbered}
+use Rattle.edit.specs.Edit.{playsIn, isVariation, variationOf, placeOf, renumbered}
 use Rattle.edit.specs.inner.Splicing.{relined}
-use Rattle.edit.proofs.Placing.{PutsIn}
-use Rattle.edit.proofs.Sounds.{plays-back}
+use Rattle.edit.proofs.Inserted.{PutsIn}
 use Rattle.laws.specs.Blocks.{Bytes}
 use Rattle.laws.specs.Orders.{PutAsked, putAnswer, isDone, blockAfter, newLineOf, adjusted, inOrder}
 use Rattle.laws.proofs.Decoded.{decode-encode}
 use Rattle.laws.proofs.Made.{sound-encode}
 use Rattle.laws.proofs.EditsDone.{putLines}
-use Rattle.laws.proofs.Orders.Swapped.{placeThen, linesThen}
+use Rattle.laws.proofs.Orders.Swapped.{linesPut, placeThen, linesThen}
 use Rattle.laws.proofs.Orders.Alone.{HasRoom, MayPut, placeFor, blockFor, put-does, put-says}
-
--- ---- the block after the first
-
-module _ (b : List ℕ) (p : PutAsked) (g : Formed (relined (decode b) (putLines b (p .line) (p .text)))) where
-  -- its lines
-  plays-after : playsIn (decode (blockFor b p) .lines) ≡ putLines b (p .line) (p .text)
-  unfolding relined
-  plays-after = ap (λ (r : Record). playsIn (r .lines)) (decode-encode _ g) ∙ plays-back (putLines b (p .line) (p .text))
-
-  -- other lines in it are other lines in the block that was given
-  relined-after : (qs : List Play) → relined (decode (blockFor b p)) qs ≡ relined (decode b) qs
-  unfolding relined
-  relined-after qs = ap (λ (r : Record). relined r qs) (decode-encode _ g)
 
 -- ---- the second, in the block after it
 
 module _ (b : List ℕ) (p q : PutAsked) where
   abbrev pub secondPlace : ℕ
-  secondPlace = placeThen (playsIn (decode b .lines)) (p .line) (variationOf (p .text)) (q .line) (variationOf (q .text))
+  secondPlace = placeThen (decode b .lines) (p .line) (variationOf (p .text)) (q .line) (variationOf (q .text))
 
   abbrev pub blockThen : List ℕ
-  blockThen = encode (relined (decode b) (linesThen (playsIn (decode b .lines)) (p .line) (variationOf (p .text)) (q .line) (variationOf (q .text))))
+  blockThen = encode (relined (versionIn b) (decode b) (linesThen (decode b .lines) (p .line) (variationOf (p .text)) (q .line) (variationOf (q .text))))
 
   abbrev pub PutsThen : Type 0
-  PutsThen = PutsIn (putLines b (p .line) (p .text)) (renumbered (placeFor b p) (q .line)) (plyAt (q .text) 0)
+  PutsThen = PutsIn (versionIn b) (putLines b (p .line) (p .text)) (renumbered (placeFor b p) (q .line)) (plyAt (q .text) 0)
 
   abbrev second : PutAsked
   second = adjusted (placeFor b p) q
 
-  module _ (g : Formed (relined (decode b) (putLines b (p .line) (p .text)))) where
+  module _ (g : Formed (relined (versionIn b) (decode b) (putLines b (p .line) (p .text)))) where
+    -- the block after the first says its lines
+    said : decode (blockFor b p) ≡ relined (versionIn b) (decode b) (putLines b (p .line) (p .text))
+    said = decode-encode _ g
+
     second-place : placeFor (blockFor b p) second ≡ secondPlace
-    second-place = ap (λ (ps : List Play). placeOf ps (second .line) (plyAt (q .text) 0)) (plays-after b p g)
+    unfolding relined
+    second-place = ap (λ (r : Record). placeOf (playsIn (r .lines)) (second .line) (plyAt (q .text) 0)) said
 
     second-block : blockFor (blockFor b p) second ≡ blockThen
+    unfolding relined decode
     second-block =
-        ap encode (relined-after b p g (putLines (blockFor b p) (second .line) (q .text)))
-        ∙ ap (λ (ps : List Play). encode (relined (decode b) (withPlay (placeOf ps (second .line) (plyAt (q .text) 0)) (variationOf (q .text)) ps))) (plays-after b p g)
+        ap (λ (r : Record). encode (relined (r .version) r (linesPut (r .lines) (second .line) (variationOf (q .text))))) said
+
+    second-put : PutsIn (versionIn (blockFor b p)) (decode (blockFor b p) .lines) (second .line) (plyAt (q .text) 0) ≡ PutsThen
+    unfolding relined decode
+    second-put = ap (λ (r : Record). PutsIn (r .version) (r .lines) (second .line) (plyAt (q .text) 0)) said
 
   -- ---- the order
 
@@ -101,7 +95,7 @@ module _ (b : List ℕ) (p q : PutAsked) where
         record {
           first = x .may;
           text = y .may .text;
-          then = subst (λ (ls : List Play). PutsIn ls (second .line) (plyAt (q .text) 0)) (plays-after b p g) (y .may .put);
+          then = transport (second-put g) (y .may .put);
           room = subst (λ (d : List ℕ). HasRoom d o₂) (second-block g) (y .room);
           block = ap blockAfter i ∙ block ∙ second-block g;
           place = put-does b p (x .may) o₁ (x .room) .2;
@@ -117,6 +111,6 @@ module _ (b : List ℕ) (p q : PutAsked) where
         record {
           sound = sound-encode _ g;
           text = v;
-          put = subst (λ (ls : List Play). PutsIn ls (second .line) (plyAt (q .text) 0)) (sym (plays-after b p g)) t;
+          put = transport (sym (second-put g)) t;
         } in
         ap isDone (order-is a r₁) ∙ put-does c second may o₂ (subst (λ (d : List ℕ). HasRoom d o₂) (sym (second-block g)) r₂) .0

@@ -10,7 +10,7 @@ use Rattle.lists.specs.Test.{each}
 use Rattle.lists.proofs.Tests.{says}
 use Rattle.block.specs.Decode.{linesIn, entryCount}
 use Rattle.block.specs.Sound.{lineTest}
-use Rattle.block.proofs.Hanging.{lines-linked}
+use Rattle.block.proofs.Hanging.{lines-hung}
 use Rattle.block.proofs.TablePasses.{Passed, passed-start, passed-more, passed-not, passed-all}
 use Rattle.block.proofs.places.lines_sound.Statement.{statement}
 use Rattle.block.proofs.places.lines_sound.Tie as tie
@@ -31,7 +31,7 @@ line-sound-requires : tie.Need-line-sound-requires Inv-loop μ-loop
 line-sound-requires c κs =
     let l = c .before .loop in
     let b = now (c .before .before .before .before .args .b) in
-    (omega (arith, c .before .before .lines .ensures), l .inv .2 .sums ∙ zero-add _, lines-linked b (l .k) (says (each (l .k) (lineTest b)) (l .inv .2 .sound)))
+    (omega (arith, c .before .before .lines .ensures), l .inv .2 .sums ∙ zero-add _, lines-hung b (l .k) (says (each (l .k) (lineTest b)) (l .inv .2 .sound)))
 
 returns : tie.Need-returns Inv-loop μ-loop
 returns c = sym (passed-not (lineTest (now (c .before .before .before .before .before .before .args .b))) (λ j. 0) (linesIn (now (c .before .before .before .before .before .before .args .b))) (c .before .before .before .loop .k) (omega (arith, c .before .before .before .before .lines .ensures)) (sym (c .before .line-sound .ensures) ∙ not-true _ (c .if1 .taken)))

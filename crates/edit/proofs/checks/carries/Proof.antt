@@ -7,7 +7,7 @@ use lib.ListN.{drop}
 use denote.Ref.{now}
 use Rattle.block.specs.Decode.{run, lineIn, decode}
 use Rattle.edit.specs.Edit.{carries}
-use Rattle.edit.proofs.Played.{variations-are, carries-next, carries-none}
+use Rattle.edit.proofs.Seeking.{variations-are, carries-next, carries-none}
 use Rattle.edit.proofs.checks.carries.Statement.{statement}
 use Rattle.edit.proofs.checks.carries.Tie as tie
 

@@ -6,7 +6,7 @@ use denote.Ref.{now}
 use borrow.Author.Needs.{needs}
 use borrow.Author.Tests.{eq-eqb, ne-eqb, le-leb, lt-leb}
 use Rattle.edit.specs.Edit.{isPlyOf}
-use Rattle.edit.proofs.Played.{ply-is}
+use Rattle.edit.proofs.Seeking.{ply-is}
 use Rattle.edit.proofs.checks.is_ply_of.Statement.{statement}
 use Rattle.edit.proofs.checks.is_ply_of.Tie as tie
 

@@ -7,8 +7,8 @@ use denote.Ref.{now}
 use borrow.Author.Needs.{needs}
 use Rattle.block.specs.Decode.{run, decode}
 use Rattle.edit.specs.Edit.{playsIn, above, placeOf}
-use Rattle.edit.specs.inner.Splicing.{playIn}
-use Rattle.edit.proofs.Played.{place-is, above-passes, passes-on, passes-stop, passes-none}
+use Rattle.edit.proofs.Leading.{above-passes}
+use Rattle.edit.proofs.Seeking.{playIn, place-is, passes-on, passes-stop, passes-none}
 use Rattle.edit.proofs.checks.place_of.Statement.{statement}
 use Rattle.edit.proofs.checks.place_of.Tie as tie
 

@@ -43,7 +43,7 @@ returns c =
     let o = c .before .before .before .before .before .before .before .before .before .«open» .ensures in
     let g = c .before .before .before .before .before .w .given in
     let h = c .before .before .copy-headers .ensures in
-    (subst (λ (z : Sizes). areSmall z ≡ true) (m .0) (m .1), begins (a .b .now) (a .out .now) (m .0) (c .before .before .before .before .before .before .before .before .before .before .position-of .ensures) (o .1) (sym (g .1) ∙ o .0) (h .0) (h .1))
+    (subst (λ (z : Sizes). areSmall z ≡ true) (m .0) (m .1), begins (a .version) (a .b .now) (a .out .now) (m .0) (c .before .before .before .before .before .before .before .before .before .before .position-of .ensures) (o .1) (sym (g .1) ∙ o .0) (h .0) (h .1))
 
 same-length-2 : tie.Need-same-length-2
 same-length-2 c = search needs
@@ -53,7 +53,7 @@ returns-2 c =
     let a = c .before .before .before .before .before .before .before .before .before .before .before .args in
     let m = c .before .before .before .before .before .before .before .measure .ensures in
     let o = c .before .before .before .before .before .«open» .ensures in
-    (subst (λ (z : Sizes). areSmall z ≡ true) (m .0) (m .1), begins-not (a .b .now) (a .out .now) (m .0) (c .before .before .before .before .before .before .position-of .ensures) (o .1) (sym (c .before .a .given .1) ∙ o .0))
+    (subst (λ (z : Sizes). areSmall z ≡ true) (m .0) (m .1), begins-not (a .version) (a .b .now) (a .out .now) (m .0) (c .before .before .before .before .before .before .position-of .ensures) (o .1) (sym (c .before .a .given .1) ∙ o .0))
 
 pub begin-edited-spec : {M : Type 1} → statement M
 begin-edited-spec =

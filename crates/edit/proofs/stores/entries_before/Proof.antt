@@ -6,7 +6,7 @@ use borrow.Author.Needs.{needs}
 use Rattle.block.specs.Sound.{entriesBefore}
 use Rattle.block.specs.Decode.{linesIn}
 use Rattle.block.proofs.Within.{entries-below}
-use Rattle.edit.proofs.Sounds.{first-is, before-all}
+use Rattle.edit.proofs.Runs.{first-is, before-all}
 use Rattle.edit.proofs.stores.entries_before.Statement.{statement}
 use Rattle.edit.proofs.stores.entries_before.Tie as tie
 
