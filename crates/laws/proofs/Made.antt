@@ -30,7 +30,7 @@ use Rattle.text.proofs.Laws.{same-refl}
 use Rattle.block.proofs.Tabling.{concat-sum}
 use Rattle.laws.proofs.Parts.{from-part}
 use Rattle.block.proofs.Lengths.{block-length}
-use Rattle.laws.proofs.Hanging.{hang-alike}
+use Rattle.edit.proofs.Alike.{hang-same}
 use Rattle.laws.proofs.Fields.{notesOf, remarksOf, remarkOf, noHeader, noLine, noNoted, Fits, fits, head-begins, version-is, length-is, headers-are, lines-are, moves-are, comments-are, key-offset, key-length, value-offset, value-length, key-is, value-is, start-is, first-entry, entry-count-is, parent-is, entry-row, comment-count-is, what-is, comment-offset, comment-length, comment-is, position-part}
 use Rattle.laws.proofs.Decoded.{formed-fits, position-is}
 
@@ -189,8 +189,8 @@ module _ (r : Record) (f : Fits r) where
   lines-hung : (v : ℕ) → 0 < length (r .lines) → HangAs v (λ j. lineOf (r .lines) j .start) (λ j. length (lineOf (r .lines) j .entries)) (λ j. lineOf (r .lines) j .parent) (length (r .lines))
       → HangAs v (startOf (encode r)) (entryCount (encode r)) (parentOf (encode r)) (length (r .lines))
   lines-hung v some =
-      hang-alike (λ j. lineOf (r .lines) j .start) (startOf (encode r)) (λ j. length (lineOf (r .lines) j .entries)) (entryCount (encode r)) (λ j. lineOf (r .lines) j .parent) (parentOf (encode r)) (length (r .lines)) some
-      (λ j l. sym (start-is r f j l)) (λ j l. sym (entry-count-is r f j l)) (λ j l. sym (parent-is r f j l)) v
+      hang-same v (λ j. lineOf (r .lines) j .start) (λ j. length (lineOf (r .lines) j .entries)) (λ j. lineOf (r .lines) j .parent) (startOf (encode r)) (entryCount (encode r)) (parentOf (encode r)) some (omega arith)
+      (start-is r f) (entry-count-is r f) (parent-is r f)
 
   line-sound : (k : ℕ) → k < length (r .lines) → 1 ≤ length (lineOf (r .lines) k .entries) → claim (hangTest (r .version) (startOf (encode r)) (entryCount (encode r)) (parentOf (encode r)) k)
       → claim (lineTest (encode r) k)

@@ -10,13 +10,13 @@ use Rattle.jkf.specs.Attaching.{near}
 use Rattle.jkf.specs.Following.{startAt, parentAt, follow, followed}
 use Rattle.jkf.proofs.Nears.{near-hit, follow-here, follow-up, followed-near}
 use Rattle.jkf.proofs.Branching.{Branched}
-use Rattle.jkf.proofs.OneTwo.{near-jump-2}
-use Rattle.block.specs.Decode.{linesIn, linePlace, startOf, entryCount, parentOf}
+use Rattle.jkf.proofs.OneTwo.{near-jump-2, branched-as}
+use Rattle.block.specs.Decode.{versionIn, linesIn, linePlace, startOf, entryCount, parentOf}
 use Rattle.block.proofs.Deciding.{sound-says}
 use Rattle.block.proofs.LineTables.{table-start, table-parent}
-use Rattle.block.proofs.Hanging.{lines-linked, sound-branched}
+use Rattle.block.proofs.Hanging.{lines-linked, lines-hung}
+use Rattle.edit.proofs.Alike.{hang-same}
 use Rattle.laws.specs.Searches.{SearchesAgree, SoundLinked, SoundSearched}
-use Rattle.laws.proofs.Hanging.{branched-alike}
 
 pub searches-agree : SearchesAgree
 searches-agree lines k s l = followed-near l s
@@ -50,6 +50,7 @@ sound-searched b s k h m =
     let t = drop (linePlace b 0) b in
     let z = sound-says b h .totals .0 in
     followed-tree t (entryCount b)
-    (branched-alike (startOf b) (startAt t) (entryCount b) (entryCount b) (parentOf b) (parentAt t) (linesIn b) z
-    (λ j l. sym (table-start b j)) (λ j l. refl) (λ j l. sym (table-parent b j)) (sound-branched b (sound-says b h)))
+    (branched-as (startAt t) (entryCount b) (parentAt t) (versionIn b) (linesIn b) z
+    (hang-same (versionIn b) (startOf b) (entryCount b) (parentOf b) (startAt t) (entryCount b) (parentAt t) z (omega arith)
+    (λ j l. table-start b j) (λ j l. refl) (λ j l. table-parent b j) (lines-hung b (linesIn b) (sound-says b h .lines))))
     s k m
