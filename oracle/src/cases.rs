@@ -292,6 +292,52 @@ fn looked_up(r: &mut Rng, block: &[u8], count_at: usize) -> u64 {
     }
 }
 
+/// A block of either version, sound or not.
+fn of_either_version(r: &mut Rng) -> Vec<u8> {
+    if r.one_in(3) {
+        any_tree(r).0
+    } else {
+        blocks::block(r)
+    }
+}
+
+pub fn all_lines(seed: u64) -> Call {
+    Call::Lines { block: of_either_version(&mut Rng::new(seed)) }
+}
+
+pub fn a_line(seed: u64) -> Call {
+    let r = &mut Rng::new(seed);
+    let block = of_either_version(r);
+    Call::Line { k: looked_up(r, &block, 8), block }
+}
+
+pub fn a_parent(seed: u64) -> Call {
+    let r = &mut Rng::new(seed);
+    let block = of_either_version(r);
+    Call::Parent { k: looked_up(r, &block, 8), block }
+}
+
+pub fn an_entry(seed: u64) -> Call {
+    let r = &mut Rng::new(seed);
+    let block = of_either_version(r);
+    let (line, entry) = some_entry(r, &block);
+    Call::Entry { block, line, entry }
+}
+
+/// Of each small block, by four seeds in a row, how many lines there are, its last line, that line's parent and its last entry.
+pub const SMALL_ROWS: u64 = 4 * small::SMALL;
+
+pub fn small_row(seed: u64) -> Call {
+    let block = small::small(seed / 4);
+    let (k, entry) = last_entry(&block);
+    match seed % 4 {
+        0 => Call::Lines { block },
+        1 => Call::Line { block, k },
+        2 => Call::Parent { block, k },
+        _ => Call::Entry { block, line: k, entry },
+    }
+}
+
 /// So many entries in a row are asked for of one record of play.
 const ASKED: u64 = 16;
 
@@ -317,9 +363,14 @@ pub fn any_position(seed: u64) -> Call {
     position(r, block)
 }
 
-/// Mostly of a line that there is, after an entry that it has; now and then by a number that would be one if it were narrower.
 fn position(r: &mut Rng, block: Vec<u8>) -> Call {
-    let shape = decode(&block).map_or(vec![], |record| record.shape());
+    let (line, entry) = some_entry(r, &block);
+    Call::Position { block, line, entry }
+}
+
+/// Mostly a line that there is, and an entry that it has; now and then a number that would be one if it were narrower.
+fn some_entry(r: &mut Rng, block: &[u8]) -> (u64, u64) {
+    let shape = decode(block).map_or(vec![], |record| record.shape());
     let line = some_line(r, 0, shape.len());
     let entries = shape.get(line as usize).map_or(0, |(_, entries)| *entries);
     let entry = match r.below(30) {
@@ -329,20 +380,25 @@ fn position(r: &mut Rng, block: Vec<u8>) -> Call {
         _ => r.below(entries.max(1)) as u64,
     };
     let beyond = 1 << [8, 16, 32, 63][r.below(4)];
-    let (line, entry) = match r.below(50) {
+    match r.below(50) {
         0 => (line | beyond, entry),
         1 => (line, entry | beyond),
         _ => (line, entry),
-    };
-    Call::Position { block, line, entry }
+    }
 }
 
-/// The position after the last entry of a small block's last line.
+/// The last entry of a small block's last line.
+fn last_entry(block: &[u8]) -> (u64, u64) {
+    let shape = decode(block).expect("a small block is sound").shape();
+    let last = shape.len() - 1;
+    (last as u64, shape[last].1 as u64 - 1)
+}
+
+/// The position after that entry.
 pub fn small_position(seed: u64) -> Call {
     let block = small::small(seed);
-    let shape = decode(&block).expect("a small block is sound").shape();
-    let last = shape.len() - 1;
-    Call::Position { block, line: last as u64, entry: shape[last].1 as u64 - 1 }
+    let (line, entry) = last_entry(&block);
+    Call::Position { block, line, entry }
 }
 
 /// The position after the one move of a small board.

@@ -8,6 +8,7 @@ use crate::judge::{self, Outcome, LONGEST};
 use crate::kept::{fate, is_covered, kept, Counts, Fate, Tally};
 use crate::known;
 use crate::left::{colours_follow, left, read_again};
+use crate::listed;
 use crate::pairs;
 use crate::reached;
 use crate::reasons::Reasons;
@@ -36,7 +37,7 @@ thread_local! {
     static FORMS: Cell<Forms> = Cell::default();
 }
 
-const KINDS: [Kind; 38] = [
+const KINDS: [Kind; 43] = [
     Kind { name: "short texts", share: 17, all: Some(SHORT), make: cases::short_text, test: reading },
     Kind { name: "texts", share: 20, all: None, make: cases::any_text, test: reading },
     Kind { name: "bytes", share: 13, all: None, make: cases::altered_block, test: soundness },
@@ -54,6 +55,11 @@ const KINDS: [Kind; 38] = [
     Kind { name: "comments", share: 2, all: None, make: cases::a_comment, test: looking_up },
     Kind { name: "keys", share: 2, all: None, make: cases::a_key, test: looking_up },
     Kind { name: "values", share: 2, all: None, make: cases::a_value, test: looking_up },
+    Kind { name: "lines", share: 1, all: None, make: cases::all_lines, test: listed::by_bytes },
+    Kind { name: "line", share: 2, all: None, make: cases::a_line, test: listed::by_bytes },
+    Kind { name: "parents", share: 2, all: None, make: cases::a_parent, test: listed::by_bytes },
+    Kind { name: "entries", share: 5, all: None, make: cases::an_entry, test: listed::by_bytes },
+    Kind { name: "small rows", share: 8, all: Some(cases::SMALL_ROWS), make: cases::small_row, test: listed::by_bytes },
     Kind { name: "numbered", share: 4, all: None, make: cases::numbered_text, test: reading },
     Kind { name: "edits again", share: 4, all: None, make: cases::to_edit_again, test: editing_again },
     Kind { name: "short stops", share: 17, all: Some(SHORT), make: cases::short_stop, test: stopping },

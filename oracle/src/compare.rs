@@ -39,6 +39,16 @@ const KINDS: &[Kind] = &[
     Kind { name: "key", share: 1, all: None, make: cases::a_key, test: compared },
     #[cfg(feature = "kif_value")]
     Kind { name: "value", share: 1, all: None, make: cases::a_value, test: compared },
+    #[cfg(feature = "kif_lines")]
+    Kind { name: "lines", share: 1, all: None, make: cases::all_lines, test: compared },
+    #[cfg(feature = "kif_line")]
+    Kind { name: "line", share: 2, all: None, make: cases::a_line, test: compared },
+    #[cfg(feature = "kif_parent")]
+    Kind { name: "parent", share: 2, all: None, make: cases::a_parent, test: compared },
+    #[cfg(feature = "kif_entry")]
+    Kind { name: "entry", share: 5, all: None, make: cases::an_entry, test: compared },
+    #[cfg(all(feature = "kif_lines", feature = "kif_line", feature = "kif_parent", feature = "kif_entry"))]
+    Kind { name: "small rows", share: 21, all: Some(cases::SMALL_ROWS), make: cases::small_row, test: compared },
     #[cfg(feature = "kif_fill")]
     Kind { name: "short texts", share: 34, all: Some(crate::short::SHORT), make: cases::short_text, test: compared },
     #[cfg(feature = "kif_fill")]

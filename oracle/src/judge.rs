@@ -349,6 +349,40 @@ fn played(block: &[u8], line: u64, entry: u64) -> Result<Result<position::Play, 
     Ok(position::after(&record, start, index, entry as usize))
 }
 
+/// How many lines there are.
+pub fn lines(block: &[u8]) -> Answer {
+    record_of(block).map_or(answer(7, 0, 0), |record| answer(0, record.lines.len() as u64, 0))
+}
+
+/// A line's start, and how many entries it has.
+pub fn line(block: &[u8], k: u64) -> Answer {
+    of_line(block, k, |_, line| answer(0, line.start, line.entries.len() as u64))
+}
+
+/// The line that a line hangs on.
+pub fn parent(block: &[u8], k: u64) -> Answer {
+    of_line(block, k, |_, line| answer(0, line.parent as u64, 0))
+}
+
+/// Where the 20 bytes of an entry stand, behind those of all lines before its own.
+pub fn entry(block: &[u8], k: u64, entry: u64) -> Answer {
+    of_line(block, k, |before, line| match entry < line.entries.len() as u64 {
+        true => {
+            let earlier: usize = before.iter().map(|line| line.entries.len()).sum();
+            answer(0, u16_at(block, 18).unwrap() as u64 + 20 * (earlier as u64 + entry), 20)
+        }
+        false => answer(16, k, entry),
+    })
+}
+
+/// What is asked of a line, given those before it; or refusals 7 and 10.
+fn of_line(block: &[u8], k: u64, asked: impl Fn(&[Line], &Line) -> Answer) -> Answer {
+    let Some(record) = record_of(block) else {
+        return answer(7, 0, 0);
+    };
+    line_numbered(&record, k).map_or(answer(10, k, 0), |(index, line)| asked(&record.lines[..index], line))
+}
+
 pub fn comment(block: &[u8], k: u64) -> (Answer, &[u8]) {
     look_up(block, k, 12, |k| u16_at(block, 20).unwrap() + 4 * k)
 }

@@ -6,6 +6,7 @@ use crate::games;
 use crate::judge::{self, Outcome, LONGEST};
 use crate::kept::is_covered;
 use crate::left::left;
+use crate::listed;
 use crate::listing::listing;
 use crate::modes;
 use crate::plays;
@@ -15,7 +16,7 @@ use crate::stop::{spot, stop};
 use crate::stops;
 use crate::times;
 
-const WORKED_EXAMPLE: &str = "\
+pub const WORKED_EXAMPLE: &str = "\
 手合割：平手
 手数--
    1 ７六歩(77) ( 0:16/00:00:16)
@@ -34,8 +35,9 @@ line 1 start 2 moves 1 parent 0
 ";
 
 /// Each group by name; a group panics at the first answer that is not the known one.
-pub const GROUPS: [(&str, fn()); 34] = [
+pub const GROUPS: [(&str, fn()); 35] = [
     ("worked example", worked_example),
+    ("lines and entries", listed::of_worked_example),
     ("positions", positions),
     ("put-ins and cuts", put_ins_and_cuts),
     ("numbers", numbers),

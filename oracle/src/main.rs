@@ -23,6 +23,7 @@ mod known;
 mod left;
 #[cfg(feature = "linked")]
 mod lent;
+mod listed;
 mod listing;
 mod lost;
 mod modes;

@@ -90,6 +90,14 @@ extern "C" {
     fn kif_key(block: In, block_len: usize, k: u64, number: Figure, first: Figure, second: Figure);
     #[cfg(feature = "kif_value")]
     fn kif_value(block: In, block_len: usize, k: u64, number: Figure, first: Figure, second: Figure);
+    #[cfg(feature = "kif_lines")]
+    fn kif_lines(block: In, block_len: usize, number: Figure, first: Figure, second: Figure);
+    #[cfg(feature = "kif_line")]
+    fn kif_line(block: In, block_len: usize, k: u64, number: Figure, first: Figure, second: Figure);
+    #[cfg(feature = "kif_parent")]
+    fn kif_parent(block: In, block_len: usize, k: u64, number: Figure, first: Figure, second: Figure);
+    #[cfg(feature = "kif_entry")]
+    fn kif_entry(block: In, block_len: usize, line: u64, entry: u64, number: Figure, first: Figure, second: Figure);
     #[cfg(feature = "kif_sound")]
     fn kif_sound(block: In, block_len: usize) -> u8;
     #[cfg(feature = "kif_stop")]
@@ -156,6 +164,16 @@ fn told(call: &Call) -> Answer {
         Call::Key { block, k } => lend(|n, a, b| unsafe { kif_key(block.as_ptr(), block.len(), *k, n, a, b) }),
         #[cfg(feature = "kif_value")]
         Call::Value { block, k } => lend(|n, a, b| unsafe { kif_value(block.as_ptr(), block.len(), *k, n, a, b) }),
+        #[cfg(feature = "kif_lines")]
+        Call::Lines { block } => lend(|n, a, b| unsafe { kif_lines(block.as_ptr(), block.len(), n, a, b) }),
+        #[cfg(feature = "kif_line")]
+        Call::Line { block, k } => lend(|n, a, b| unsafe { kif_line(block.as_ptr(), block.len(), *k, n, a, b) }),
+        #[cfg(feature = "kif_parent")]
+        Call::Parent { block, k } => lend(|n, a, b| unsafe { kif_parent(block.as_ptr(), block.len(), *k, n, a, b) }),
+        #[cfg(feature = "kif_entry")]
+        Call::Entry { block, line, entry } => {
+            lend(|n, a, b| unsafe { kif_entry(block.as_ptr(), block.len(), *line, *entry, n, a, b) })
+        }
         #[cfg(feature = "kif_sound")]
         Call::Sound { block } => judge::answer(unsafe { kif_sound(block.as_ptr(), block.len()) }.into(), 0, 0),
         #[cfg(feature = "kif_stop")]

@@ -3,7 +3,7 @@
 use super::{numbers, Sample};
 use crate::blocks;
 use crate::judge;
-use crate::record::{decode, encode, u16_at, Line};
+use crate::record::{decode, encode, u16_at};
 use crate::rng::Rng;
 use crate::sound::sound;
 use std::iter;
@@ -91,23 +91,9 @@ fn looked_up(which: u64, k: u64, block: &[u8]) -> ([u64; 3], &[u8]) {
         0 => judge::comment(block, k),
         1 => judge::key(block, k),
         2 => judge::value(block, k),
-        _ => return (line_figures(which, k, block), &[]),
+        3 => (judge::lines(block), &[][..]),
+        4 => (judge::line(block, k), &[][..]),
+        _ => (judge::parent(block, k), &[][..]),
     };
     ([answer.number, answer.first, answer.second], part)
-}
-
-/// What the lines of the record that a block holds answer.
-fn line_figures(which: u64, k: u64, block: &[u8]) -> [u64; 3] {
-    let Some(record) = decode(block).filter(|_| sound(block)) else {
-        return [7, 0, 0];
-    };
-    let figures = |line: &Line| match which {
-        4 => [0, line.start, line.entries.len() as u64],
-        _ => [0, line.parent as u64, 0],
-    };
-    match usize::try_from(k).ok().and_then(|k| record.lines.get(k)) {
-        _ if which == 3 => [0, record.lines.len() as u64, 0],
-        Some(line) => figures(line),
-        None => [10, k, 0],
-    }
 }
