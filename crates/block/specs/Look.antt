@@ -7,8 +7,8 @@ use lib.Dec.{ltb}
 use Rattle.lists.specs.Pick.{pick}
 use Rattle.jkf.specs.Answers.{figures}
 use Rattle.jkf.specs.declared.Answer.{Answer}
-use Rattle.jkf.specs.declared.Answer.the-variants.{Done, NotSound, NoSuchPart}
-use Rattle.block.specs.Decode.{linesIn, textPlace, startOf, entryCount, parentOf}
+use Rattle.jkf.specs.declared.Answer.the-variants.{Done, NotSound, NoSuchPart, NoSuchEntry}
+use Rattle.block.specs.Decode.{linesIn, movePlace, textPlace, startOf, firstEntry, entryCount, parentOf}
 use Rattle.block.specs.Sound.{soundb}
 
 -- Of part k of n: refusal 7, then 10; else what it is asked for.                                      (01, Numbers of refusal: order)
@@ -40,3 +40,8 @@ lineAnswer b k = answerOf b (linesIn b) k (startOf b k) (entryCount b k)
 
 unfoldable pub parentAnswer : List ℕ → ℕ → Answer
 parentAnswer b k = answerOf b (linesIn b) k (parentOf b k) 0
+
+-- Where the 20 bytes of entry i of line k stand, and 20; refusal 16 comes after 10.                    (02, request (i): Refusals)
+unfoldable pub entryAnswer : List ℕ → ℕ → ℕ → Answer
+entryAnswer b k i =
+    ofPart b (linesIn b) k (pick (ltb i (entryCount b k)) (Done (movePlace b (firstEntry b k + i)) 20) (NoSuchEntry k i)) NoSuchPart NotSound

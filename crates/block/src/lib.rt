@@ -13,6 +13,7 @@ mod views;
 pub use entry_bytes::entry_in;
 pub use entry_bytes::put_entry_row;
 pub use looks::comment;
+pub use looks::entry;
 pub use looks::key;
 pub use looks::line;
 pub use looks::lines;

@@ -7,7 +7,7 @@ ghost use mathlib.Core.Path.{_≡_};
 ghost use Prim.Native.Nat.{_+_, _*_, _≤_, _<_};
 ghost use Rattle.lent.specs.Bytes.{le16};
 ghost use Rattle.block.specs.Decode.{headersIn, commentsIn, keyOffset, keyLength, valueOffset, valueLength, commentOffset, commentLength, storedText, keyOf, valueOf, commentOf};
-ghost use Rattle.block.specs.Look.{lookAnswer, lookPart, Answered, linesAnswer, lineAnswer, parentAnswer};
+ghost use Rattle.block.specs.Look.{lookAnswer, lookPart, Answered, linesAnswer, lineAnswer, parentAnswer, entryAnswer};
 
 // Puts an answer's number and figures into three lent numbers.
 fn tell(a: Answer, number: &mut u64, first: &mut u64, second: &mut u64)
@@ -137,4 +137,21 @@ pub fn parent(b: &[u8], k: u64) -> Answer
         return Answer::NoSuchPart(k);
     }
     Answer::Done(fields::parent_of(b, k as usize) as u64, 0)
+}
+
+// Where the 20 bytes of entry i of line k stand.
+pub fn entry(b: &[u8], k: u64, i: u64) -> Answer
+    ensures { λ r. ⌜ r ≡ entryAnswer (now (b .entry)) k i ⌝ }
+{
+    if !sound(b) {
+        return Answer::NotSound;
+    }
+    if fields::lines(b) as u64 <= k {
+        return Answer::NoSuchPart(k);
+    }
+    if fields::entry_count(b, k as usize) as u64 <= i {
+        return Answer::NoSuchEntry(k, i);
+    }
+    let row = fields::move_place(b, fields::first_entry(b, k as usize));
+    Answer::Done((row + 20 * (i as usize)) as u64, 20)
 }

@@ -2,7 +2,7 @@
 ghost use mathlib.Core.Path.{_≡_};
 ghost use Rattle.block.specs.Decode.{headersIn, commentsIn, keyOffset, keyLength, valueOffset, valueLength, commentOffset, commentLength};
 ghost use Rattle.block.specs.Sound.{soundb};
-ghost use Rattle.block.specs.Look.{lookAnswer, Answered};
+ghost use Rattle.block.specs.Look.{lookAnswer, Answered, linesAnswer, lineAnswer, parentAnswer, entryAnswer};
 ghost use Rattle.parser.specs.Read.{measureOf, fillOf, lostOf};
 ghost use mathlib.Core.List.{[], _∷_};
 ghost use Rattle.stops.specs.Stopping.{stopOf, stopFigures, spotAt};
@@ -52,6 +52,69 @@ pub extern "C" fn kif_value(
     ensures { λ _. ⌜ Answered (lookAnswer (now (block .entry)) (headersIn (now (block .entry))) k (valueOffset (now (block .entry)) k) (valueLength (now (block .entry)) k)) (now (number .exit)) (now (first .exit)) (now (second .exit)) ⌝ }
 {
     block::value(block, k, number, first, second);
+}
+
+// How many lines a block has.
+#[no_mangle]
+pub extern "C" fn kif_lines(block: &[u8], number: &mut u64, first: &mut u64, second: &mut u64)
+    ensures { λ _. ⌜ Answered (linesAnswer (now (block .entry))) (now (number .exit)) (now (first .exit)) (now (second .exit)) ⌝ }
+{
+    let f = jkf::figures_of(block::lines(block));
+    *number = f.number;
+    *first = f.first;
+    *second = f.second;
+}
+
+// The start of line k, and how many entries it has.
+#[no_mangle]
+pub extern "C" fn kif_line(
+    block: &[u8],
+    k: u64,
+    number: &mut u64,
+    first: &mut u64,
+    second: &mut u64,
+)
+    ensures { λ _. ⌜ Answered (lineAnswer (now (block .entry)) k) (now (number .exit)) (now (first .exit)) (now (second .exit)) ⌝ }
+{
+    let f = jkf::figures_of(block::line(block, k));
+    *number = f.number;
+    *first = f.first;
+    *second = f.second;
+}
+
+// The line that line k hangs on.
+#[no_mangle]
+pub extern "C" fn kif_parent(
+    block: &[u8],
+    k: u64,
+    number: &mut u64,
+    first: &mut u64,
+    second: &mut u64,
+)
+    ensures { λ _. ⌜ Answered (parentAnswer (now (block .entry)) k) (now (number .exit)) (now (first .exit)) (now (second .exit)) ⌝ }
+{
+    let f = jkf::figures_of(block::parent(block, k));
+    *number = f.number;
+    *first = f.first;
+    *second = f.second;
+}
+
+// Where the 20 bytes of an entry of a line stand.
+#[no_mangle]
+pub extern "C" fn kif_entry(
+    block: &[u8],
+    line: u64,
+    entry: u64,
+    number: &mut u64,
+    first: &mut u64,
+    second: &mut u64,
+)
+    ensures { λ _. ⌜ Answered (entryAnswer (now (block .entry)) line entry) (now (number .exit)) (now (first .exit)) (now (second .exit)) ⌝ }
+{
+    let f = jkf::figures_of(block::entry(block, line, entry));
+    *number = f.number;
+    *first = f.first;
+    *second = f.second;
 }
 
 // How long the block of a text is, and how many bytes are taken.
