@@ -1,14 +1,82 @@
-/* Prunicheta's calls for C. A slice is a pointer and a length; a lent number is a pointer to it.
+/* Prunicheta's calls for C: a text is read into a block, which is looked up, edited and written as a text. docs/BLOCK.md tells a block byte by byte.
+ *
+ * A slice is a pointer and a length in bytes; a lent number is a pointer to it. Every call takes every input: any bytes, any numbers. A refused
+ * call says so in *number, by a number of enum kif_answer, and in its figures; 0 is success.
+ *
  * A block is of version 1, as it is read, in which each variation hangs where the attaching rule finds it, or of version 2, as kif_restate makes it, in
  * which a move may have several variations and the parents stand as they were given. Every call that takes a block takes both, but for kif_restate.
- * Every call takes every input. A refused call says so in *number (1 to 13, 15 to 17, and 20) and in its figures; 0 is success. 14 was a refusal of
- * kif_put_in that is never met, and is not used again. */
+ *
+ * Pointers. A slice of length 0 may be NULL; any other has as many bytes as its length says. out and the lent numbers are written, so none of
+ * them overlaps another of them or a slice that is read: a result goes into another buffer than what it is made of. Slices that are only read
+ * may overlap. A lent number is not NULL, and stands where a uint64_t may stand.
+ *
+ * Lengths. Whoever wants to know how long a result is lends NULL and 0 as out: refusal 5 says it.
+ *
+ * Threads. Nothing is kept from call to call, nothing is shared and no memory is asked for: calls may run at once, for the same block too, as long
+ * as none writes what another one reads or writes.
+ *
+ * Stack. A call takes at most so many bytes of it, the writer where variations are nested 2,334 deep (tests/c measures it):
+ *   kif_measure, kif_fill     280000
+ *   kif_stop                  100000
+ *   kif_write, kif_write_as   600000
+ *   kif_position              520000
+ *   every other call            4096 */
 #ifndef KIF_H
 #define KIF_H
 
 #include <stdbool.h>
 #include <stddef.h>
 #include <stdint.h>
+
+#define KIF_VERSION_MAJOR 0
+#define KIF_VERSION_MINOR 1
+#define KIF_VERSION_PATCH 0
+#define KIF_VERSION "0.1.0"
+
+/* The most bytes of a text that is read, and of a block. A text that is written may have more. */
+#define KIF_LONGEST_TEXT 65535
+#define KIF_LONGEST_BLOCK 65535
+
+/* What a call says in *number. 14 was a refusal of kif_put_in that is never met, and is not used again. */
+enum kif_answer {
+  KIF_DONE = 0,
+  KIF_TEXT_TOO_LONG = 1,      /* the text has more than KIF_LONGEST_TEXT bytes */
+  KIF_NOT_UTF8 = 2,           /* the text is not UTF-8 */
+  KIF_HAND_LINE = 3,          /* a line that tells the pieces in a hand cannot be read */
+  KIF_BLOCK_TOO_LONG = 4,     /* the block would have more than KIF_LONGEST_BLOCK bytes */
+  KIF_BUFFER_SHORT = 5,       /* out is shorter than the result */
+  KIF_NO_ENTRY = 6,           /* a variation has no entry to hang on */
+  KIF_NOT_SOUND = 7,          /* the slice is not just a sound block */
+  KIF_HAND_COUNT = 8,         /* a hand holds more than 99 of a kind */
+  KIF_CANNOT_WRITE = 9,       /* a move goes to a file or rank outside 1 to 9 without 同, or its time comes after a width of 14 */
+  KIF_NO_SUCH_PART = 10,      /* there is no such line, comment or header entry; in a cut, also line 0 */
+  KIF_NOT_ONE_VARIATION = 11, /* the text is not one variation, numbered one by one */
+  KIF_OUTSIDE_LINE = 12,      /* the line has no such ply, or it is 0 */
+  KIF_ENTRY_TAKEN = 13,       /* the block is of version 1, and a variation hangs there already */
+  KIF_NO_START = 15,          /* the record has no diagram, and another preset than 平手 */
+  KIF_NO_SUCH_ENTRY = 16,     /* the line has no such entry */
+  KIF_PLAY_STOPPED = 17,      /* a move on the way to the entry cannot be played */
+  KIF_STARTS_AT_ZERO = 20     /* a variation starts at ply 0, which the modes that lose nothing do not write */
+};
+
+/* Why reading stopped: the second figure of kif_stop. */
+enum kif_reason {
+  KIF_NO_NUMBER = 1,
+  KIF_TOO_LARGE = 2,
+  KIF_NO_PLACE = 3,
+  KIF_NO_KIND = 4,
+  KIF_NO_ORIGIN = 5,
+  KIF_NO_BREAK = 6,
+  KIF_COMMENT_HERE = 7,
+  KIF_END_OF_TEXT = 8
+};
+
+/* The modes of kif_write_as. */
+enum kif_mode {
+  KIF_PLAIN = 0,
+  KIF_WHOLE = 1,
+  KIF_SHARED = 2
+};
 
 #ifdef __cplusplus
 extern "C" {
@@ -114,11 +182,25 @@ void kif_position(const uint8_t *block, size_t block_len, uint64_t line, uint64_
 /* Whether the slice is just a sound block. */
 bool kif_sound(const uint8_t *block, size_t block_len);
 
-/* Look-ups: 0, the text's offset in the block and its length; or 7, 0, 0 where the block is not sound; or 10, k, 0 where it has no
+/* Look-ups of texts: 0, the text's offset in the block and its length; or 7, 0, 0 where the block is not sound; or 10, k, 0 where it has no
  * such comment or header entry. */
 void kif_comment(const uint8_t *block, size_t block_len, uint64_t k, uint64_t *number, uint64_t *first, uint64_t *second);
 void kif_key(const uint8_t *block, size_t block_len, uint64_t k, uint64_t *number, uint64_t *first, uint64_t *second);
 void kif_value(const uint8_t *block, size_t block_len, uint64_t k, uint64_t *number, uint64_t *first, uint64_t *second);
+
+/* How many lines a block has, line 0 among them: 0, that number and 0; or 7, 0, 0 where it is not sound. */
+void kif_lines(const uint8_t *block, size_t block_len, uint64_t *number, uint64_t *first, uint64_t *second);
+
+/* Of line k: 0, the ply that it starts at and how many entries it has; and 0, the line that it hangs on, which is 0 for line 0, and 0. Or 7, 0, 0
+ * where the block is not sound; or 10, k, 0 where it has no such line. */
+void kif_line(const uint8_t *block, size_t block_len, uint64_t k, uint64_t *number, uint64_t *first, uint64_t *second);
+void kif_parent(const uint8_t *block, size_t block_len, uint64_t k, uint64_t *number, uint64_t *first, uint64_t *second);
+
+/* An entry of a line, both counted from 0: 0, the offset of its 20 bytes in the block and 20; or, in this order,
+ *   7, 0, 0               where the slice is not just a sound block;
+ *   10, line, 0           where it has no such line;
+ *   16, line, entry       where the line has no such entry. */
+void kif_entry(const uint8_t *block, size_t block_len, uint64_t line, uint64_t entry, uint64_t *number, uint64_t *first, uint64_t *second);
 
 #ifdef __cplusplus
 }
