@@ -28,6 +28,10 @@
 #include <stddef.h>
 #include <stdint.h>
 
+#if SIZE_MAX != UINT64_MAX
+#error "libkif takes lengths of 64 bits, and size_t has fewer here"
+#endif
+
 #define KIF_VERSION_MAJOR 0
 #define KIF_VERSION_MINOR 1
 #define KIF_VERSION_PATCH 0

@@ -9,13 +9,13 @@
 
 #define EXPECT(fact) ((fact) ? (void)0 : failed(__FILE__, __LINE__, #fact))
 
-static void failed(const char *file, int line, const char *fact) {
+static inline void failed(const char *file, int line, const char *fact) {
   fprintf(stderr, "%s:%d: not so: %s\n", file, line, fact);
   exit(1);
 }
 
 /* Reads a file into text, and answers its length. */
-static size_t file_text(const char *name, uint8_t *text, size_t most) {
+static inline size_t file_text(const char *name, uint8_t *text, size_t most) {
   FILE *file = fopen(name, "rb");
   size_t length;
   EXPECT(file != NULL);
