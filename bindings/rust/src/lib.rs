@@ -16,6 +16,9 @@
 //! # Ok::<(), kif::Error>(())
 //! ```
 //!
+//! It links `libkif.a`, which `oracle/compile-proved kif native` at the project's root proves and builds in `target/native`; `KIF_LIBRARY` names
+//! another folder. Then `cargo test --offline` is all. No call takes more than 600,000 bytes of the stack.
+//!
 //! A text has at most 65,535 bytes of UTF-8, and so has a record as a block. Where a line cannot be read, reading stops, and nothing behind it
 //! is taken: compare [`Reading::taken`] with the text's length, and ask [`stop`] for the reason.
 #![deny(missing_docs, unsafe_code, clippy::undocumented_unsafe_blocks)]

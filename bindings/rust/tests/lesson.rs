@@ -106,6 +106,9 @@ fn written_in_each_mode() {
     }
     let plain = record.write(Mode::Plain).unwrap().text;
     assert!(plain.contains("( 0:08/01:00:08)") && Record::read(plain).unwrap().record != record);
+    let wide = Record::read("手数\n1 ７六成香成打(0:1/0:2)\n").unwrap().record;
+    assert_eq!(wide.write(Mode::Whole), Err(Error::CannotWrite { line: 0, entry: 1 }));
+    assert!(wide.write(Mode::Shared).is_ok());
     let at_zero = Record::read("手数\n1投了\nx\n0投了\n").unwrap().record;
     assert_eq!(at_zero.write(Mode::Whole), Err(Error::StartsAtZero { line: 1 }));
     assert_eq!(at_zero.write(Mode::Plain).unwrap().left_out, 1);
