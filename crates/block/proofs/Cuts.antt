@@ -1,30 +1,19 @@
--- A text's part of a block, cut where the block ends.
---     part-past, part-cut, part-whole   by where it lies
---     part-as                           its place and length under other names
---     text-in, key-in, value-in         a text by its place among the texts
+-- The parts of a block by their places.
+--     part-whole, part-as         a text that lies in the block; its place and length under other names
+--     text-in, key-in, value-in   a text by its place among the texts
+--     row-in                      an entry's row by its place among the rows
 -- Assumes nothing.
-use Prim.Native.Nat.{ℕ, _+_, _-_, _≤_}
+use Prim.Native.Nat.{ℕ, _+_, _*_, _-_}
 use native.Mathlib.Omega.{arith}
-use mathlib.Core.Path.{_≡_, sym, ap, _∙_}
+use mathlib.Core.Path.{_≡_, ap, _∙_}
 use mathlib.Core.List.{List}
-use lib.ListN.{length, take, drop, length-drop, drop-of-length-le}
-use lib.Seq.{take-all, take-nil, drop-drop}
-use Rattle.block.specs.Decode.{textPlace, storedText, keyOffset, keyLength, keyOf, valueOffset, valueLength, valueOf}
+use lib.ListN.{take, drop}
+use lib.Seq.{drop-drop}
+use Rattle.block.specs.Decode.{movePlace, textPlace, storedText, keyOffset, keyLength, keyOf, valueOffset, valueLength, valueOf}
 
-module _ (b : List ℕ) (at n : ℕ) where
-  -- it begins past the end
-  pub part-past : length b ≤ at → take (length b - length b) (drop (length b) b) ≡ take n (drop at b)
-  part-past h =
-      ap (take (length b - length b)) (drop-of-length-le b {i = length b} (omega arith)) ∙ take-nil (length b - length b)
-      ∙ sym (ap (take n) (drop-of-length-le b h) ∙ take-nil n)
-
-  -- it goes on past the end
-  pub part-cut : length b - at ≤ n → take (length b - at) (drop at b) ≡ take n (drop at b)
-  part-cut h = take-all (length b - at) (drop at b) (simp length-drop (omega arith)) ∙ sym (take-all n (drop at b) (simp length-drop (omega arith)))
-
-  -- it lies in the block
-  pub part-whole : take (at + n - at) (drop at b) ≡ take n (drop at b)
-  part-whole = let e : at + n - at ≡ n = omega arith in ap (λ (k : ℕ). take k (drop at b)) e
+-- it lies in the block
+pub part-whole : (b : List ℕ) (at n : ℕ) → take (at + n - at) (drop at b) ≡ take n (drop at b)
+part-whole b at n = let e : at + n - at ≡ n = omega arith in ap (λ (k : ℕ). take k (drop at b)) e
 
 -- its place and its length under other names
 pub part-as : (t : List ℕ) {o p n m : ℕ} → o ≡ p → n ≡ m → take n (drop o t) ≡ take m (drop p t)
@@ -43,3 +32,7 @@ module _ (b t : List ℕ) (e : t ≡ drop (textPlace b) b) where
   pub value-in : (k : ℕ) → take (valueLength b k) (drop (valueOffset b k) t) ≡ valueOf b k
   unfolding valueOf
   value-in k = text-in (valueOffset b k) (valueLength b k)
+
+-- an entry's row by its place among the rows
+pub row-in : (b : List ℕ) (k : ℕ) → drop (20 * k) (drop (movePlace b 0) b) ≡ drop (movePlace b k) b
+row-in b k = let e : movePlace b 0 + 20 * k ≡ movePlace b k = omega arith in drop-drop (20 * k) (movePlace b 0) b ∙ ap (λ (p : ℕ). drop p b) e

@@ -2,18 +2,18 @@
 -- other byte is the entry's own, so that the bytes are those of the entry that they say.
 --     target-is, origin-is, time-without, time-timed   the fields, by the marks
 --     kind-slot, kind-later                             the 15 bytes before the numbers, by their sort
---     entry-short, entry-is                             the 20 bytes of entry k
+--     entry-row                                         the 20 bytes of entry k
 -- Assumes nothing.
 use Prim.Native.Nat.{ℕ, zero, suc, _+_, _*_, _/_, _%_, _≤_, _<_}
 use native.Mathlib.Omega.{arith}
-use native.Mathlib.Decide.{decLt}
+use native.Mathlib.Decide.{decLe, decLt}
 use mathlib.Core.Path.{_≡_, refl, sym, ap, ap₂, subst, _∙_}
 use mathlib.Core.List.{List, [], _∷_, _++_}
 use mathlib.Core.Bool.{Bool, true, false}
 use lib.ListN.{length, getD, take, drop, replicate, length-append, length-take}
 use lib.Seq.{take-add, length-take-le, getD-drop}
 use lib.Dec.{eqb, leb, ltb}
-use borrow.Author.Tests.{eq-eqb, ne-eqb, le-leb, lt-ltb, le-ltb, eqb-true, eqb-false, leb-true}
+use borrow.Author.Tests.{eq-eqb, ne-eqb, le-leb, lt-leb, lt-ltb, le-ltb, eqb-true, eqb-false, leb-true}
 use Rattle.lists.specs.Pick.{pick}
 use Rattle.lists.specs.Test.{Test, _equals_, holds, _and_, each, flag}
 use Rattle.lists.proofs.Laws.{drop-step, pick-both, range-at}
@@ -30,7 +30,7 @@ use Rattle.jkf.specs.declared.Origin.{Origin}
 use Rattle.jkf.specs.declared.Origin.the-variants.{Unknown, From}
 use Rattle.block.proofs.EntriesBack.{entry-length}
 use Rattle.block.proofs.Entering.{target-length, origin-length, head-length, time-length}
-use Rattle.block.specs.inner.Tests.{timeTest, moveTest, endTest, headTestOf, commentsTest}
+use Rattle.block.specs.inner.Tests.{timeTest, moveTest, endTest, headTestOf, commentsTest, rowTest}
 use Rattle.block.specs.EntryBytes.{fromMark, sameMark, hourMark, timeMark, targetBytes, originBytes, clockBytes, timeBytes, entryHead, entryBytes, clockOf, timeIn, targetIn, originIn, moveIn, entryIn}
 use Rattle.jkf.specs.Entries.{specialNumber, specialOf, timeOf}
 use Rattle.block.specs.Decode.{run, movePlace, commentCount}
@@ -469,7 +469,7 @@ module _ (b : List ℕ) (k : ℕ) where
   L = drop (movePlace b k) b
 
   -- there are fewer than 20 bytes
-  pub entry-short : length L < 20 → flag (entryTest b k) ≡ false
+  entry-short : length L < 20 → flag (entryTest b k) ≡ false
   entry-short h =
       let n = commentCount b k in
       let f = pick (eqb n 0) 0 (commentsBefore b k) in
@@ -477,9 +477,17 @@ module _ (b : List ℕ) (k : ℕ) where
       (pick-none (flag (kindTest k (entryIn L))))
 
   -- there are 20
-  pub entry-is : (next : ℕ) → next ≡ commentsBefore b k → 20 ≤ length L → ((i : ℕ) → getD b i 0 < 256)
+  entry-is : (next : ℕ) → next ≡ commentsBefore b k → 20 ≤ length L → ((i : ℕ) → getD b i 0 < 256)
       → flag (entryTest b k) ≡ pick (flag (headTestOf k L)) (flag (commentsTest next L)) false
   entry-is next e h small =
       ap (λ (i : ℕ). flag (kindTest k (entryIn L) and holds (same (take 20 L) (entryBytes (entryIn L) (pick (eqb (commentCount b k) 0) 0 i) (commentCount b k))))) (sym e)
       ∙ row-is L h k (commentCount b k) next (sym (le16-drop b (movePlace b k) 18))
       (λ i. subst (λ (x : ℕ). x < 256) (sym (getD-drop (movePlace b k) b i 0)) (small (movePlace b k + i)))
+
+  -- its row says all
+  pub entry-row : (next : ℕ) → next ≡ commentsBefore b k → ((i : ℕ) → getD b i 0 < 256) → flag (entryTest b k) ≡ flag (rowTest k next L)
+  entry-row next e small = go (decLe 20 (length L))
+    where
+      go : Dec (20 ≤ length L) → flag (entryTest b k) ≡ flag (rowTest k next L)
+      go (yes h) = entry-is next e h small ∙ rw (le-leb 20 (length L) h)
+      go (no h) = let s : length L < 20 = omega arith in entry-short s ∙ rw (lt-leb 20 (length L) s)

@@ -2,7 +2,7 @@
 -- them begins where a character may (`Pieces`).
 --     texts-are       the tests of the definition, and those of the code
 --     texts-first     the order of the tests
---     key-stands, ascends-at, ascends-all   keys one after the other
+--     ascends-at, ascends-all   keys one after the other
 -- Assumes nothing.
 use Prim.Native.Nat.{ℕ, zero, suc, _+_, _-_, _≤_, _<_}
 use native.Mathlib.Omega.{arith}
@@ -54,11 +54,6 @@ above x = go (decLt x 192)
     go (no h) = le-leb 192 x (omega arith) ∙ ap not (sym (le-ltb x 192 (omega arith)))
 
 -- ---- keys one after the other
-
--- a key by what was read of it
-pub key-stands : (b : List ℕ) (t k offset len : ℕ) → t ≡ textPlace b → offset ≡ keyOffset b k → len ≡ keyLength b k → take len (drop (t + offset) b) ≡ keyOf b k
-unfolding keyOf
-key-stands b t k offset len e f g = rw (e, f, g)
 
 -- a key that has a next one
 pub ascends-at : (b : List ℕ) (k : ℕ) {x y : List ℕ} → x ≡ keyOf b k → y ≡ keyOf b (k + 1) → k + 1 < headersIn b → flag (ascends b k) ≡ before x y

@@ -3,16 +3,16 @@ use crate::fields;
 use crate::places;
 ghost use mathlib.Core.Path.{_≡_};
 ghost use mathlib.Core.Bool.{true};
-ghost use Prim.Native.Nat.{_≤_, _<_};
+ghost use Prim.Native.Nat.{_≤_};
 ghost use lib.ListN.{length, take, drop};
 ghost use lib.Dec.{eqb};
 ghost use Rattle.lists.specs.Pick.{pick};
 ghost use Rattle.lists.specs.Test.{each, flag};
-ghost use Rattle.block.specs.inner.Tests.{timeTest, moveTest, endTest, headTestOf, commentsTest};
+ghost use Rattle.block.specs.inner.Tests.{timeTest, moveTest, endTest, headTestOf, commentsTest, rowTest};
 ghost use Rattle.block.specs.EntryBytes.{targetBytes, originBytes, targetIn, originIn};
 ghost use Rattle.block.specs.Decode.{movesIn};
 ghost use Rattle.text.specs.Text.{same};
-ghost use Rattle.block.specs.Sound.{entryTest, commentsBefore};
+ghost use Rattle.block.specs.Sound.{entryTest};
 
 // An hour without its mark is zero.
 fn hour_fits(marked: bool, hour: u8) -> bool
@@ -151,12 +151,10 @@ fn comments_fit(row: &[u8], next: usize) -> bool
     fields::pair(row, 16) == next % 65536
 }
 
-// Entry k, whose comments begin with this one.
-fn entry_sound(b: &[u8], k: usize, next: usize) -> bool
-    requires { ⌜ (k < 65536) × (next ≡ commentsBefore (now b) k) ⌝ }
-    ensures { λ r. ⌜ r ≡ flag (entryTest (now (b .entry)) k) ⌝ }
+// Entry k by its row; its comments begin with this one.
+fn row_sound(row: &[u8], k: usize, next: usize) -> bool
+    ensures { λ r. ⌜ r ≡ flag (rowTest k next (now (row .entry))) ⌝ }
 {
-    let row = lent::rest(b, fields::move_place(b, k));
     if row.len() < 20 {
         return false;
     }
@@ -171,13 +169,15 @@ pub(crate) fn entries_sound(b: &[u8]) -> bool
     ensures { λ r. ⌜ r ≡ flag (each (movesIn (now (b .entry))) (entryTest (now (b .entry)))) ⌝ }
 {
     let n = fields::moves(b);
+    let rows = lent::rest(b, fields::move_place(b, 0));
     let mut at = 0;
     let mut k = 0;
     while k < n {
-        if !entry_sound(b, k, at) {
+        let row = lent::rest(rows, 20 * k);
+        if !row_sound(row, k, at) {
             return false;
         }
-        at += fields::comment_count(b, k);
+        at += lent::get16(row, 18);
         k += 1;
     }
     true

@@ -3,7 +3,7 @@ ghost use mathlib.Core.Path.{_≡_};
 ghost use Prim.Native.Nat.{_+_, _*_, _≤_, _<_};
 ghost use lib.ListN.{length};
 ghost use Rattle.lent.specs.Bytes.{le16};
-ghost use Rattle.block.specs.Decode.{versionIn, headersIn, linesIn, movesIn, commentsIn, linePlace, movePlace, commentPlace, textPlace, keyOffset, keyLength, valueOffset, valueLength, startOf, firstEntry, entryCount, parentOf, commentCount};
+ghost use Rattle.block.specs.Decode.{versionIn, headersIn, linesIn, movesIn, commentsIn, linePlace, movePlace, commentPlace, textPlace, startOf, firstEntry, entryCount, parentOf, commentCount};
 ghost use Rattle.block.specs.Sound.{sum, entriesBefore, commentsBefore, headerBytes, commentBytes};
 
 // The number of two bytes at a place that has both.
@@ -135,34 +135,6 @@ pub(crate) fn text_total(b: &[u8]) -> usize
     ensures { λ r. ⌜ (r ≡ commentBytes (now (b .entry)) (commentsIn (now (b .entry)))) × (r < 4300000000) ⌝ }
 {
     sum_of(b, comment_place(b, 0) + 2, 4, comments(b))
-}
-
-pub(crate) fn key_offset(b: &[u8], k: usize) -> usize
-    requires { ⌜ k < 65536 ⌝ }
-    ensures { λ r. ⌜ (r ≡ keyOffset (now (b .entry)) k) × (r < 65536) ⌝ }
-{
-    lent::get16(b, 128 + 8 * k)
-}
-
-pub(crate) fn key_length(b: &[u8], k: usize) -> usize
-    requires { ⌜ k < 65536 ⌝ }
-    ensures { λ r. ⌜ (r ≡ keyLength (now (b .entry)) k) × (r < 65536) ⌝ }
-{
-    lent::get16(b, 128 + 8 * k + 2)
-}
-
-pub(crate) fn value_offset(b: &[u8], k: usize) -> usize
-    requires { ⌜ k < 65536 ⌝ }
-    ensures { λ r. ⌜ (r ≡ valueOffset (now (b .entry)) k) × (r < 65536) ⌝ }
-{
-    lent::get16(b, 128 + 8 * k + 4)
-}
-
-pub(crate) fn value_length(b: &[u8], k: usize) -> usize
-    requires { ⌜ k < 65536 ⌝ }
-    ensures { λ r. ⌜ (r ≡ valueLength (now (b .entry)) k) × (r < 65536) ⌝ }
-{
-    lent::get16(b, 128 + 8 * k + 6)
 }
 
 pub(crate) fn start_of(b: &[u8], k: usize) -> usize

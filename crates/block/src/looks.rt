@@ -45,13 +45,14 @@ fn look<'a>(
     let row = place + w * (k as usize);
     let offset = lent::get16(b, row);
     let len = lent::get16(b, row + 2);
+    let t = fields::text_place(b);
     tell(
-        Answer::Done((fields::text_place(b) + offset) as u64, len as u64),
+        Answer::Done((t + offset) as u64, len as u64),
         number,
         first,
         second,
     );
-    texts::text_of(b, offset, len)
+    texts::text_in(b, lent::rest(b, t), row)
 }
 
 // Comment k of the block.

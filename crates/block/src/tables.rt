@@ -139,20 +139,15 @@ fn keys_ascend(b: &[u8], t: usize) -> bool
     ensures { λ r. ⌜ r ≡ flag (each (headersIn (now (b .entry))) (ascends (now (b .entry)))) ⌝ }
 {
     let n = fields::headers(b);
-    let mut offset = fields::key_offset(b, 0);
-    let mut len = fields::key_length(b, 0);
+    let texts = lent::rest(b, t);
+    let mut key = texts::text_in(b, texts, 128);
     let mut k = 0;
     while k + 1 < n {
-        let next = fields::pair(b, 128 + 8 * (k + 1));
-        let width = fields::pair(b, 128 + 8 * (k + 1) + 2);
-        if !texts::is_before(
-            texts::cut(b, t + offset, len),
-            texts::cut(b, t + next, width),
-        ) {
+        let next = texts::text_in(b, texts, 128 + 8 * (k + 1));
+        if !texts::is_before(key, next) {
             return false;
         }
-        offset = next;
-        len = width;
+        key = next;
         k += 1;
     }
     true

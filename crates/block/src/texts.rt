@@ -5,63 +5,27 @@ ghost use Prim.Native.Nat.{_+_, _*_, _≤_, _<_};
 ghost use lib.ListN.{length, take, drop, getD};
 ghost use Rattle.lists.specs.Test.{flag};
 ghost use Rattle.lent.specs.Bytes.{le16};
-ghost use Rattle.block.specs.Decode.{storedText, keyOf, valueOf, commentOf};
+ghost use Rattle.block.specs.Decode.{commentOf};
 ghost use Rattle.text.specs.Text.{before, same};
 ghost use Rattle.block.specs.Sound.{valid};
 
-// The part of the block that holds a text; what would lie past the end is left out.
-pub(crate) fn text_of(b: &[u8], offset: usize, len: usize) -> &[u8]
-    requires { ⌜ offset < 1000000000000 ⌝ }
-    ensures { λ r. ⌜ now r ≡ storedText (now (b .entry)) offset len ⌝ }
-{
-    let at = fields::text_place(b) + offset;
-    if b.len() <= at {
-        return &b[b.len()..];
-    }
-    if b.len() - at <= len {
-        return &b[at..];
-    }
-    &b[at..at + len]
-}
-
-// The part of len bytes from a place on; what would lie past the end is left out.
-pub(crate) fn cut(b: &[u8], at: usize, len: usize) -> &[u8]
-    ensures { λ r. ⌜ now r ≡ take len (drop at (now (b .entry))) ⌝ }
-{
-    if b.len() <= at {
-        return &b[b.len()..];
-    }
-    if b.len() - at <= len {
-        return &b[at..];
-    }
-    &b[at..at + len]
-}
-
-// The text whose offset and length stand at a place of the block; one test for all four bytes.
+// The text whose offset and length stand at a place of the block: one test where all four bytes are there, and one where the text is.
+// What would lie past the end is left out.
 pub(crate) fn text_in<'a>(b: &[u8], texts: &'a [u8], at: usize) -> &'a [u8]
     requires { ⌜ at < 1000000000000 ⌝ }
     ensures { λ r. ⌜ now r ≡ take (le16 (now (b .entry)) (at + 2)) (drop (le16 (now (b .entry)) at) (now (texts .entry))) ⌝ }
 {
-    if b.len() < at + 4 {
-        return cut(texts, lent::get16(b, at), lent::get16(b, at + 2));
+    if at + 4 <= b.len() {
+        let offset = fields::pair(b, at);
+        let len = fields::pair(b, at + 2);
+        if offset + len <= texts.len() {
+            return &texts[offset..offset + len];
+        }
     }
-    cut(texts, fields::pair(b, at), fields::pair(b, at + 2))
-}
-
-// The key of header entry k.
-pub(crate) fn key_of(b: &[u8], k: usize) -> &[u8]
-    requires { ⌜ k < 65536 ⌝ }
-    ensures { λ r. ⌜ now r ≡ keyOf (now (b .entry)) k ⌝ }
-{
-    text_of(b, fields::key_offset(b, k), fields::key_length(b, k))
-}
-
-// The value of header entry k.
-pub(crate) fn value_of(b: &[u8], k: usize) -> &[u8]
-    requires { ⌜ k < 65536 ⌝ }
-    ensures { λ r. ⌜ now r ≡ valueOf (now (b .entry)) k ⌝ }
-{
-    text_of(b, fields::value_offset(b, k), fields::value_length(b, k))
+    lent::front(
+        lent::rest(texts, lent::get16(b, at)),
+        lent::get16(b, at + 2),
+    )
 }
 
 // Comment k.

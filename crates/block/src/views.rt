@@ -108,14 +108,14 @@ pub fn comment_count(b: &[u8], k: u16) -> usize
 pub fn key_of(b: &[u8], k: u16) -> &[u8]
     ensures { λ r. ⌜ now r ≡ keyOf (now (b .entry)) k ⌝ }
 {
-    texts::key_of(b, k as usize)
+    key_in(b, texts_of(b), k)
 }
 
 // The value of header entry k.
 pub fn value_of(b: &[u8], k: u16) -> &[u8]
     ensures { λ r. ⌜ now r ≡ valueOf (now (b .entry)) k ⌝ }
 {
-    texts::value_of(b, k as usize)
+    value_in(b, texts_of(b), k)
 }
 
 // The part of a block that holds its texts.

@@ -3,7 +3,7 @@
 use Prim.Native.Nat.{ℕ, _+_, _%_}
 use mathlib.Core.Bool.{not}
 use mathlib.Core.List.{List, [], _∷_, _++_}
-use lib.ListN.{take, drop, getD}
+use lib.ListN.{length, take, drop, getD}
 use lib.Dec.{eqb}
 use Rattle.lists.specs.Pick.{pick}
 use Rattle.lists.specs.Test.{Test, _equals_, _atMost_, holds, _and_}
@@ -51,6 +51,10 @@ abbrev pub commentsTest : ℕ → List ℕ → Test
 commentsTest next l =
     getD l 15 0 equals 0
     and le16 l 16 equals pick (eqb (le16 l 18) 0) 0 (next % 65536)
+
+-- A row of entry k, whose comments begin with this one.
+abbrev pub rowTest : ℕ → ℕ → List ℕ → Test
+rowTest k next l = 20 atMost length l and headTestOf k l and commentsTest next l
 
 -- ---- texts, of which the part begins at t
 

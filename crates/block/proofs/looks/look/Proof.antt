@@ -4,11 +4,13 @@ use Prim.Native.Nat.{ℕ, _+_, _*_}
 use native.Mathlib.Nat.{mul-le-mul-right}
 use native.Mathlib.Omega.{arith}
 use mathlib.Core.Path.{sym, _∙_, ap}
+use lib.ListN.{drop}
 use denote.Ref.{now}
 use borrow.Author.Tests.{not-true, not-false, lt-ltb, le-ltb}
 use borrow.Author.Needs.{needs}
+use Rattle.block.proofs.Cuts.{text-in}
 use Rattle.block.proofs.LookUps.{told}
-use Rattle.block.specs.Decode.{textPlace, storedText}
+use Rattle.block.specs.Decode.{textPlace}
 use Rattle.jkf.specs.declared.Answer.the-variants.{Done}
 use Rattle.lent.specs.Bytes.{le16}
 use Rattle.block.proofs.looks.look.Statement.{statement}
@@ -64,25 +66,32 @@ get16-requires-2 c κs = search needs
 text-place-requires : tie.Need-text-place-requires
 text-place-requires c κs = search needs
 
-add-t25 : tie.Need-add-t25
-add-t25 c = search needs
+add-t27 : tie.Need-add-t27
+add-t27 c = search needs
 
 tell-requires-3 : tie.Need-tell-requires-3
 tell-requires-3 c κs = search needs
 
-text-of-requires : tie.Need-text-of-requires
-text-of-requires c κs = search needs
+rest-requires : tie.Need-rest-requires
+rest-requires c κs = search needs
+
+text-in-requires : tie.Need-text-in-requires
+text-in-requires c κs =
+    let a = c .before .before .before .before .before .before .before .before .before .before .before .before .args in
+    omega (arith, mul-le-mul-right {m = a .w} {n = 8} (a .k) (c .before .before .before .before .before .before .before .before .before .before .before .before .pre .2), c .before .before .before .before .before .before .before .before .before .before .before .before .pre .0, c .before .before .before .before .before .before .before .before .before .before .before .before .pre .1, c .before .before .before .before .before .before .before .before .if2 .left)
 
 returns-3 : tie.Need-returns-3
 returns-3 c =
-    let a = c .before .before .before .before .before .before .before .before .before .before .before .before .args in
+    let a = c .before .before .before .before .before .before .before .before .before .before .before .before .before .args in
     let b = now (a .b) in
-    let s = sym (c .before .before .before .before .before .before .before .before .before .before .sound .ensures) ∙ not-false _ (c .before .before .before .before .before .before .before .before .before .if1 .left) in
-    let o = c .before .before .before .before .before .before .before .get16 .ensures .0 in
-    let l = c .before .before .before .before .before .before .get162 .ensures .0 in
-    rw (s, lt-ltb (a .k) (a .n) (c .before .before .before .before .before .before .before .before .if2 .left)) (
-      c .text-of .ensures ∙ ap (λ (x : ℕ). storedText b x (c .before .before .before .before .before .before .get162 .result)) o ∙ ap (storedText b (le16 b (a .place + a .w * a .k))) l,
-      told (ap (λ (t : ℕ). Done (t + c .before .before .before .before .before .before .before .get16 .result) (c .before .before .before .before .before .before .get162 .result)) (c .before .before .before .before .before .text-place .ensures .0) ∙ ap (λ (x : ℕ). Done (textPlace b + x) (c .before .before .before .before .before .before .get162 .result)) o ∙ ap (Done (textPlace b + le16 b (a .place + a .w * a .k))) l) (c .before .tell3 .ensures),
+    let row = a .place + a .w * a .k in
+    let s = sym (c .before .before .before .before .before .before .before .before .before .before .before .sound .ensures) ∙ not-false _ (c .before .before .before .before .before .before .before .before .before .before .if1 .left) in
+    let o = c .before .before .before .before .before .before .before .before .get16 .ensures .0 in
+    let l = c .before .before .before .before .before .before .before .get162 .ensures .0 in
+    let t = c .before .before .before .before .before .before .text-place .ensures .0 in
+    rw (s, lt-ltb (a .k) (a .n) (c .before .before .before .before .before .before .before .before .before .if2 .left)) (
+      c .text-in .ensures ∙ text-in b _ (c .before .rest .ensures ∙ ap (λ (p : ℕ). drop p b) t) (le16 b row) (le16 b (row + 2)),
+      told (ap (λ (x : ℕ). Done (x + c .before .before .before .before .before .before .before .before .get16 .result) (c .before .before .before .before .before .before .before .get162 .result)) t ∙ ap (λ (x : ℕ). Done (textPlace b + x) (c .before .before .before .before .before .before .before .get162 .result)) o ∙ ap (Done (textPlace b + le16 b row)) l) (c .before .before .tell3 .ensures),
     )
 
 pub look-spec : {M : Type 1} → statement M
@@ -102,7 +111,8 @@ look-spec =
     add-get16
     get16-requires-2
     text-place-requires
-    add-t25
+    add-t27
     tell-requires-3
-    text-of-requires
+    rest-requires
+    text-in-requires
     returns-3)
