@@ -1,4 +1,5 @@
 -- What stands in the way, one hand count, entry or line after the other; and which lines are shown.
+--     ..-narrow, narrow-fits   a row that any mode can write
 --     ..-more     the next one, and those after it
 --     ..-none     there is none left
 -- Assumes nothing.
@@ -6,20 +7,28 @@ use Prim.Native.Nat.{ℕ, suc, _+_, _-_, _/_, _%_, _≤_, _<_}
 use native.Mathlib.Omega.{arith}
 use mathlib.Core.Path.{_≡_, refl, sym, ap, _∙_}
 use mathlib.Core.List.{List, [], _∷_, _++_, append-assoc, append-nil}
+use mathlib.Core.Bool.{Bool, true, false}
 use lib.ListN.{length, drop, getD}
-use lib.Dec.{ltb}
-use borrow.Author.Tests.{eq-eqb, ne-eqb}
+use lib.Dec.{eqb, leb, ltb}
+use borrow.Author.Tests.{eq-eqb, ne-eqb, le-leb, lt-leb}
 use Rattle.lists.specs.Pick.{pick}
 use Rattle.jkf.specs.Model.{Noted, Line}
+use Rattle.jkf.specs.Entries.{specialOf}
+use Rattle.jkf.specs.declared.Time.{Time}
+use Rattle.jkf.specs.declared.Time.the-variants.{Untimed, Timed}
+use Rattle.jkf.specs.declared.Origin.{Origin}
+use Rattle.jkf.specs.declared.Origin.the-variants.{Unknown, From}
+use Rattle.jkf.specs.declared.Entry.the-variants.{Slot, Moved, End}
+use Rattle.block.specs.EntryBytes.{timeIn, targetIn, originIn, moveIn, entryIn}
 use Rattle.block.specs.Decode.{run, linesIn, firstEntry, entryCount, lineIn, decode}
 use Rattle.block.proofs.Tabling.{length-run, run-first, run-more, run-next, run-end}
-use Rattle.converter.specs.Entries.{canWrite}
+use Rattle.converter.specs.Entries.{kindWidth, promoteWidth, originWidth, moveWidth, targetOnBoard, timeHasRoom, canWrite}
 use Rattle.converter.specs.declared.Mode.{Mode}
-use Rattle.converter.specs.Said.{shown, saidLines, leftOut}
+use Rattle.converter.specs.Said.{saidMark, saidOrigin, saidTime, saidMove, saidEntry, shown, saidLines, leftOut}
 use Rattle.converter.specs.Show.{onObstacle, handObstacle, entryObstacle, lineObstacle, zeroStart}
 use Rattle.converter.specs.inner.Lines.{notedSaid, lineSaid, ShownLines}
 use Rattle.converter.specs.declared.Obstacle.the-variants.{At, Clear}
-use Rattle.converter.proofs.Saying.{entries-said, lines-said, zero-none, zero-at}
+use Rattle.converter.proofs.Saying.{mark-promotes, entries-said, lines-said, zero-none, zero-at}
 
 -- ---- hands
 
@@ -32,6 +41,55 @@ module _ (hands : List ℕ) (i : ℕ) where
   pub hand-none : 14 ≤ i → handObstacle hands i (14 - i) ≡ Clear
   unfolding handObstacle
   hand-none h = let e : 14 - i ≡ 0 = omega arith in ap (handObstacle hands i) e
+
+-- ---- rows
+
+-- one of two numbers
+pick-most : (t : Bool) {a b n : ℕ} → a ≤ n → b ≤ n → pick t a b ≤ n
+pick-most true h k = h
+pick-most false h k = k
+
+-- a name of one character, and one of two that is not promoted
+pub short-narrow : (kind promote : ℕ) → kind < 10 → kindWidth kind + promoteWidth promote ≤ 4
+short-narrow kind promote h =
+    let e : kindWidth kind ≡ 2 = rw (lt-leb 10 kind h) in
+    let p : promoteWidth promote ≤ 2 = pick-most (eqb promote 2) (omega arith) (omega arith) in
+    omega (arith, e, p)
+
+pub bare-narrow : (kind promote : ℕ) → (promote ≡ 2 → ⊥) → kindWidth kind + promoteWidth promote ≤ 4
+bare-narrow kind promote n =
+    let e : promoteWidth promote ≡ 0 = rw (ne-eqb promote 2 n) in
+    let k : kindWidth kind ≤ 4 = pick-most (leb 10 kind) (pick-most (leb kind 12) (omega arith) (omega arith)) (omega arith) in
+    omega (arith, e, k)
+
+origin-most : (o : Origin) → originWidth o ≤ 4
+origin-most Unknown = omega arith
+origin-most (From x y) = omega arith
+
+-- a time has room behind what is 13 wide
+room-behind : (w : ℕ) (t : Time) → w ≤ 13 → timeHasRoom w t ≡ true
+room-behind w Untimed h = refl
+room-behind w (Timed now total) h = le-leb w 13 h
+
+module _ (mode : Mode) (row : List ℕ) (e : targetOnBoard (targetIn row) ≡ true) (h : kindWidth (getD row 2 0) + promoteWidth (getD row 3 0) ≤ 4) where
+  -- so a move on the board with such a name can be written in every mode
+  narrow-move : canWrite (Moved (saidMove mode (moveIn row))) ≡ true
+  unfolding canWrite saidMove moveIn moveWidth
+  narrow-move =
+      let mark = saidMark mode (getD row 3 0) in
+      let from = saidOrigin mode (originIn row) in
+      let p : promoteWidth mark ≡ promoteWidth (getD row 3 0) = ap (λ (t : Bool). pick t 2 0) (mark-promotes mode (getD row 3 0)) in
+      rw e (room-behind (4 + kindWidth (getD row 2 0) + promoteWidth mark + originWidth from) (saidTime mode (timeIn row)) (omega (arith, p, h, origin-most from)))
+
+  -- and what is no move always
+  pub narrow-fits : true ≡ canWrite (saidEntry mode (entryIn row))
+  unfolding canWrite saidEntry entryIn
+  narrow-fits = sym (go (eqb (getD row 0 0) 0) (eqb (getD row 0 0) 2))
+    where
+      go : (t u : Bool) → canWrite (saidEntry mode (pick t Slot (pick u (End (specialOf (getD row 1 0)) (timeIn row)) (Moved (moveIn row))))) ≡ true
+      go true u = refl
+      go false true = refl
+      go false false = narrow-move
 
 -- ---- entries
 

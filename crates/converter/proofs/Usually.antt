@@ -29,7 +29,7 @@ use Rattle.jkf.specs.declared.Origin.the-variants.{Unknown, From}
 use Rattle.jkf.specs.declared.Entry.{Entry}
 use Rattle.jkf.specs.declared.Entry.the-variants.{Moved}
 use Rattle.spell.specs.Words.{sameWord, promotes, declines}
-use Rattle.converter.specs.Entries.{targetText, promoteText, originText, moveText, moveWidth, clockText, timeText, playText, widthOf, entryLine, timePadding, within, targetOnBoard, timeHasRoom, canWrite}
+use Rattle.converter.specs.Entries.{targetText, promoteText, originText, moveText, moveWidth, clockText, timeText, playText, widthOf, entryLine, timePadding, within}
 use Rattle.converter.specs.declared.Mode.{Mode}
 use Rattle.converter.specs.declared.Mode.the-variants.{Plain, Whole, Shared}
 use Rattle.converter.specs.Said.{asDrop, saidMark, saidOrigin, saidTime, saidMove, saidEntry}
@@ -243,22 +243,6 @@ module _ (row : List ℕ) (u : UsualRow row) where
       go : Dec (9 < getD row 2 0) → moveWidth (moveIn row) ≡ 12
       go (yes h) = width-kind h
       go (no h) = let l : getD row 2 0 ≤ 9 = omega arith in width-promoted l (long-is e l)
-
-  -- there is room for a time
-  width-most : moveWidth (moveIn row) ≤ 13
-  width-most = go (isLong row) refl
-    where
-      go : (t : Bool) → isLong row ≡ t → moveWidth (moveIn row) ≤ 13
-      go true e = omega (arith, width-long e)
-      go false e = omega (arith, width-short e)
-
-  -- its target is 同 or a square of the board
-  target-fits : targetOnBoard (targetIn row) ≡ true
-  target-fits = go (ℕ-discrete (getD row 8 0) 23)
-    where
-      go : Dec (getD row 8 0 ≡ 23) → targetOnBoard (targetIn row) ≡ true
-      go (yes e) = rw (same-is e)
-      go (no n) = let s = u .target n in rw (square-is n, within-is (getD row 4 0) (s .file), within-is (getD row 5 0) (s .rank))
 
   -- ---- how long it is
 
@@ -496,15 +480,6 @@ module _ (row : List ℕ) (u : UsualRow row) where
     said-width : moveWidth (saidMove mode (moveIn row)) ≡ moveWidth (moveIn row)
     unfolding moveWidth moveIn saidMove
     said-width = rw (said-origin, mark-promotes mode (getD row 3 0))
-
-    -- there is room for its time
-    time-fits : timeHasRoom (moveWidth (saidMove mode (moveIn row))) (saidTime mode (timeIn row)) ≡ true
-    time-fits = rw (said-time, said-width) (le-leb (moveWidth (moveIn row)) 13 width-most)
-
-    -- so it can be written
-    pub usual-fits : true ≡ canWrite (saidEntry mode (entryIn row))
-    unfolding canWrite saidMove moveIn
-    usual-fits = sym (rw (said-is, target-fits) time-fits)
 
     -- its time is the one of the row
     said-clocks : saidMove mode (moveIn row) .time ≡ Timed (Ms (getD row 10 0) (getD row 11 0)) (Hms (getD row 12 0) (getD row 13 0) (getD row 14 0))

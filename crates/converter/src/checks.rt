@@ -3,19 +3,19 @@ use crate::Mode;
 use crate::Obstacle;
 use crate::kif::move_width;
 use crate::said::said_entry;
-use crate::usuals::is_usual;
 use jkf::Entry;
 use jkf::Move;
 use jkf::Position;
 use jkf::Target;
 use jkf::Time;
 ghost use mathlib.Core.Path.{_≡_};
-ghost use Prim.Native.Nat.{_+_, _<_};
-ghost use lib.ListN.{drop};
-ghost use Rattle.block.specs.EntryBytes.{entryIn};
+ghost use mathlib.Core.Bool.{true};
+ghost use Prim.Native.Nat.{_+_, _≤_, _<_};
+ghost use lib.ListN.{length, drop, getD};
+ghost use Rattle.block.specs.EntryBytes.{targetIn, entryIn};
 ghost use Rattle.block.specs.Decode.{run, decode};
 ghost use Rattle.block.specs.inner.Sounds.{Sound};
-ghost use Rattle.converter.specs.Entries.{within, targetOnBoard, timeHasRoom, canWrite};
+ghost use Rattle.converter.specs.Entries.{kindWidth, promoteWidth, within, targetOnBoard, timeHasRoom, canWrite};
 ghost use Rattle.converter.specs.Said.{saidEntry, saidLines};
 ghost use Rattle.converter.specs.Show.{handObstacle, handsObstacle, entryObstacle, lineObstacle, zeroStart, startObstacle};
 ghost use Rattle.converter.specs.inner.Lines.{notedSaid, ShownLines};
@@ -98,11 +98,41 @@ fn can_write(e: Entry) -> bool
     }
 }
 
+// 同, or a square of the board.
+fn on_board(row: &[u8]) -> bool
+    requires { ⌜ 9 ≤ length (now row) ⌝ }
+    ensures { λ r. ⌜ r ≡ targetOnBoard (targetIn (now (row .entry))) ⌝ }
+{
+    if row[8] / 2 % 2 == 1 {
+        return true;
+    }
+    if !within(row[4]) {
+        return false;
+    }
+    within(row[5])
+}
+
+// On the board, and a name of one character, or one of two that is not promoted again: any mode can write it, with any time.
+fn is_narrow(row: &[u8]) -> bool
+    ensures { λ r. ⌜ (r ≡ true → (targetOnBoard (targetIn (now (row .entry))) ≡ true) × (kindWidth (getD (now (row .entry)) 2 0) + promoteWidth (getD (now (row .entry)) 3 0) ≤ 4)) ⌝ }
+{
+    if row.len() < 9 {
+        return false;
+    }
+    if !on_board(row) {
+        return false;
+    }
+    if row[2] < 10 {
+        return true;
+    }
+    row[3] != 2
+}
+
 // Whether a row's entry can be written.
 fn row_fits(row: &[u8], mode: Mode) -> bool
     ensures { λ r. ⌜ r ≡ canWrite (saidEntry mode (entryIn (now (row .entry)))) ⌝ }
 {
-    if is_usual(row, mode) {
+    if is_narrow(row) {
         return true;
     }
     can_write(said_entry(mode, block::entry_in(row)))
@@ -113,9 +143,10 @@ fn entry_obstacle(b: &[u8], mode: Mode, line: usize, first: usize, count: usize)
     requires { ⌜ first + count < 65536 ⌝ }
     ensures { λ r. ⌜ r ≡ entryObstacle line 0 (run (notedSaid mode (now (b .entry))) first count) ⌝ }
 {
+    let rows = block::row_of(b, 0);
     let mut i = 0;
     while i < count {
-        if !row_fits(block::row_of(b, (first + i) as u16), mode) {
+        if !row_fits(lent::rest(rows, 20 * (first + i)), mode) {
             return Obstacle::At(line as u64, i as u64);
         }
         i += 1;

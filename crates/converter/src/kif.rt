@@ -12,14 +12,14 @@ use jkf::Time;
 ghost use mathlib.Core.Path.{_≡_};
 ghost use mathlib.Core.List.{[], _∷_, _++_};
 ghost use Prim.Native.Nat.{_+_, _-_, _≤_, _<_};
-ghost use lib.ListN.{length};
+ghost use lib.ListN.{length, drop};
 ghost use Rattle.lent.specs.Bytes.{Wrote};
 ghost use Rattle.lent.specs.Numbers.{decimal, padded};
 ghost use Rattle.block.specs.EntryBytes.{entryIn};
 ghost use Rattle.jkf.specs.Entries.{specialOf};
 ghost use Rattle.block.specs.Encode.{concat};
 ghost use Rattle.jkf.specs.Trees.{notBefore};
-ghost use Rattle.block.specs.Decode.{run, movesIn, linesIn, parentOf, commentOf, notedIn, lineIn, decode};
+ghost use Rattle.block.specs.Decode.{run, movesIn, linesIn, movePlace, parentOf, commentOf, notedIn, lineIn, decode};
 ghost use Rattle.block.specs.inner.Sounds.{Sound};
 ghost use Rattle.converter.specs.Entries.{targetText, promoteText, originText, moveText, kindWidth, promoteWidth, originWidth, moveWidth, specialWidth, figureText, clockText, timePadding, timeText, playText, widthOf, entryLine, starText, remarkText, remarksText, notedText, entriesText};
 ghost use Rattle.converter.specs.Said.{saidEntry, saidLines};
@@ -310,12 +310,12 @@ fn put_comments(out: &mut [u8], b: &[u8], k: usize) -> usize
     )
 }
 
-// Entry k with its comments.
-fn put_noted(out: &mut [u8], b: &[u8], mode: Mode, ply: usize, k: usize) -> usize
-    requires { ⌜ Sound (now b) × (k < movesIn (now b)) × (length (notedText ply (notedSaid mode (now b) k)) ≤ length (now out)) ⌝ }
+// Entry k with its comments; the rows of the entries are given.
+fn put_noted(out: &mut [u8], b: &[u8], rows: &[u8], mode: Mode, ply: usize, k: usize) -> usize
+    requires { ⌜ Sound (now b) × (k < movesIn (now b)) × (length (notedText ply (notedSaid mode (now b) k)) ≤ length (now out)) × (now rows ≡ drop (movePlace (now b) 0) (now b)) ⌝ }
     ensures { λ r. ⌜ Wrote (notedText ply (notedSaid mode (now (b .entry)) k)) (now (out .entry)) (now (out .exit)) r ⌝ }
 {
-    let row = block::row_of(b, k as u16);
+    let row = lent::rest(rows, 20 * k);
     let n = put_row(out, ply, row, mode);
     let count = lent::get16(row, 18);
     if count == 0 {
@@ -336,10 +336,11 @@ fn put_entries(
     requires { ⌜ Sound (now b) × (first + count ≤ movesIn (now b)) × (ply < 65536) × (length (entriesText ply (run (notedSaid mode (now b)) first count)) ≤ length (now out)) ⌝ }
     ensures { λ r. ⌜ Wrote (entriesText ply (run (notedSaid mode (now (b .entry))) first count)) (now (out .entry)) (now (out .exit)) r ⌝ }
 {
+    let rows = block::row_of(b, 0);
     let mut at = 0;
     let mut i = 0;
     while i < count {
-        at += put_noted(&mut out[at..], b, mode, ply + i, first + i);
+        at += put_noted(&mut out[at..], b, rows, mode, ply + i, first + i);
         i += 1;
     }
     at

@@ -15,14 +15,14 @@ use jkf::Target;
 use jkf::Time;
 ghost use mathlib.Core.Path.{_≡_};
 ghost use Prim.Native.Nat.{ℕ, _+_, _*_, _-_, _≤_, _<_};
-ghost use lib.ListN.{length};
+ghost use lib.ListN.{length, drop};
 ghost use Rattle.lent.specs.Numbers.{padded};
 ghost use Rattle.spell.specs.Tables.{moveKinds, numerals, files};
 ghost use Rattle.spell.specs.Spell.{spelled};
 ghost use Rattle.block.specs.EntryBytes.{entryIn};
 ghost use Rattle.jkf.specs.Entries.{specialOf};
 ghost use Rattle.block.specs.Encode.{concat};
-ghost use Rattle.block.specs.Decode.{run, movesIn, linesIn, entryCount, commentOf, notedIn, decode};
+ghost use Rattle.block.specs.Decode.{run, movesIn, linesIn, movePlace, entryCount, commentOf, notedIn, decode};
 ghost use Rattle.block.specs.inner.Sounds.{Sound};
 ghost use Rattle.converter.specs.Headers.{headersText};
 ghost use Rattle.converter.specs.inner.Places.{storedHeaders};
@@ -204,12 +204,12 @@ fn comments_length(b: &[u8], k: usize) -> usize
     remarks_length(b, block::first_comment(b, i), block::comment_count(b, i))
 }
 
-// Entry k with its comments.
-fn noted_length(b: &[u8], mode: Mode, ply: usize, k: usize) -> usize
-    requires { ⌜ Sound (now b) × (k < movesIn (now b)) × (ply < 131072) ⌝ }
+// Entry k with its comments; the rows of the entries are given.
+fn noted_length(b: &[u8], rows: &[u8], mode: Mode, ply: usize, k: usize) -> usize
+    requires { ⌜ Sound (now b) × (k < movesIn (now b)) × (ply < 131072) × (now rows ≡ drop (movePlace (now b) 0) (now b)) ⌝ }
     ensures { λ r. ⌜ (r ≡ length (notedText ply (notedSaid mode (now (b .entry)) k))) × (r ≤ 4295032904) ⌝ }
 {
-    let row = block::row_of(b, k as u16);
+    let row = lent::rest(rows, 20 * k);
     let n = row_length(ply, row, mode);
     let count = lent::get16(row, 18);
     if count == 0 {
@@ -223,10 +223,11 @@ fn entries_length(b: &[u8], mode: Mode, ply: usize, first: usize, count: usize) 
     requires { ⌜ Sound (now b) × (first + count ≤ movesIn (now b)) × (ply < 65536) ⌝ }
     ensures { λ r. ⌜ (r ≡ length (entriesText ply (run (notedSaid mode (now (b .entry))) first count))) × (r ≤ 4295032904 * count) ⌝ }
 {
+    let rows = block::row_of(b, 0);
     let mut n = 0;
     let mut i = 0;
     while i < count {
-        n += noted_length(b, mode, ply + i, first + i);
+        n += noted_length(b, rows, mode, ply + i, first + i);
         i += 1;
     }
     n

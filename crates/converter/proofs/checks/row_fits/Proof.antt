@@ -1,20 +1,21 @@
--- An entry of the usual form can be written (`usual-fits`); any other is asked.
+-- A row on the board with a narrow name can be written (`narrow-fits`); any other is asked.
 -- Assumes nothing.
 use denote.Ref.{now}
 use Rattle.converter.specs.Entries.{canWrite}
 use Rattle.converter.specs.Said.{saidEntry}
-use Rattle.converter.proofs.Usually.{usual-fits}
+use Rattle.converter.proofs.Blocked.{narrow-fits}
 use mathlib.Core.Path.{_∙_, ap}
 use Rattle.converter.proofs.checks.row_fits.Statement.{statement}
 use Rattle.converter.proofs.checks.row_fits.Tie as tie
 
-is-usual-requires : tie.Need-is-usual-requires
-is-usual-requires c κs = tt
+is-narrow-requires : tie.Need-is-narrow-requires
+is-narrow-requires c κs = tt
 
 returns : tie.Need-returns
 returns c =
-    let (u, v) = c .before .is-usual .ensures (c .if1 .taken) in
-    usual-fits (now (c .before .before .before .args .row)) u v
+    let a = c .before .before .before .args in
+    let (t, n) = c .before .is-narrow .ensures (c .if1 .taken) in
+    narrow-fits (a .mode) (now (a .row)) t n
 
 entry-in-requires : tie.Need-entry-in-requires
 entry-in-requires c κs = tt
@@ -31,4 +32,4 @@ returns-2 c = c .can-write .ensures ∙ ap canWrite (c .before .said-entry .ensu
 pub row-fits-spec : {M : Type 1} → statement M
 row-fits-spec =
     tie.close
-    (tie.spec is-usual-requires returns entry-in-requires said-entry-requires can-write-requires returns-2)
+    (tie.spec is-narrow-requires returns entry-in-requires said-entry-requires can-write-requires returns-2)

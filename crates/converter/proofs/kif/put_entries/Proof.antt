@@ -18,14 +18,17 @@ use Rattle.converter.proofs.kif.put_entries.Statement.{statement}
 use Rattle.converter.proofs.kif.put_entries.Tie as tie
 
 abbrev Inv-loop : tie.InvT-loop
-Inv-loop out₀ b mode ply first count at₀ i₀ out at i = (i ≤ count) × Wrote (entriesText ply (run (notedSaid mode b) first i)) out₀ out at
+Inv-loop out₀ b mode ply first count rows at₀ i₀ out at i = (i ≤ count) × Wrote (entriesText ply (run (notedSaid mode b) first i)) out₀ out at
 
 abbrev μ-loop : tie.MeasureT-loop
-μ-loop out₀ b mode ply first count at₀ i₀ out at i = count - i
+μ-loop out₀ b mode ply first count rows at₀ i₀ out at i = count - i
+
+row-of-requires : tie.Need-row-of-requires Inv-loop μ-loop
+row-of-requires c κs = tt
 
 loop-holds : tie.Need-loop-holds Inv-loop μ-loop
 loop-holds c =
-    let a = c .before .before .args in
+    let a = c .before .before .before .args in
     (zero-le, as-text (sym (entries-none (a .ply) (notedSaid (a .mode) (now (a .b))) (a .first))) (nothing _))
 
 sub-put-noted : tie.Need-sub-put-noted Inv-loop μ-loop
@@ -45,13 +48,13 @@ add-put-noted-2 c = search needs
 
 put-noted-requires : tie.Need-put-noted-requires Inv-loop μ-loop
 put-noted-requires c κs =
-    let a = c .before .before .before .before .before .args in
+    let a = c .before .before .before .before .before .before .args in
     let l = c .before .before .loop in
     let h = entries-front (a .ply) (notedSaid (a .mode) (now (a .b))) (a .first) (l .i) (a .count) (omega arith) in
-    (c .before .before .before .before .before .pre .0, omega arith, room-left (length (notedText (a .ply + l .i) (notedSaid (a .mode) (now (a .b)) (a .first + l .i)))) (l .inv .1) (omega (arith, l .inv .1 .count, c .before .before .before .before .before .pre .3)))
+    (c .before .before .before .before .before .before .pre .0, omega arith, room-left (length (notedText (a .ply + l .i) (notedSaid (a .mode) (now (a .b)) (a .first + l .i)))) (l .inv .1) (omega (arith, l .inv .1 .count, c .before .before .before .before .before .before .pre .3)), c .before .before .before .row-of .ensures)
 
 add-at : tie.Need-add-at Inv-loop μ-loop
-add-at c = sum-fits (then (c .before .before .before .before .before .loop .inv .1) (c .before .before .put-noted .ensures)) (c .before .before .before .before .before .before .before .before .good .0 .0)
+add-at c = sum-fits (then (c .before .before .before .before .before .loop .inv .1) (c .before .before .put-noted .ensures)) (c .before .before .before .before .before .before .before .before .before .good .0 .0)
 
 add-i : tie.Need-add-i Inv-loop μ-loop
 add-i c = search needs
@@ -61,7 +64,7 @@ loop-less c = search needs
 
 loop-again : tie.Need-loop-again Inv-loop μ-loop
 loop-again c =
-    let a = c .before .before .before .before .before .before .before .before .args in
+    let a = c .before .before .before .before .before .before .before .before .before .args in
     let l = c .before .before .before .before .before .loop in
     (omega arith, entries-step (a .ply) (notedSaid (a .mode) (now (a .b))) (a .first) (l .i) (l .inv .1) (c .before .before .put-noted .ensures))
 
@@ -71,7 +74,7 @@ same-length c =
 
 returns : tie.Need-returns Inv-loop μ-loop
 returns c =
-    let e : c .before .loop .i ≡ c .before .before .before .before .args .count = omega arith in
+    let e : c .before .loop .i ≡ c .before .before .before .before .before .args .count = omega arith in
     rw e at (c .before .loop .inv .1)
 
 pub put-entries-spec : {M : Type 1} → statement M
@@ -80,6 +83,7 @@ put-entries-spec =
     (tie.spec
     Inv-loop
     μ-loop
+    row-of-requires
     loop-holds
     sub-put-noted
     part-put-noted-start

@@ -1,24 +1,32 @@
 -- An entry is its line and the comments that its row says, which lie among those of the block.
 -- Assumes nothing.
+use Prim.Native.Nat.{_*_}
 use native.Mathlib.Omega.{arith}
-use mathlib.Core.Path.{ap, _∙_}
-use lib.ListN.{length, length-append}
+use mathlib.Core.Path.{_≡_, ap, _∙_}
+use lib.ListN.{length, drop, length-append}
 use denote.Ref.{now}
 use Rattle.block.specs.EntryBytes.{entryIn}
-use Rattle.block.specs.Decode.{run, commentOf}
+use Rattle.block.specs.Decode.{run, movePlace, commentOf}
+use Rattle.block.proofs.Cuts.{row-in}
 use Rattle.converter.specs.Entries.{entryLine, remarksText}
 use Rattle.converter.specs.Said.{saidEntry}
 use Rattle.converter.proofs.Playing.{row-number, noted-text, noted-bare}
 use borrow.Author.Needs.{needs}
-use Rattle.block.proofs.Within.{comments-within, comments-small}
+use Rattle.block.proofs.Within.{moves-small, comments-within, comments-small}
 use Rattle.converter.proofs.lengths.noted_length.Statement.{statement}
 use Rattle.converter.proofs.lengths.noted_length.Tie as tie
 
-cast-row-of : tie.Need-cast-row-of
-cast-row-of c = search needs
+-- the row
+row-is : (c : tie.After-rest) → now (c .rest .result) ≡ drop (movePlace (now (c .before .before .before .args .b)) (c .before .before .before .args .k)) (now (c .before .before .before .args .b))
+row-is c =
+    let s = c .before .before .before in
+    c .rest .ensures ∙ ap (drop (20 * s .args .k)) (s .pre .3) ∙ row-in (now (s .args .b)) (s .args .k)
 
-row-of-requires : tie.Need-row-of-requires
-row-of-requires c κs = tt
+mul-rest : tie.Need-mul-rest
+mul-rest c = omega (arith, moves-small (now (c .before .before .args .b)) (c .before .before .pre .0))
+
+rest-requires : tie.Need-rest-requires
+rest-requires c κs = tt
 
 row-length-requires : tie.Need-row-length-requires
 row-length-requires c κs = search needs
@@ -28,9 +36,9 @@ get16-requires c κs = tt
 
 returns : tie.Need-returns
 returns c =
-    let s = c .before .before .before .before .before in
+    let s = c .before .before .before .before .before .before in
     let b = now (s .args .b) in
-    let r = c .before .before .before .row-of .ensures in
+    let r = row-is (c .before .before .before) in
     let e = noted-bare (s .args .mode) b (s .args .ply) (s .args .k) r (row-number b (s .args .k) 18 r (c .before .get16 .ensures .0)) (c .if1 .taken) in
     (c .before .before .row-length .ensures .0 ∙ ap length e, omega arith)
 
@@ -39,10 +47,10 @@ get16-requires-2 c κs = tt
 
 remarks-length-requires : tie.Need-remarks-length-requires
 remarks-length-requires c κs =
-    let s = c .before .before .before .before .before .before in
+    let s = c .before .before .before .before .before .before .before in
     let b = now (s .args .b) in
     let k = s .args .k in
-    let r = c .before .before .before .before .row-of .ensures in
+    let r = row-is (c .before .before .before .before) in
     let e = row-number b k 16 r (c .get162 .ensures .0) in
     let f = row-number b k 18 r (c .before .before .get16 .ensures .0) in
     omega (arith, comments-within b (s .pre .0) k (s .pre .1), comments-small b (s .pre .0))
@@ -52,14 +60,14 @@ add-result c = search needs
 
 returns-2 : tie.Need-returns-2
 returns-2 c =
-    let s = c .before .before .before .before .before .before .before in
+    let s = c .before .before .before .before .before .before .before .before in
     let b = now (s .args .b) in
     let k = s .args .k in
     let ply = s .args .ply in
-    let r = c .before .before .before .before .before .row-of .ensures in
+    let r = row-is (c .before .before .before .before .before) in
     let i = c .before .get162 in
     let n = c .before .before .before .get16 in
-    let t = entryLine ply (saidEntry (s .args .mode) (entryIn (now (c .before .before .before .before .before .row-of .result)))) in
+    let t = entryLine ply (saidEntry (s .args .mode) (entryIn (now (c .before .before .before .before .before .rest .result)))) in
     let e = ap length (noted-text (s .args .mode) b ply k r (row-number b k 16 r (i .ensures .0)) (row-number b k 18 r (n .ensures .0))) in
     let l = length-append t (remarksText (run (commentOf b) (i .result) (n .result))) in
     (omega (arith, c .remarks-length .ensures .0, c .before .before .before .before .row-length .ensures .0), omega (arith, n .ensures .1, c .remarks-length .ensures .1, c .before .before .before .before .row-length .ensures .1))
@@ -68,8 +76,8 @@ pub noted-length-spec : {M : Type 1} → statement M
 noted-length-spec =
     tie.close
     (tie.spec
-    cast-row-of
-    row-of-requires
+    mul-rest
+    rest-requires
     row-length-requires
     get16-requires
     returns
