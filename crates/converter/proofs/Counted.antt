@@ -93,7 +93,7 @@ module _ (mode : Mode) (b : List ℕ) where
   pub main-parts : Sound b
       → length (mainText (lineSaid mode b 0)) ≡ length (remarksText (notedIn b 0 .comments)) + length (entriesText 1 (run (notedSaid mode b) 1 (entryCount b 0 - 1)))
   main-parts s =
-      sym (ap length (main-text mode b s refl)) ∙ length-append (remarksText (notedIn b 0 .comments)) (entriesText 1 (run (notedSaid mode b) 1 (entryCount b 0 - 1)))
+      sym (ap length (main-text mode b s refl refl refl)) ∙ length-append (remarksText (notedIn b 0 .comments)) (entriesText 1 (run (notedSaid mode b) 1 (entryCount b 0 - 1)))
 
 -- one line more
 pub entries-after : (b : List ℕ) (k : ℕ) → entriesBefore b (k + 1) ≡ entriesBefore b k + entryCount b k

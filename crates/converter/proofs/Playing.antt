@@ -52,11 +52,12 @@ module _ (mode : Mode) (b : List ℕ) where
       ∙ ap (λ (es : List Noted). variationHead (startOf b k) ++ entriesText (startOf b k) es) (sym (entries-said mode b k))
 
   -- line 0
-  pub main-text : Sound b → {count : ℕ} → count ≡ entryCount b 0
-      → remarksText (notedIn b 0 .comments) ++ entriesText 1 (run (notedSaid mode b) 1 (count - 1)) ≡ mainText (lineSaid mode b 0)
+  pub main-text : Sound b → {first many count : ℕ} → first ≡ firstComment b 0 → many ≡ commentCount b 0 → count ≡ entryCount b 0
+      → remarksText (run (commentOf b) first many) ++ entriesText 1 (run (notedSaid mode b) 1 (count - 1)) ≡ mainText (lineSaid mode b 0)
   unfolding mainText saidNoted
-  main-text s e =
-      ap (λ (n : ℕ). remarksText (notedIn b 0 .comments) ++ entriesText 1 (run (notedSaid mode b) 1 (n - 1))) e
+  main-text s {count = count} f m e =
+      ap₂ (λ (i n : ℕ). remarksText (run (commentOf b) i n) ++ entriesText 1 (run (notedSaid mode b) 1 (count - 1))) f m
+      ∙ ap (λ (n : ℕ). remarksText (notedIn b 0 .comments) ++ entriesText 1 (run (notedSaid mode b) 1 (n - 1))) e
       ∙ sym (ap (λ (es : List Noted). remarksText (slotComments es) ++ entriesText 1 (drop 1 es)) (slot-first mode b s))
 
   -- all lines that are shown

@@ -15,7 +15,7 @@ ghost use lib.ListN.{length, drop, getD};
 ghost use Rattle.block.specs.EntryBytes.{targetIn, entryIn};
 ghost use Rattle.block.specs.Decode.{run, decode};
 ghost use Rattle.block.specs.inner.Sounds.{Sound};
-ghost use Rattle.converter.specs.Entries.{kindWidth, promoteWidth, within, targetOnBoard, timeHasRoom, canWrite};
+ghost use Rattle.converter.specs.Entries.{kindWidth, promoteWidth, within, targetOnBoard, canWrite};
 ghost use Rattle.converter.specs.Said.{saidEntry, saidLines};
 ghost use Rattle.converter.specs.Show.{handObstacle, handsObstacle, entryObstacle, lineObstacle, zeroStart, startObstacle};
 ghost use Rattle.converter.specs.inner.Lines.{notedSaid, ShownLines};
@@ -68,33 +68,17 @@ fn target_fits(to: Target) -> bool
     }
 }
 
-fn time_fits(width: usize, time: Time) -> bool
-    ensures { λ r. ⌜ r ≡ timeHasRoom width time ⌝ }
-{
-    match time {
-        Time::Untimed => true,
-        Time::Timed(_, _) => width <= 13,
-    }
-}
-
 fn move_fits(m: Move) -> bool
     ensures { λ r. ⌜ r ≡ canWrite (Entry.Moved m) ⌝ }
 {
     let to = m.to;
     let time = m.time;
-    if target_fits(to) {
-        return time_fits(move_width(m), time);
+    if !target_fits(to) {
+        return false;
     }
-    false
-}
-
-fn can_write(e: Entry) -> bool
-    ensures { λ r. ⌜ r ≡ canWrite e ⌝ }
-{
-    match e {
-        Entry::Slot => true,
-        Entry::Moved(m) => move_fits(m),
-        Entry::End(_, _) => true,
+    match time {
+        Time::Untimed => true,
+        Time::Timed(_, _) => move_width(m) <= 13,
     }
 }
 
@@ -135,7 +119,11 @@ fn row_fits(row: &[u8], mode: Mode) -> bool
     if is_narrow(row) {
         return true;
     }
-    can_write(said_entry(mode, block::entry_in(row)))
+    match said_entry(mode, block::entry_in(row)) {
+        Entry::Slot => true,
+        Entry::Moved(m) => move_fits(m),
+        Entry::End(_, _) => true,
+    }
 }
 
 // The first of a line's entries that cannot be written.

@@ -19,7 +19,7 @@ ghost use Rattle.block.specs.EntryBytes.{entryIn};
 ghost use Rattle.jkf.specs.Entries.{specialOf};
 ghost use Rattle.block.specs.Encode.{concat};
 ghost use Rattle.jkf.specs.Trees.{notBefore};
-ghost use Rattle.block.specs.Decode.{run, movesIn, linesIn, movePlace, parentOf, commentOf, notedIn, lineIn, decode};
+ghost use Rattle.block.specs.Decode.{run, movesIn, linesIn, movePlace, parentOf, commentOf, lineIn, decode};
 ghost use Rattle.block.specs.inner.Sounds.{Sound};
 ghost use Rattle.converter.specs.Entries.{targetText, promoteText, originText, moveText, kindWidth, promoteWidth, originWidth, moveWidth, specialWidth, figureText, clockText, timePadding, timeText, playText, widthOf, entryLine, starText, remarkText, remarksText, notedText, entriesText};
 ghost use Rattle.converter.specs.Said.{saidEntry, saidLines};
@@ -296,20 +296,6 @@ fn put_remarks(out: &mut [u8], b: &[u8], first: usize, count: usize) -> usize
     at
 }
 
-// The comments of entry k.
-fn put_comments(out: &mut [u8], b: &[u8], k: usize) -> usize
-    requires { ⌜ Sound (now b) × (k < movesIn (now b)) × (length (remarksText (notedIn (now b) k .comments)) ≤ length (now out)) ⌝ }
-    ensures { λ r. ⌜ Wrote (remarksText (notedIn (now (b .entry)) k .comments)) (now (out .entry)) (now (out .exit)) r ⌝ }
-{
-    let i = k as u16;
-    put_remarks(
-        out,
-        b,
-        block::first_comment(b, i),
-        block::comment_count(b, i),
-    )
-}
-
 // Entry k with its comments; the rows of the entries are given.
 fn put_noted(out: &mut [u8], b: &[u8], rows: &[u8], mode: Mode, ply: usize, k: usize) -> usize
     requires { ⌜ Sound (now b) × (k < movesIn (now b)) × (length (notedText ply (notedSaid mode (now b) k)) ≤ length (now out)) × (now rows ≡ drop (movePlace (now b) 0) (now b)) ⌝ }
@@ -415,7 +401,12 @@ fn put_main(out: &mut [u8], b: &[u8], mode: Mode) -> usize
     requires { ⌜ Sound (now b) × (length (mainText (lineSaid mode (now b) 0)) ≤ length (now out)) ⌝ }
     ensures { λ r. ⌜ Wrote (mainText (lineSaid mode (now (b .entry)) 0)) (now (out .entry)) (now (out .exit)) r ⌝ }
 {
-    let n = put_comments(out, b, 0);
+    let n = put_remarks(
+        out,
+        b,
+        block::first_comment(b, 0),
+        block::comment_count(b, 0),
+    );
     n + put_entries(&mut out[n..], b, mode, 1, 1, block::entry_count(b, 0) - 1)
 }
 

@@ -22,7 +22,7 @@ ghost use Rattle.spell.specs.Spell.{spelled};
 ghost use Rattle.block.specs.EntryBytes.{entryIn};
 ghost use Rattle.jkf.specs.Entries.{specialOf};
 ghost use Rattle.block.specs.Encode.{concat};
-ghost use Rattle.block.specs.Decode.{run, movesIn, linesIn, movePlace, entryCount, commentOf, notedIn, decode};
+ghost use Rattle.block.specs.Decode.{run, movesIn, linesIn, movePlace, entryCount, commentOf, decode};
 ghost use Rattle.block.specs.inner.Sounds.{Sound};
 ghost use Rattle.converter.specs.Headers.{headersText};
 ghost use Rattle.converter.specs.inner.Places.{storedHeaders};
@@ -195,15 +195,6 @@ fn remarks_length(b: &[u8], first: usize, count: usize) -> usize
     n
 }
 
-// The comments of entry k.
-fn comments_length(b: &[u8], k: usize) -> usize
-    requires { ⌜ Sound (now b) × (k < movesIn (now b)) ⌝ }
-    ensures { λ r. ⌜ (r ≡ length (remarksText (notedIn (now (b .entry)) k .comments))) × (r ≤ 4295032832) ⌝ }
-{
-    let i = k as u16;
-    remarks_length(b, block::first_comment(b, i), block::comment_count(b, i))
-}
-
 // Entry k with its comments; the rows of the entries are given.
 fn noted_length(b: &[u8], rows: &[u8], mode: Mode, ply: usize, k: usize) -> usize
     requires { ⌜ Sound (now b) × (k < movesIn (now b)) × (ply < 131072) × (now rows ≡ drop (movePlace (now b) 0) (now b)) ⌝ }
@@ -270,7 +261,8 @@ fn main_length(b: &[u8], mode: Mode) -> usize
     requires { ⌜ Sound (now b) ⌝ }
     ensures { λ r. ⌜ (r ≡ length (mainText (lineSaid mode (now (b .entry)) 0))) × (r ≤ 300000000000000) ⌝ }
 {
-    comments_length(b, 0) + entries_length(b, mode, 1, 1, block::entry_count(b, 0) - 1)
+    remarks_length(b, block::first_comment(b, 0), block::comment_count(b, 0))
+        + entries_length(b, mode, 1, 1, block::entry_count(b, 0) - 1)
 }
 
 // The position, written to be counted.

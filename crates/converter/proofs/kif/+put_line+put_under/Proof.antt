@@ -3,6 +3,7 @@
 -- With n lines unwritten the measure is 2n for the line writer and 2n + 1 for the sibling writer.
 -- Assumes nothing.
 use Prim.Native.Nat.{ℕ, _+_, _*_, _-_, _<_}
+use native.Mathlib.Nat.{le-refl}
 use native.Mathlib.Omega.{arith}
 use mathlib.Core.Path.{sym, ap, _∙_}
 use denote.Ref.{now}
@@ -14,7 +15,7 @@ use Rattle.block.specs.Decode.{run, startOf, entryCount, lineIn}
 use Rattle.block.specs.Encode.{concat}
 use Rattle.block.proofs.Tabling.{concat-none}
 use Rattle.block.proofs.Hanging.{sound-branched}
-use Rattle.lent.proofs.Writes.{as-text, nothing, then}
+use Rattle.lent.proofs.Writes.{as-text, nothing, wrote-length, within, then}
 use Rattle.lent.proofs.Room.{room-after, room-as, room-front}
 use Rattle.converter.specs.Show.{variationText}
 use Rattle.converter.specs.inner.Lines.{lineSaid}
@@ -71,7 +72,7 @@ put-line-sub-put-under : (t : ℕ) → put-line-lts.Need-sub-put-under (
   put-under-below t,
   put-under.Post,
 ) (put-line-at t) put-line.Post
-put-line-sub-put-under t c = search needs
+put-line-sub-put-under t c = within (c .before .before .put-variation .ensures)
 
 put-line-part-put-under-start : (t : ℕ) → put-line-lts.Need-part-put-under-start (
   put-variation-reads.Asked,
@@ -79,7 +80,7 @@ put-line-part-put-under-start : (t : ℕ) → put-line-lts.Need-part-put-under-s
   put-under-below t,
   put-under.Post,
 ) (put-line-at t) put-line.Post
-put-line-part-put-under-start t c = search needs
+put-line-part-put-under-start t c = put-line-sub-put-under t c
 
 put-line-part-put-under-end : (t : ℕ) → put-line-lts.Need-part-put-under-end (
   put-variation-reads.Asked,
@@ -87,7 +88,7 @@ put-line-part-put-under-end : (t : ℕ) → put-line-lts.Need-part-put-under-end
   put-under-below t,
   put-under.Post,
 ) (put-line-at t) put-line.Post
-put-line-part-put-under-end t c = search needs
+put-line-part-put-under-end t c = le-refl _
 
 put-line-add-put-under : (t : ℕ) → put-line-lts.Need-add-put-under (
   put-variation-reads.Asked,
@@ -147,14 +148,6 @@ put-line-add-t15 t c =
     let some = c .before .before .before .before .before .before .before .before .before .before .before .before .pre .1 .2 in
     record { fits = omega (arith, before-most (lineIn (now (a .b))) (a .k) (a .n - 1) (a .k + 1), c .before .before .before .before .before .before .before .before .before .before .before .before .fits .n) }
 
-put-line-same-length : (t : ℕ) → put-line-lts.Need-same-length (
-  put-variation-reads.Asked,
-  put-variation-reads.Learnt,
-  put-under-below t,
-  put-under.Post,
-) (put-line-at t) put-line.Post
-put-line-same-length t c = search needs
-
 put-line-returns : (t : ℕ) → put-line-lts.Need-returns (
   put-variation-reads.Asked,
   put-variation-reads.Learnt,
@@ -167,6 +160,14 @@ put-line-returns t c =
       ap (λ (m : ℕ). 1 + m) (u .ensures .0),
       as-text (sym (concat-next variationText (lineSaid (a .mode) (now (a .b))) (a .k) (u .result .lines))) (then (c .before .before .before .before .before .before .before .before .put-variation .ensures) (u .ensures .1)),
     )
+
+put-line-same-length : (t : ℕ) → put-line-lts.Need-same-length (
+  put-variation-reads.Asked,
+  put-variation-reads.Learnt,
+  put-under-below t,
+  put-under.Post,
+) (put-line-at t) put-line.Post
+put-line-same-length t c = wrote-length (put-line-returns t c .1)
 
 put-under-returns : (t : ℕ) → put-under-lts.Need-returns (
   parent-of-reads.Asked,
@@ -247,7 +248,7 @@ put-under-sub-put-under : (t : ℕ) → put-under-lts.Need-sub-put-under (
   put-under-below t,
   put-under.Post,
 ) (put-under-at t) put-under.Post
-put-under-sub-put-under t c = search needs
+put-under-sub-put-under t c = within (c .before .before .put-line .ensures .1)
 
 put-under-part-put-under-start : (t : ℕ) → put-under-lts.Need-part-put-under-start (
   parent-of-reads.Asked,
@@ -257,7 +258,7 @@ put-under-part-put-under-start : (t : ℕ) → put-under-lts.Need-part-put-under
   put-under-below t,
   put-under.Post,
 ) (put-under-at t) put-under.Post
-put-under-part-put-under-start t c = search needs
+put-under-part-put-under-start t c = put-under-sub-put-under t c
 
 put-under-part-put-under-end : (t : ℕ) → put-under-lts.Need-part-put-under-end (
   parent-of-reads.Asked,
@@ -267,7 +268,7 @@ put-under-part-put-under-end : (t : ℕ) → put-under-lts.Need-part-put-under-e
   put-under-below t,
   put-under.Post,
 ) (put-under-at t) put-under.Post
-put-under-part-put-under-end t c = search needs
+put-under-part-put-under-end t c = le-refl _
 
 put-under-add-put-under : (t : ℕ) → put-under-lts.Need-add-put-under (
   parent-of-reads.Asked,
@@ -357,16 +358,6 @@ put-under-add-t19 t c =
     let u = c .before .before .before .before .before .put-under .ensures .0 in
     record { fits = omega (arith, before-most (lineIn b) (a .p) (a .n - r) (a .k + r)) }
 
-put-under-same-length : (t : ℕ) → put-under-lts.Need-same-length (
-  parent-of-reads.Asked,
-  parent-of-reads.Learnt,
-  put-line-below t,
-  put-line.Post,
-  put-under-below t,
-  put-under.Post,
-) (put-under-at t) put-under.Post
-put-under-same-length t c = search needs
-
 put-under-returns-3 : (t : ℕ) → put-under-lts.Need-returns-3 (
   parent-of-reads.Asked,
   parent-of-reads.Learnt,
@@ -387,6 +378,16 @@ put-under-returns-3 t c =
       ap (λ (m : ℕ). l .result .lines + m) (u .ensures .0) ∙ sym (under-step (lineIn b) (startOf b) (entryCount b) (sound-branched b (p .0)) (a .k) (a .n) (l .result .lines) (p .1) some (p .2) (l .ensures .0) (a .p) (omega (arith, c .before .before .before .before .before .before .before .before .before .before .before .before .before .if2 .left))),
       as-text (sym (concat-both variationText f (a .k) (l .result .lines) (u .result .lines))) (then (l .ensures .1) (u .ensures .1)),
     )
+
+put-under-same-length : (t : ℕ) → put-under-lts.Need-same-length (
+  parent-of-reads.Asked,
+  parent-of-reads.Learnt,
+  put-line-below t,
+  put-line.Post,
+  put-under-below t,
+  put-under.Post,
+) (put-under-at t) put-under.Post
+put-under-same-length t c = wrote-length (put-under-returns-3 t c .1)
 
 pub +put-line+put-under-spec : {M : Type 1} → statement M
 +put-line+put-under-spec = close μ-put-line μ-put-under (λ t. put-line-lts.spec (
