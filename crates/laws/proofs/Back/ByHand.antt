@@ -27,7 +27,7 @@ use Rattle.jkf.specs.declared.Target.{Target}
 use Rattle.jkf.specs.declared.Target.the-variants.{Same, Square}
 use Rattle.jkf.specs.declared.Entry.{Entry}
 use Rattle.jkf.specs.declared.Entry.the-variants.{Slot, Moved, End}
-use Rattle.jkf.specs.Model.{Header, Noted, Line}
+use Rattle.jkf.specs.Model.{Header, Noted, Line, Record}
 use Rattle.block.specs.Decode.{decode}
 use Rattle.block.specs.inner.Sounds.{Sound}
 use Rattle.block.proofs.Deciding.{sound-says}
@@ -172,12 +172,16 @@ module _ (mode : Mode) where
       → All (λ l. All (Writable mode) (l .entries)) ls → PlaysSayable (playsIn ls)
   plays-sayable (l ∷ ls) (leads m ss) (next h hs) (next c cs) (next w ws) = leads (main-sayable m h c w) (sides-sayable ls ss hs cs ws)
 
+-- no key holds ：
+keys-free : {r : Record} → ByHand r → All (λ h. holdsText wideColon (h .key) ≡ false) (r .headers)
+keys-free h = h .noColon
+
 hand-sayable : {mode : Mode} → LosesNothing mode → (b : List ℕ) → Bytes b → Sound b → ByHand (decode b) → (n l : ℕ) (x : List ℕ) → Wrote mode (decode b) n l x → Sayable (decode b)
 unfolding saidRecord
 hand-sayable {mode} m b bs s h n l x d =
     let w = lines-writable mode (decode b .lines) (all-later m (decode b) (d .starts)) (d .lines) in
     record {
-      headers = headers-sayable (h .noPreset) (h .noHand) (h .noHash) (h .someKey) (h .noColon) (h .keys) (h .values);
+      headers = headers-sayable (h .noPreset) (h .noHand) (h .noHash) (h .someKey) (keys-free h) (h .keys) (h .values);
       plays = plays-sayable mode (decode b .lines) (block-lines b s bs) (h .entries) (h .comments) w;
     }
 

@@ -21,7 +21,7 @@ says-back Whole r g s c h z = parse-back whole r (all-fit r g s c h z)
 says-back Shared r g s c h z = parse-back shared r (all-fit r g s c h z)
 
 pub hangs-back : HangsBack
-hangs-back mode r g single = let a = kept-attached mode r g single in (a .hung, a .same)
+hangs-back mode r g single = let a = kept-attached mode r (kept-hung mode r g) single in (a .hung, a .same)
 
 pub still-hangs : StillHangs
 still-hangs mode r g =

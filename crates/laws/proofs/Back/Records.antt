@@ -189,9 +189,8 @@ kept-hung Whole r g = formed-hung r g
 kept-hung Shared r g = formed-hung r g
 
 -- so they all hang, and where no entry has two, where they did
-pub kept-attached : (mode : Mode) (r : Record) → Formed r → SingleIn mode r → Attached (keptIn mode r .lines)
-kept-attached mode r g single =
-    let h = kept-hung mode r g in
+pub kept-attached : (mode : Mode) (r : Record) → Hung (r .version) (keptIn mode r .lines) → SingleIn mode r → Attached (keptIn mode r .lines)
+kept-attached mode r h single =
     record {
       hung = back-nests (keptIn mode r .lines) (h .some) (r .version) (h .hangs) (h .full);
       same = back-2 (keptIn mode r .lines) (h .some) (r .version) (h .hangs) (h .full) .0 single;
@@ -199,8 +198,8 @@ kept-attached mode r g single =
 
 -- of a text that loses nothing they are the record's
 all-attached : {mode : Mode} → LosesNothing mode → (r : Record) → Formed r → SingleIn mode r → Attached (r .lines)
-all-attached whole r g single = kept-attached Whole r g single
-all-attached shared r g single = kept-attached Shared r g single
+all-attached whole r g single = kept-attached Whole r (kept-hung Whole r g) single
+all-attached shared r g single = kept-attached Shared r (kept-hung Shared r g) single
 
 module _ (r : Record) (g : Formed r) (s : Sayable r) (c : ColorsFollow r) (h : handsObstacle (r .position) ≡ Clear) where
   -- it is fit to be read back where no variation starts at 0, and what the plain text says of it always is
@@ -231,6 +230,9 @@ module _ (r : Record) (g : Formed r) (s : Sayable r) (c : ColorsFollow r) (h : h
   plain-valid = said-valid Plain (comments-valid r g)
 
   module _ (single : SingleIn Plain r) where
+    plain-attached : Attached (keptIn Plain r .lines)
+    plain-attached = kept-attached Plain r (kept-hung Plain r g) single
+
     -- the plain text                                                                                       (01, Writing, and what is lost)
     pub plain-back : length (textIn Plain r) ≤ 65535 → (o : List ℕ) → length (encode (keptIn Plain r)) ≤ length o
         → fillOf (textIn Plain r) o ≡ readInto (length (textIn Plain r)) (keptIn Plain r) o
@@ -240,7 +242,7 @@ module _ (r : Record) (g : Formed r) (s : Sayable r) (c : ColorsFollow r) (h : h
         let e : length (encode (keptIn Plain r)) ≡ longBy (r .headers) (saidLines Plain (r .lines)) = block-length (keptIn Plain r) (w .whole) in
         let m : longBy (r .headers) (saidLines Plain (r .lines)) ≤ 65535 = omega (arith, weight-less (r .lines) (g .some), fits r w) in
         rw (← plain-is-whole r)
-        (text-read (saidRecord Plain r) plain-fit (kept-attached Plain r g single) (headers-valid r g) plain-valid m o (omega arith) whole
+        (text-read (saidRecord Plain r) plain-fit plain-attached (headers-valid r g) plain-valid m o (omega arith) whole
         (subst (λ (t : List ℕ). length t ≤ 65535) (sym (plain-is-whole r)) short)
         ∙ ap (λ (k : ℕ). record { answer = Done (length (textIn Whole (saidRecord Plain r))) k; buffer = atFront (encode (keptIn Plain r)) o }) (sym e))
 
@@ -250,7 +252,7 @@ module _ (r : Record) (g : Formed r) (s : Sayable r) (c : ColorsFollow r) (h : h
     plain-said =
         rw (← plain-is-whole r)
         (ap recordOf (parse-back whole (saidRecord Plain r) plain-fit .0)
-        ∙ record-back (saidRecord Plain r) plain-fit (kept-attached Plain r g single) (headers-valid r g) plain-valid (length (textIn Whole (saidRecord Plain r))))
+        ∙ record-back (saidRecord Plain r) plain-fit plain-attached (headers-valid r g) plain-valid (length (textIn Whole (saidRecord Plain r))))
 
   -- its bytes are bytes
   pub plain-bytes : (k : ℕ) → getD (textIn Plain r) k 0 < 256

@@ -25,51 +25,61 @@ use Rattle.parser.specs.Read.{filledWith, readStored, earlyOf, faultless, fillO
 use Rattle.edit.specs.Edit.{fresh, isVariation, isPlyOf, carries, above, insertAt, insertOn, insert, notBelow, remove}
 use Rattle.edit.specs.Outcomes.{editStored, editedOf, putInOf, cutOf}
 use Rattle.shown.specs.Listing.{readText, refusalText, rowText, listedRow, rowsText, listingText}
+use Rattle.laws.specs.CaseTexts.{shortMove, moveLines, originLine, variationLines, textOf, workedText, workedListing}
+use Rattle.laws.specs.Cases.{listing, cases}
 
-unfoldable pub lists : Unit {0}
+unfoldable lists : Unit {0}
 unfolding repeatFrom manyFrom allBelow
 lists = tt
 
-unfoldable pub numbers : Unit {0}
+unfoldable numbers : Unit {0}
 unfolding digitsFrom decimal
 numbers = tt
 
-unfoldable pub places : Unit {0}
+unfoldable places : Unit {0}
 unfolding spanFrom spanAt prefixFrom standsAt tagAt pastAll breakAt tailAt lineEndAt padWidth numberFrom numberAt digitsAt keyFrom keyAt sizeOf lowestOf highestOf secondOf isNext charWidth characterAt
 places = tt
 
-unfoldable pub spellings : Unit {0}
+unfoldable spellings : Unit {0}
 unfolding firstOf tensAt handCountAt
 spellings = tt
 
-unfoldable pub keys : Unit {0}
+unfoldable keys : Unit {0}
 unfolding compared byBytes enter enterAll
 keys = tt
 
-unfoldable pub values : Unit {0}
+unfoldable values : Unit {0}
 unfolding figures near hangs hungFrom entryHead entryBytes timeIn targetIn originIn moveIn entryIn positionBytes bytesAt positionIn
 values = tt
 
-unfoldable pub blocks : Unit {0}
+unfoldable blocks : Unit {0}
 unfolding parentIn attachFrom attach allHung run keyOf valueOf commentOf decode table concat headBytes encode sum before same soundb
 blocks = tt
 
-unfoldable pub lines : Unit {0}
+unfoldable lines : Unit {0}
 unfolding squareAt moveToAt promoteAt originAt moveFromAt kindToOriginAt moveAt whatAt figureAt hmsAt msAt clockAt spacedAt clocksAt timeAt finished moveLineAt remarkFrom keptAt commentLineAt beginsNoSkip skipLineAt
 lines = tt
 
-unfoldable pub starts : Unit {0}
+unfoldable starts : Unit {0}
 unfolding hashLineAt hashLinesAt paddedEndAt presetLineAt turnLineAt pieceAt pieceStep piecesAt handAt heldAt handLineAt valueAt keyValueAt headerAt keyedAt handsOrKeyedAt informationAt informationItem informationsAt faultAt tell tellAll pairsOf headerPlacesFrom headerPlacesAt whiteAt cellAt cellsFrom rowEndAt rowAt rowsFrom boardAt addHands merged positionSaid headersSaid headerPlaces startRead
 starts = tt
 
-unfoldable pub readings : Unit {0}
+unfoldable readings : Unit {0}
 unfolding commentItem commentsAt entryItem entriesAt numberItem numbersAt inSequence plyAt skippedAt skipsAt playItem variationItem variationsAt mainAt playsAt headersOf parse needed filledWith readStored earlyOf faultless fillOf
 readings = tt
 
-unfoldable pub edits : Unit {0}
+unfoldable edits : Unit {0}
 unfolding fresh isVariation isPlyOf carries above insertAt insertOn insert notBelow remove editStored editedOf putInOf cutOf
 edits = tt
 
-unfoldable pub listings : Unit {0}
+unfoldable listings : Unit {0}
 unfolding readText refusalText rowText listedRow rowsText listingText
 listings = tt
+
+unfoldable texts : Unit {0}
+unfolding shortMove moveLines originLine variationLines textOf workedText workedListing listing cases
+texts = tt
+
+unfoldable pub opened : Unit {0}
+unfolding lists numbers places spellings keys values blocks lines starts readings edits listings texts
+opened = tt
