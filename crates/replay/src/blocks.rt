@@ -1,44 +1,38 @@
-// What the block's calls answer to a request.
+// Whether the block's look-ups answer a request so.
+use crate::request::Numbers;
+use crate::request::is;
 use crate::request::number;
-use crate::request::put_number;
-use crate::request::put_three;
+use crate::request::three;
 use jkf::Answer;
-ghost use Prim.Native.Nat.{_≤_};
-ghost use lib.ListN.{length};
 
-// Whether a slice is just a sound block.
-pub(crate) fn sound(request: &[u8], out: &mut [u8]) -> usize
-    ensures { λ r. ⌜ r ≤ length (now (out .entry)) ⌝ }
-{
-    put_number(out, block::sound(request) as u64)
+// The number and the figures of an answer.
+pub(crate) fn of_answer(a: Answer) -> Numbers {
+    let f = jkf::figures_of(a);
+    three(f.number, f.first, f.second)
 }
 
-// A comment, a key, a value, the count of lines, a line or its parent.
-pub(crate) fn look_up(request: &[u8], out: &mut [u8]) -> usize
-    ensures { λ r. ⌜ r ≤ length (now (out .entry)) ⌝ }
-{
-    let which = number(request, 0);
-    let k = number(request, 8);
-    let b = lent::rest(request, 16);
+// The count of lines, a line or its parent.
+fn row(which: u64, b: &[u8], k: u64) -> Answer {
     match which {
-        3 => put_answer(out, block::lines(b)),
-        4 => put_answer(out, block::line(b, k)),
-        5 => put_answer(out, block::parent(b, k)),
-        _ => put_text(out, which, b, k),
+        3 => block::lines(b),
+        4 => block::line(b, k),
+        _ => block::parent(b, k),
     }
 }
 
-fn put_answer(out: &mut [u8], a: Answer) -> usize
-    ensures { λ r. ⌜ r ≤ length (now (out .entry)) ⌝ }
-{
-    let f = jkf::figures_of(a);
-    put_three(out, f.number, f.first, f.second)
+// A comment, a key, a value, the count of lines, a line or its parent.
+pub(crate) fn look_up(request: &[u8], answer: &[u8]) -> bool {
+    let which = number(request, 0);
+    let k = number(request, 8);
+    let b = lent::rest(request, 16);
+    if 2 < which {
+        return is(answer, of_answer(row(which, b, k)), b"");
+    }
+    look_text(which, b, k, answer)
 }
 
 // The answer's number and figures, then the text itself.
-fn put_text(out: &mut [u8], which: u64, b: &[u8], k: u64) -> usize
-    ensures { λ r. ⌜ r ≤ length (now (out .entry)) ⌝ }
-{
+fn look_text(which: u64, b: &[u8], k: u64, answer: &[u8]) -> bool {
     let mut number = 0u64;
     let mut first = 0u64;
     let mut second = 0u64;
@@ -47,6 +41,5 @@ fn put_text(out: &mut [u8], which: u64, b: &[u8], k: u64) -> usize
         1 => block::key(b, k, &mut number, &mut first, &mut second),
         _ => block::value(b, k, &mut number, &mut first, &mut second),
     };
-    let n = put_three(out, number, first, second);
-    n + lent::put_bytes(&mut out[n..], text)
+    is(answer, three(number, first, second), text)
 }

@@ -1,16 +1,13 @@
 // Replays recorded requests, and prints how many of the recorded answers the library gives, by kind.
 // A record is its kind, the lengths of request and answer (four bytes each, low byte first), request and answer.
 mod blocks;
-mod edits;
+mod buffers;
 mod leaves;
 mod lines;
-mod reads;
 mod request;
-mod writes;
 
 use libc::STDOUT_FILENO;
-ghost use Prim.Native.Nat.{_≤_};
-ghost use lib.ListN.{length};
+use request::Numbers;
 
 // How many records of each kind there were, and in how many the answers agreed. The last place is for unknown kinds.
 pub struct Tally {
@@ -96,31 +93,47 @@ fn print_name(place: usize) {
     );
 }
 
-// Fills the front of out with the library's answer to a request, and answers how many bytes it has.
-fn respond(kind: u8, request: &[u8], out: &mut [u8]) -> usize
-    ensures { λ r. ⌜ r ≤ length (now (out .entry)) ⌝ }
-{
+// Where reading stops: the number and six figures.
+fn stop(text: &[u8]) -> Numbers {
+    let values = stops::stop_figures(stops::stop(text));
+    Numbers { count: 7, values }
+}
+
+// The library's answer to a request that asks for numbers alone.
+fn numbers(kind: u8, request: &[u8]) -> Numbers {
     match kind {
-        b's' => blocks::sound(request, out),
-        b'l' => blocks::look_up(request, out),
-        b'm' => lines::move_line(request, out),
-        b'k' => lines::comment_line(request, out),
-        b'x' => lines::skip_line(request, out),
-        b'g' => reads::measure(request, out),
-        b'r' => reads::fill(request, out),
-        b'q' => reads::stop(request, out),
-        b'b' => writes::write(request, out),
-        b'p' => edits::put_in(request, out),
-        b'o' => edits::cut(request, out),
-        _ => leaves::answer(kind, request, out),
+        b'u' => request::one(text::well_formed(request) as u64),
+        b's' => request::one(block::sound(request) as u64),
+        b'g' => blocks::of_answer(parser::measure(request)),
+        b'q' => stop(request),
+        _ => leaves::read(kind, request),
     }
 }
 
-// Whether the library's answer to a request is the recorded one. The bytes before tell one that a call left alone from a 0.
+// Whether a kind is answered by way of a buffer.
+fn fills(kind: u8) -> bool {
+    match kind {
+        b'w' => true,
+        b'c' => true,
+        b'f' => true,
+        b'r' => true,
+        b'b' => true,
+        b'p' => true,
+        b'o' => true,
+        _ => false,
+    }
+}
+
+// Whether the library's answer to a request is the recorded one.
 fn agrees(kind: u8, request: &[u8], answer: &[u8]) -> bool {
-    let mut out = [165u8; 8192];
-    let n = respond(kind, request, &mut out);
-    check::same(&out[..n], answer)
+    if fills(kind) {
+        return buffers::agrees(kind, request, answer);
+    }
+    match kind {
+        b'l' => blocks::look_up(request, answer),
+        b'm' => lines::move_line(request, answer),
+        _ => request::is(answer, numbers(kind, request), b""),
+    }
 }
 
 // Takes a record of n bytes of request and its answer apart, and replays it.
@@ -128,7 +141,7 @@ fn replay(kind: u8, n: usize, record: &[u8]) -> bool {
     if record.len() < n {
         return false;
     }
-    agrees(kind, &record[..n], &record[n..])
+    agrees(kind, lent::front(record, n), lent::rest(record, n))
 }
 
 // What became of a record: it broke off, or was replayed, and the answers agreed or not.
@@ -151,8 +164,8 @@ fn replay_next(fd: i32, tally: Tally) -> Turn {
     if io::read_full(fd, &mut head) < 9 {
         return Turn { more: false, tally };
     }
-    let n = lent::get16(&head, 1) + 65536 * lent::get16(&head, 3);
-    let end = n + lent::get16(&head, 5) + 65536 * lent::get16(&head, 7);
+    let n = request::half(&head, 1);
+    let end = n + request::half(&head, 5);
     if 65536 < end {
         return Turn { more: false, tally };
     }

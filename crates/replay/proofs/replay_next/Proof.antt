@@ -16,44 +16,20 @@ read-full-requires c κs = search needs
 returns : tie.Need-returns
 returns c = search needs
 
-slice-aggregate-get16 : tie.Need-slice-aggregate-get16
-slice-aggregate-get16 c = search needs
+slice-aggregate-half : tie.Need-slice-aggregate-half
+slice-aggregate-half c = search needs
 
-get16-requires : tie.Need-get16-requires
-get16-requires c κs = search needs
+half-requires : tie.Need-half-requires
+half-requires c κs = search needs
 
-slice-aggregate-get16-2 : tie.Need-slice-aggregate-get16-2
-slice-aggregate-get16-2 c = search needs
+slice-aggregate-half-2 : tie.Need-slice-aggregate-half-2
+slice-aggregate-half-2 c = search needs
 
-get16-requires-2 : tie.Need-get16-requires-2
-get16-requires-2 c κs = search needs
-
-mul-n : tie.Need-mul-n
-mul-n c = search needs
-
-add-n : tie.Need-add-n
-add-n c = search needs
-
-slice-aggregate-get16-3 : tie.Need-slice-aggregate-get16-3
-slice-aggregate-get16-3 c = search needs
-
-get16-requires-3 : tie.Need-get16-requires-3
-get16-requires-3 c κs = search needs
+half-requires-2 : tie.Need-half-requires-2
+half-requires-2 c κs = search needs
 
 add-end : tie.Need-add-end
 add-end c = search needs
-
-slice-aggregate-get16-4 : tie.Need-slice-aggregate-get16-4
-slice-aggregate-get16-4 c = search needs
-
-get16-requires-4 : tie.Need-get16-requires-4
-get16-requires-4 c κs = search needs
-
-mul-end : tie.Need-mul-end
-mul-end c = search needs
-
-add-end-2 : tie.Need-add-end-2
-add-end-2 c = search needs
 
 returns-2 : tie.Need-returns-2
 returns-2 c = search needs
@@ -101,19 +77,11 @@ replay-next-spec =
     slice-aggregate-read-full
     read-full-requires
     returns
-    slice-aggregate-get16
-    get16-requires
-    slice-aggregate-get16-2
-    get16-requires-2
-    mul-n
-    add-n
-    slice-aggregate-get16-3
-    get16-requires-3
+    slice-aggregate-half
+    half-requires
+    slice-aggregate-half-2
+    half-requires-2
     add-end
-    slice-aggregate-get16-4
-    get16-requires-4
-    mul-end
-    add-end-2
     returns-2
     large-buffer-requires
     array-read-replay-rest
