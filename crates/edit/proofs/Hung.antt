@@ -22,15 +22,15 @@ pub whole-size : (l : Line) (w : Walk) (o : List ℕ) → length (putWhole l w o
 unfolding putWhole
 whole-size l w o =
     let g = putEntries (l .entries) w o in
-    line-size (l .start) (w .entries) (length (l .entries)) (l .parent) (g .walk) (g .buffer) ∙ all-size putNoted noted-size (l .entries) w o
+    line-size (l .start) (l .parent) w (g .walk) (g .buffer) ∙ all-size putNoted noted-size (l .entries) w o
 
 -- as the code puts it: the entries, and then the row
-pub whole-made : (l : Line) (w : Walk) (o : List ℕ) {start count parent : ℕ} {es : List Noted} {v r : Walk} {o₁ o₂ : List ℕ} → es ≡ l .entries
-    → start ≡ l .start → count ≡ length es → parent ≡ l .parent → v ≡ putEntries es w o .walk → o₁ ≡ putEntries es w o .buffer
-    → r ≡ putLine start (w .entries) count parent v o₁ .walk → o₂ ≡ putLine start (w .entries) count parent v o₁ .buffer
+pub whole-made : (l : Line) (w : Walk) (o : List ℕ) {start parent : ℕ} {es : List Noted} {v r : Walk} {o₁ o₂ : List ℕ} → es ≡ l .entries
+    → start ≡ l .start → parent ≡ l .parent → v ≡ putEntries es w o .walk → o₁ ≡ putEntries es w o .buffer
+    → r ≡ putLine start parent w v o₁ .walk → o₂ ≡ putLine start parent w v o₁ .buffer
     → (r ≡ putWhole l w o .walk) × (o₂ ≡ putWhole l w o .buffer)
 unfolding putWhole
-whole-made l w o e a n p x y f g = (f ∙ rw (a, n, p, x, y, e), g ∙ rw (a, n, p, x, y, e))
+whole-made l w o e a p x y f g = (f ∙ rw (a, p, x, y, e), g ∙ rw (a, p, x, y, e))
 
 -- one line is put as it is put alone
 pub one-put : (l : Line) (w : Walk) (o : List ℕ) → (putWholes (l ∷ []) w o .walk ≡ putWhole l w o .walk) × (putWholes (l ∷ []) w o .buffer ≡ putWhole l w o .buffer)
@@ -50,7 +50,7 @@ module _ (ls : List Line) (w : Walk) (o₀ : List ℕ) (f : LinesFit ls w o₀) 
   unfolding putWhole
   whole-lined k {v} {o} h d =
       let e = entries-put (lineOf ls k .entries) (entries-fit ls w o₀ f k d h) in
-      row-lined ls w o₀ f k d h e refl (omega (arith, e .entries)) refl refl refl
+      row-lined ls w o₀ f k d h e refl refl refl refl
 
   -- and so are all from there on
   wholes-lined : (qs : List Line) (k : ℕ) {v : Walk} {o : List ℕ} → k ≤ length ls → drop k ls ≡ qs → Lined (take k ls) w v o₀ o

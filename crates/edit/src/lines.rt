@@ -2,7 +2,6 @@
 use crate::Added;
 use crate::copies::copy_entries;
 use filling::Walk;
-use plays::Extent;
 use text::Cursor;
 ghost use mathlib.Core.Path.{_≡_};
 ghost use mathlib.Core.List.{List, map};
@@ -11,7 +10,6 @@ ghost use lib.ListN.{length};
 ghost use Rattle.block.specs.Decode.{run, linesIn, lineIn};
 ghost use Rattle.block.specs.inner.Sounds.{Sound};
 ghost use Rattle.plays.specs.Plays.{plyAt};
-ghost use Rattle.plays.specs.Counted.{extentAt};
 ghost use Rattle.edit.specs.Edit.{reparented, variationOf, lineOn};
 ghost use Rattle.edit.specs.inner.Splicing.{newLines, Counted, shifted, linesAfter, putWhole, putWholes};
 
@@ -44,17 +42,11 @@ fn copy_line(b: &[u8], i: usize, x: Splice, w: Walk, out: &mut [u8]) -> Walk
     ensures { λ r. ⌜ now (out .exit) ≡ putWhole (reparented (shifted (x .p) (x .q) (x .added)) (lineIn (now (b .entry)) i)) w (now (out .entry)) .buffer ⌝ }
 {
     let line = i as u16;
-    let count = block::entry_count(b, line);
-    let v = copy_entries(b, block::first_entry(b, line), count, w, out);
+    let first = block::first_entry(b, line);
+    let v = copy_entries(b, first, block::entry_count(b, line), w, out);
+    let start = block::start_of(b, line) as u64;
     let parent = shifted(x, block::parent_of(b, line));
-    filling::put_line(
-        out,
-        v,
-        block::start_of(b, line) as u64,
-        w.entries,
-        count,
-        parent as u64,
-    )
+    filling::put_line(out, w, v, start, parent as u64)
 }
 
 // So many lines of a block from line i on.
@@ -73,13 +65,13 @@ fn copy_lines(b: &[u8], i: usize, count: usize, x: Splice, w: Walk, out: &mut [u
 }
 
 // The line of a text that starts at a ply, on line k.
-fn put_variation(t: &[u8], k: u64, ply: u64, x: Extent, w: Walk, out: &mut [u8]) -> Walk
-    requires { ⌜ (ply ≡ plyAt (now t) 0) × (x ≡ extentAt (now t) 0) ⌝ }
+fn put_variation(t: &[u8], k: u64, ply: u64, w: Walk, out: &mut [u8]) -> Walk
+    requires { ⌜ ply ≡ plyAt (now t) 0 ⌝ }
     ensures { λ r. ⌜ r ≡ putWhole (lineOn k (variationOf (now (t .entry)))) w (now (out .entry)) .walk ⌝ }
     ensures { λ r. ⌜ now (out .exit) ≡ putWhole (lineOn k (variationOf (now (t .entry)))) w (now (out .entry)) .buffer ⌝ }
 {
     let own = plays::fill_moves(t, Cursor { at: 0 }, w, out);
-    filling::put_line(out, own.walk, ply, w.entries, x.entries, k)
+    filling::put_line(out, w, own.walk, ply, k)
 }
 
 // The new lines.
@@ -90,7 +82,7 @@ fn put_added(t: &[u8], a: Added, w: Walk, out: &mut [u8]) -> Walk
 {
     match a {
         Added::Nothing => w,
-        Added::Variation(k, ply, x) => put_variation(t, k, ply, x, w, out),
+        Added::Variation(k, ply, _) => put_variation(t, k, ply, w, out),
     }
 }
 

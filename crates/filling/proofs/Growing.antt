@@ -56,11 +56,11 @@ noted-size e w o =
     let g = putComments (e .comments) w o in
     entry-size (e .what) (w .noted) (g .walk .noted - w .noted) (g .walk) (g .buffer) ∙ all-size putComment comment-size (e .comments) w o
 
-pub line-size : (start first count parent : ℕ) (w : Walk) (o : List ℕ) → length (putLine start first count parent w o .buffer) ≡ length o
+pub line-size : (start parent : ℕ) (w v : Walk) (o : List ℕ) → length (putLine start parent w v o .buffer) ≡ length o
 unfolding putLine
-line-size start first count parent w o =
-    by-pick (λ (g : Grown). length (g .buffer) ≡ length o) (leb (w .lines + 8) (length o)) _ (grown w o)
-    (λ _. length-put o (w .lines) (lineBytes start first count parent)) (λ _. refl)
+line-size start parent w v o =
+    by-pick (λ (g : Grown). length (g .buffer) ≡ length o) (leb (v .lines + 8) (length o)) _ (grown v o)
+    (λ _. length-put o (v .lines) (lineBytes start (w .entries) (v .entries - w .entries) parent)) (λ _. refl)
 
 -- some, and then the others
 pub all-then : {X : Type 0} (one : X → Walk → List ℕ → Grown) (xs ys : List X) (w : Walk) (o : List ℕ)
@@ -415,11 +415,11 @@ module _ (start parent : ℕ) (es : List Noted) where
     pub line-fit : EntriesFit es w o
     line-fit = record { entries = f .entries; noted = f .noted; bytes = f .bytes; room = line-room .1 }
 
-    pub line-put : {v : Walk} {o₁ : List ℕ} {count : ℕ} → Entered es w v o o₁ → count ≡ v .entries - w .entries
-        → Lined (line start parent es ∷ []) w (putLine start (w .entries) count parent v o₁ .walk) o (putLine start (w .entries) count parent v o₁ .buffer)
+    pub line-put : {v : Walk} {o₁ : List ℕ} → Entered es w v o o₁
+        → Lined (line start parent es ∷ []) w (putLine start parent w v o₁ .walk) o (putLine start parent w v o₁ .buffer)
     unfolding putLine
-    line-put {v} {o₁} {count} d q =
-        let n : count ≡ length es = omega (arith, q, d .entries) in
+    line-put {v} {o₁} d =
+        let n : v .entries - w .entries ≡ length es = omega (arith, d .entries) in
         let row = lineRow (w .entries) (line start parent es) in
         let g = filled-under (w .lines) (v .lines) (d .lines) (d .filled) in
         let m = then-room (row ∷ []) line-room g in

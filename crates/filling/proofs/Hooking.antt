@@ -1,7 +1,7 @@
 -- One line more, hung on those before it: what the code finds and puts is what the definitions say, and what they say of a row that was put.
 -- Assumes nothing.
 use Prim.Native.Nat.{ℕ, _-_, _/_}
-use mathlib.Core.Path.{_≡_, refl, ap, _∙_}
+use mathlib.Core.Path.{_≡_, refl, ap}
 use mathlib.Core.List.{List}
 use native.Mathlib.Omega.{arith}
 use lib.ListN.{length, drop}
@@ -29,15 +29,10 @@ module _ (rows start : ℕ) (v : Walk) (o : List ℕ) {k : ℕ} (e : k ≡ (v .l
   later-hangs z = rw (← e, ne-eqb k 0 z)
 
 module _ (rows start : ℕ) (w v : Walk) (o : List ℕ) where
-  pub row-put : {p e count : ℕ} {r : Walk} {o₁ : List ℕ} → On p e ≡ hangingOf rows start v o → count ≡ v .entries - w .entries
-      → r ≡ putLine start (w .entries) count p v o .walk → o₁ ≡ putLine start (w .entries) count p v o .buffer
+  pub row-put : {p e : ℕ} {r : Walk} {o₁ : List ℕ} → On p e ≡ hangingOf rows start v o → r ≡ putLine start p w v o .walk → o₁ ≡ putLine start p w v o .buffer
       → (Put r ≡ hookedOf rows start w v o) × (o₁ ≡ hookedIn rows start w v o)
   unfolding hookedOf hookedIn
-  row-put {p} {e} {count} h n f g =
-      rw (← h) (
-        ap Put (f ∙ ap (λ (m : ℕ). putLine start (w .entries) m p v o .walk) n),
-        g ∙ ap (λ (m : ℕ). putLine start (w .entries) m p v o .buffer) n,
-      )
+  row-put h f g = rw (← h) (ap Put f, g)
 
   pub none-put : Nowhere ≡ hangingOf rows start v o → (Loose ≡ hookedOf rows start w v o) × (o ≡ hookedIn rows start w v o)
   unfolding hookedOf hookedIn
@@ -48,8 +43,8 @@ module _ (rows start : ℕ) (w v : Walk) (o : List ℕ) where
   unfolding hookedIn
   hooked-size = go (hangingOf rows start v o)
     where
-      go : (h : Hang) → length (onHang h (λ p e. putLine start (w .entries) (v .entries - w .entries) p v o .buffer) o) ≡ length o
-      go (On p e) = line-size start (w .entries) (v .entries - w .entries) p v o
+      go : (h : Hang) → length (onHang h (λ p e. putLine start p w v o .buffer) o) ≡ length o
+      go (On p e) = line-size start p w v o
       go Nowhere = refl
 
   -- ---- what a row that was put tells
@@ -58,21 +53,21 @@ module _ (rows start : ℕ) (w v : Walk) (o : List ℕ) where
     pub parent : ℕ
     pub entry : ℕ
     pub hangs : hangingOf rows start v o ≡ On parent entry
-    pub walk : u ≡ putLine start (w .entries) (v .entries - w .entries) parent v o .walk
-    pub buffer : hookedIn rows start w v o ≡ putLine start (w .entries) (v .entries - w .entries) parent v o .buffer
+    pub walk : u ≡ putLine start parent w v o .walk
+    pub buffer : hookedIn rows start w v o ≡ putLine start parent w v o .buffer
 
   pub row-told : {u : Walk} → Put u ≡ hookedOf rows start w v o → Row u
   unfolding hookedOf hookedIn
   row-told {u} q = go (hangingOf rows start v o) refl q
     where
-      go : (h : Hang) → hangingOf rows start v o ≡ h → Put u ≡ onHang h (λ p e. Put (putLine start (w .entries) (v .entries - w .entries) p v o .walk)) Loose → Row u
+      go : (h : Hang) → hangingOf rows start v o ≡ h → Put u ≡ onHang h (λ p e. Put (putLine start p w v o .walk)) Loose → Row u
       go (On p e) k x =
           record {
             parent = p;
             entry = e;
             hangs = k;
             walk = ap (λ (h : Hooked). onHooked h (λ r. r) u) x;
-            buffer = ap (λ (h : Hang). onHang h (λ p e. putLine start (w .entries) (v .entries - w .entries) p v o .buffer) o) k;
+            buffer = ap (λ (h : Hang). onHang h (λ p e. putLine start p w v o .buffer) o) k;
           }
       go Nowhere k x = let z : _≡_ {A = ℕ} 1 0 = ap (λ (h : Hooked). onHooked h (λ r. 1) 0) x in absurd (omega arith)
 
@@ -80,6 +75,6 @@ module _ (rows start : ℕ) (w v : Walk) (o : List ℕ) where
   unfolding hookedOf
   none-told q = go (hangingOf rows start v o) refl q
     where
-      go : (h : Hang) → hangingOf rows start v o ≡ h → Loose ≡ onHang h (λ p e. Put (putLine start (w .entries) (v .entries - w .entries) p v o .walk)) Loose → hangingOf rows start v o ≡ Nowhere
+      go : (h : Hang) → hangingOf rows start v o ≡ h → Loose ≡ onHang h (λ p e. Put (putLine start p w v o .walk)) Loose → hangingOf rows start v o ≡ Nowhere
       go (On p e) k x = let z : _≡_ {A = ℕ} 0 1 = ap (λ (h : Hooked). onHooked h (λ r. 1) 0) x in absurd (omega arith)
       go Nowhere k x = k

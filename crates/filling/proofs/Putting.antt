@@ -286,30 +286,29 @@ module _ (e : Entry) (first count : ℕ) (w : Walk) (o : List ℕ) where
 
 -- ---- a line's row
 
-module _ (start first count parent : ℕ) (w : Walk) (o : List ℕ) where
-  pub line-none : leb (w .lines + 8) (length o) ≡ false
-      → (w ≡ putLine start first count parent w o .walk) × (o ≡ putLine start first count parent w o .buffer)
+module _ (start parent : ℕ) (w v : Walk) (o : List ℕ) where
+  pub line-none : leb (v .lines + 8) (length o) ≡ false → (v ≡ putLine start parent w v o .walk) × (o ≡ putLine start parent w v o .buffer)
   unfolding putLine
   line-none n = rw n (refl, refl)
 
-  pub line-done : {o₁ : List ℕ} {p : ℕ} → leb (w .lines + 8) (length o) ≡ true
-      → Stored (fitting (lineBytes start first count parent) (drop (w .lines) o)) o o₁ (w .lines) p
+  pub line-done : {o₁ : List ℕ} {p count : ℕ} → leb (v .lines + 8) (length o) ≡ true → count ≡ v .entries - w .entries
+      → Stored (fitting (lineBytes start (w .entries) count parent) (drop (v .lines) o)) o o₁ (v .lines) p
       → (_≡_ {A = Walk}
       (record {
-        headers = w .headers;
+        headers = v .headers;
         lines = p;
-        moves = w .moves;
-        comments = w .comments;
-        text = w .text;
-        entries = w .entries;
-        noted = w .noted;
-        bytes = w .bytes;
+        moves = v .moves;
+        comments = v .comments;
+        text = v .text;
+        entries = v .entries;
+        noted = v .noted;
+        bytes = v .bytes;
       })
-      (putLine start first count parent w o .walk)) × (o₁ ≡ putLine start first count parent w o .buffer)
+      (putLine start parent w v o .walk)) × (o₁ ≡ putLine start parent w v o .buffer)
   unfolding putLine
-  line-done {o₁} {p} a x =
-      let x₁ = stored-all {t = lineBytes start first count parent} (leb-true (w .lines + 8) (length o) a) x in
-      rw (a, x₁ .end) (refl, x₁ .bytes)
+  line-done {o₁} {p} {count} a n x =
+      let x₁ = stored-all {t = lineBytes start (w .entries) count parent} (leb-true (v .lines + 8) (length o) a) x in
+      rw (a, ← n, x₁ .end) (refl, x₁ .bytes)
 
 -- ---- a header entry
 

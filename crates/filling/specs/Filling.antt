@@ -135,23 +135,23 @@ putHeader h w o =
     (put (put o (w .headers) (headerRow (w .bytes) h)) (w .text) (h .key ++ h .value)))
     (grown w o)
 
--- A line's row at the end of the line rows.                                                         (01, The block: line)
-unfoldable pub putLine : ℕ → ℕ → ℕ → ℕ → Walk → List ℕ → Grown
-putLine start first count parent w o =
-    pick (leb (w .lines + 8) (length o))
+-- The row of the line whose entries were put between w and v, at the end of the line rows.            (01, The block: line)
+unfoldable pub putLine : ℕ → ℕ → Walk → Walk → List ℕ → Grown
+putLine start parent w v o =
+    pick (leb (v .lines + 8) (length o))
     (grown
     (record {
-      headers = w .headers;
-      lines = w .lines + 8;
-      moves = w .moves;
-      comments = w .comments;
-      text = w .text;
-      entries = w .entries;
-      noted = w .noted;
-      bytes = w .bytes;
+      headers = v .headers;
+      lines = v .lines + 8;
+      moves = v .moves;
+      comments = v .comments;
+      text = v .text;
+      entries = v .entries;
+      noted = v .noted;
+      bytes = v .bytes;
     })
-    (put o (w .lines) (lineBytes start first count parent)))
-    (grown w o)
+    (put o (v .lines) (lineBytes start (w .entries) (v .entries - w .entries) parent)))
+    (grown v o)
 
 -- A comment of n bytes has room.
 unfoldable pub hasComment : ℕ → Walk → ℕ → Bool
@@ -213,11 +213,11 @@ hangingOf rows start v o =
 -- Its row behind them, with the parent that was found; or that it hangs on none.
 unfoldable pub hookedOf : ℕ → ℕ → Walk → Walk → List ℕ → Hooked
 hookedOf rows start w v o =
-    onHang (hangingOf rows start v o) (λ p e. Put (putLine start (w .entries) (v .entries - w .entries) p v o .walk)) Loose
+    onHang (hangingOf rows start v o) (λ p e. Put (putLine start p w v o .walk)) Loose
 
 unfoldable pub hookedIn : ℕ → ℕ → Walk → Walk → List ℕ → List ℕ
 hookedIn rows start w v o =
-    onHang (hangingOf rows start v o) (λ p e. putLine start (w .entries) (v .entries - w .entries) p v o .buffer) o
+    onHang (hangingOf rows start v o) (λ p e. putLine start p w v o .buffer) o
 
 -- ---- several parts, one after another
 

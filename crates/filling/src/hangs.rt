@@ -1,21 +1,11 @@
 // One line more of a block, hung by the attaching rule on those before it.
 use crate::Hooked;
 use crate::Walk;
+use crate::puts::less;
 use crate::puts::put_line;
 use jkf::Hang;
 ghost use mathlib.Core.Path.{_≡_};
-ghost use Prim.Native.Nat.{_-_};
 ghost use Rattle.filling.specs.Filling.{hangingOf, hookedOf, hookedIn};
-
-// How many more one is than the other; 0 where it is less.
-fn less(a: usize, b: usize) -> usize
-    ensures { λ r. ⌜ r ≡ a - b ⌝ }
-{
-    if a < b {
-        return 0;
-    }
-    a - b
-}
 
 // Where the next line hangs that starts at a ply, of a block whose line rows begin at a place: the first on none, and its parent is 0.
 fn hanging(out: &[u8], rows: usize, start: u64, v: Walk) -> Hang
@@ -36,6 +26,5 @@ pub fn hang_line(out: &mut [u8], rows: usize, start: u64, w: Walk, v: Walk) -> H
     let Hang::On(parent, _) = hanging(out, rows, start, v) else {
         return Hooked::Loose;
     };
-    let count = less(v.entries, w.entries);
-    Hooked::Put(put_line(out, v, start, w.entries, count, parent))
+    Hooked::Put(put_line(out, w, v, start, parent))
 }

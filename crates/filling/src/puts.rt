@@ -2,7 +2,7 @@
 use crate::Walk;
 use jkf::Entry;
 ghost use mathlib.Core.Path.{_≡_};
-ghost use Prim.Native.Nat.{_+_, _≤_};
+ghost use Prim.Native.Nat.{_+_, _-_, _≤_};
 ghost use lib.Dec.{eqb, leb};
 ghost use Rattle.lists.specs.Pick.{pick};
 ghost use Rattle.filling.specs.Filling.{header, hasHeader, hasComment, hasEntry, entered, putHeader, putLine, putComment, putEntry};
@@ -60,31 +60,35 @@ pub fn put_header(out: &mut [u8], w: Walk, key: &[u8], value: &[u8]) -> Walk
     }
 }
 
-// The row of a line where the line rows end.
-pub fn put_line(
-    out: &mut [u8],
-    w: Walk,
-    start: u64,
-    first: usize,
-    count: usize,
-    parent: u64,
-) -> Walk
-    ensures { λ r. ⌜ r ≡ putLine start first count parent w (now (out .entry)) .walk ⌝ }
-    ensures { λ r. ⌜ now (out .exit) ≡ putLine start first count parent w (now (out .entry)) .buffer ⌝ }
+// How many more one is than the other; 0 where it is less.
+pub(crate) fn less(a: usize, b: usize) -> usize
+    ensures { λ r. ⌜ r ≡ a - b ⌝ }
 {
-    if !has_room(w.lines, 8, out.len()) {
-        return w;
+    if a < b {
+        return 0;
     }
-    let lines = block::put_line_row(out, w.lines, start, first, count, parent);
+    a - b
+}
+
+// The row of the line whose entries were put between w and v, which starts at a ply, where the line rows end.
+pub fn put_line(out: &mut [u8], w: Walk, v: Walk, start: u64, parent: u64) -> Walk
+    ensures { λ r. ⌜ r ≡ putLine start parent w v (now (out .entry)) .walk ⌝ }
+    ensures { λ r. ⌜ now (out .exit) ≡ putLine start parent w v (now (out .entry)) .buffer ⌝ }
+{
+    if !has_room(v.lines, 8, out.len()) {
+        return v;
+    }
+    let count = less(v.entries, w.entries);
+    let lines = block::put_line_row(out, v.lines, start, w.entries, count, parent);
     Walk {
-        headers: w.headers,
+        headers: v.headers,
         lines,
-        moves: w.moves,
-        comments: w.comments,
-        text: w.text,
-        entries: w.entries,
-        noted: w.noted,
-        bytes: w.bytes,
+        moves: v.moves,
+        comments: v.comments,
+        text: v.text,
+        entries: v.entries,
+        noted: v.noted,
+        bytes: v.bytes,
     }
 }
 

@@ -188,8 +188,8 @@ module _ (s : List ℕ) (at : ℕ) (w : Walk) (o₀ : List ℕ) (f : LinesFit (a
           next-lost e = next-loose s at k to up some-here (hang-is h start z y ∙ e) ∙ ap (first k) (ap (plyAt s) (sym p) ∙ sym z)
 
           -- it hangs, and its row is filled in
-          module _ (parent e : ℕ) (on : h ≡ On parent e) {u : Walk} {o₂ : List ℕ} (row : u ≡ putLine start (v .entries) (x .walk .entries - v .entries) parent (x .walk) o₁ .walk)
-              (rest-of : o₂ ≡ putLine start (v .entries) (x .walk .entries - v .entries) parent (x .walk) o₁ .buffer) where
+          module _ (parent e : ℕ) (on : h ≡ On parent e) {u : Walk} {o₂ : List ℕ} (row : u ≡ putLine start parent v (x .walk) o₁ .walk)
+              (rest-of : o₂ ≡ putLine start parent v (x .walk) o₁ .buffer) where
             hang : hangs (starts ps) (counts ps) (starts ps k) k ≡ On parent e
             hang = hang-is h start z y ∙ on
 
@@ -197,7 +197,7 @@ module _ (s : List ℕ) (at : ℕ) (w : Walk) (o₀ : List ℕ) (f : LinesFit (a
             next-more q₂ n =
                 let own : Entered (lineOf ls k .entries) v (x .walk) o o₁ = subst (λ (y : Line). Entered (y .entries) v (x .walk) o o₁) (sym here) entered in
                 let all-of : Lined (take (k + 1) ls) w u o₀ o₂ =
-                row-lined ls w o₀ f k (i .done) (more some-here) own (z ∙ ap (plyAt s) p ∙ ap (λ (y : Line). y .start) (sym here)) refl
+                row-lined ls w o₀ f k (i .done) (more some-here) own (z ∙ ap (plyAt s) p ∙ ap (λ (y : Line). y .start) (sym here))
                 (sym (ap (λ (y : Line). y .parent) here ∙ parent-of ps k parent e hang)) row rest-of in
                 record { passed = next-passed s at k to up some-here hang (n ∙ ap (skippedAt s) past); done = all-of }
 

@@ -61,9 +61,6 @@ module _ (s : List ℕ) (at : ℕ) (w : Walk) (o : List ℕ) (f : LineFits (main
       both : Entered ((slot ∷ []) ++ entriesAt s place .state) w (x .walk) o o₂
       both = entries-then (slot ∷ []) (entriesAt s place .state) main-fit slotted entered
 
-      pub main-grows : w .entries ≤ x .walk .entries
-      main-grows = omega (arith, both .entries)
-
       pub slot-grows : u .walk .entries ≤ x .walk .entries
       slot-grows = omega (arith, entered .entries)
 
@@ -74,10 +71,10 @@ module _ (s : List ℕ) (at : ℕ) (w : Walk) (o : List ℕ) (f : LineFits (main
 
       -- the row hangs on nothing
       abbrev row : Grown
-      row = putLine 0 (w .entries) (x .walk .entries - w .entries) 0 (x .walk) o₂
+      row = putLine 0 0 w (x .walk) o₂
 
       hooked : (Put (row .walk) ≡ hookedOf (w .lines) 0 w (x .walk) o₂) × (row .buffer ≡ hookedIn (w .lines) 0 w (x .walk) o₂)
-      hooked = row-put (w .lines) 0 w (x .walk) o₂ (first-hangs (w .lines) 0 (x .walk) o₂ (omega (arith, both .lines)) refl) refl refl refl
+      hooked = row-put (w .lines) 0 w (x .walk) o₂ (first-hangs (w .lines) 0 (x .walk) o₂ (omega (arith, both .lines)) refl) refl refl
 
       pub main-lined : {r : Walk} {o₃ : List ℕ} → Put r ≡ hookedOf (w .lines) 0 w (x .walk) o₂ → o₃ ≡ hookedIn (w .lines) 0 w (x .walk) o₂
           → Lined (mainLine s at ∷ []) w r o o₃
@@ -85,7 +82,7 @@ module _ (s : List ℕ) (at : ℕ) (w : Walk) (o : List ℕ) (f : LineFits (main
       main-lined {r} {o₃} y z =
           let e : r ≡ row .walk = ap (λ (h : Hooked). onHooked h (λ v. v) r) (y ∙ sym (hooked .0)) in
           subst (λ (v : Walk). Lined (mainLine s at ∷ []) w v o o₃) (sym e)
-          (subst (λ (l : List ℕ). Lined (mainLine s at ∷ []) w (row .walk) o l) (hooked .1 ∙ sym z) (line-put 0 0 (mainAt s at .entries) f both refl))
+          (subst (λ (l : List ℕ). Lined (mainLine s at ∷ []) w (row .walk) o l) (hooked .1 ∙ sym z) (line-put 0 0 (mainAt s at .entries) f both))
 
       pub main-hangs : {A : Type 0} → Loose ≡ hookedOf (w .lines) 0 w (x .walk) o₂ → A
       main-hangs y = let n : _≡_ {A = ℕ} 0 1 = ap (λ (h : Hooked). onHooked h (λ v. 1) 0) (y ∙ sym (hooked .0)) in absurd (omega arith)

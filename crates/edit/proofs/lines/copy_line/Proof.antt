@@ -1,9 +1,8 @@
 -- The entries of the line, and then its row, on its parent renumbered (`whole-made`).
 -- Assumes nothing.
 use native.Mathlib.Omega.{arith}
-use mathlib.Core.Path.{sym, ap, ap₂, _∙_}
+use mathlib.Core.Path.{ap, ap₂, _∙_}
 use Rattle.block.specs.Decode.{run, notedIn}
-use Rattle.block.proofs.Tabling.{length-run}
 use Rattle.block.proofs.Within.{entries-within}
 use Rattle.edit.specs.inner.Splicing.{shifted}
 use Rattle.edit.proofs.Runs.{moved}
@@ -15,25 +14,25 @@ use Rattle.edit.proofs.lines.copy_line.Tie as tie
 cast-line : tie.Need-cast-line
 cast-line c = search needs
 
-entry-count-requires : tie.Need-entry-count-requires
-entry-count-requires c κs = search needs
-
 first-entry-requires : tie.Need-first-entry-requires
 first-entry-requires c κs = search needs
+
+entry-count-requires : tie.Need-entry-count-requires
+entry-count-requires c κs = search needs
 
 copy-entries-requires : tie.Need-copy-entries-requires
 copy-entries-requires c κs =
     let a = c .before .before .before .before .before in
-    (a .pre .0, omega (arith, entries-within (a .args .b .now) (a .pre .0) (a .args .i) (a .pre .1), c .before .first-entry .ensures .0, c .before .before .entry-count .ensures .0))
+    (a .pre .0, omega (arith, entries-within (a .args .b .now) (a .pre .0) (a .args .i) (a .pre .1), c .before .before .first-entry .ensures .0, c .before .entry-count .ensures .0))
+
+start-of-requires : tie.Need-start-of-requires
+start-of-requires c κs = search needs
 
 parent-of-requires : tie.Need-parent-of-requires
 parent-of-requires c κs = search needs
 
 shifted-requires : tie.Need-shifted-requires
 shifted-requires c κs = search needs
-
-start-of-requires : tie.Need-start-of-requires
-start-of-requires c κs = search needs
 
 put-line-requires : tie.Need-put-line-requires
 put-line-requires c κs = search needs
@@ -46,24 +45,22 @@ returns c =
     let a = c .before .before .before .before .before .before .before .before .before .before .before .before .before .before .before .args in
     let b = a .b .now in
     let number = shifted (a .x .p) (a .x .q) (a .x .added) in
-    let first = c .before .before .before .before .before .before .before .before .before .before .before .first-entry in
-    let count = c .before .before .before .before .before .before .before .before .before .before .before .before .entry-count in
     let e = c .before .before .before .before .before .before .before .before .before .copy-entries .ensures in
     let r = c .before .before .put-line .ensures in
-    whole-made (moved number b (a .i)) (a .w) (a .out .now) (ap₂ (run (notedIn b)) (first .ensures .0) (count .ensures .0)) (c .before .before .before .start-of .ensures .0)
-    (sym (length-run (notedIn b) (first .result) (count .result))) (c .before .before .before .before .before .shifted .ensures .0 ∙ ap number (c .before .before .before .before .before .before .parent-of .ensures .0)) (e .0) (e .1) (r .0) (r .1)
+    whole-made (moved number b (a .i)) (a .w) (a .out .now) (ap₂ (run (notedIn b)) (c .before .before .before .before .before .before .before .before .before .before .before .before .first-entry .ensures .0) (c .before .before .before .before .before .before .before .before .before .before .before .entry-count .ensures .0)) (c .before .before .before .before .before .before .start-of .ensures .0)
+    (c .before .before .before .before .shifted .ensures .0 ∙ ap number (c .before .before .before .before .before .parent-of .ensures .0)) (e .0) (e .1) (r .0) (r .1)
 
 pub copy-line-spec : {M : Type 1} → statement M
 copy-line-spec =
     tie.close
     (tie.spec
     cast-line
-    entry-count-requires
     first-entry-requires
+    entry-count-requires
     copy-entries-requires
+    start-of-requires
     parent-of-requires
     shifted-requires
-    start-of-requires
     put-line-requires
     same-length
     returns)

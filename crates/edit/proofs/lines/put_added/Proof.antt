@@ -14,7 +14,7 @@ enum-known-a : tie.Need-enum-known-a
 enum-known-a c = search needs
 
 put-variation-requires : tie.Need-put-variation-requires
-put-variation-requires c κs = let h = rw (c .before .before .a .given .1) at (c .before .before .before .before .before .before .pre) in (h .0, h .1)
+put-variation-requires c κs = let h = rw (c .before .before .a .given .1) at (c .before .before .before .before .before .before .pre) in h .0
 
 returns : tie.Need-returns
 returns c = let a = c .before .before .before .before .args in rw (c .enum-told .given .1) (none-put (a .w) (a .out .now))

@@ -1,9 +1,7 @@
 -- The entries of the text, and then the row of its line (`whole-made`).
 -- Assumes nothing.
 use mathlib.Core.Path.{refl}
-use Rattle.plays.specs.Plays.{entriesAt}
 use Rattle.edit.specs.Edit.{variationOf, lineOn}
-use Rattle.edit.proofs.Measured.{entries-are}
 use Rattle.edit.proofs.Hung.{whole-made}
 use borrow.Author.Needs.{needs}
 use Rattle.edit.proofs.lines.put_variation.Statement.{statement}
@@ -24,7 +22,7 @@ returns c =
     let t = a .t .now in
     let e = c .before .before .before .before .before .before .fill-moves .ensures in
     let r = c .before .before .put-line .ensures in
-    whole-made (lineOn (a .k) (variationOf t)) (a .w) (a .out .now) refl (c .before .before .before .before .before .before .before .before .before .before .pre .0) (entries-are (entriesAt t 0) (c .before .before .before .before .before .before .before .before .before .before .pre .1)) refl (e .0) (e .1 .0) (r .0) (r .1)
+    whole-made (lineOn (a .k) (variationOf t)) (a .w) (a .out .now) refl (c .before .before .before .before .before .before .before .before .before .before .pre) refl (e .0) (e .1 .0) (r .0) (r .1)
 
 pub put-variation-spec : {M : Type 1} → statement M
 put-variation-spec = tie.close (tie.spec fill-moves-requires put-line-requires same-length returns)

@@ -9,7 +9,6 @@ use Rattle.filling.proofs.hangs.hang_line.Tie as tie
 use Rattle.filling.proofs.hangs.hang_line.Reads as reads
 use Rattle.filling.proofs.hangs.hang_line.Lts as lts
 use Rattle.filling.proofs.hangs.hanging.Reads as hanging-reads
-use Rattle.filling.proofs.hangs.less.Reads as less-reads
 use Rattle.filling.proofs.puts.put_line.Reads as put-line-reads
 
 hanging-requires : tie.Need-hanging-requires
@@ -27,9 +26,6 @@ same-length c = search needs
 returns : tie.Need-returns
 returns c = let a = c .before .before .before .before .before .args in none-put (a .rows) (a .start) (a .w) (a .v) (now (a .out)) (sym (c .enum-told .given .1) ∙ c .before .before .hanging .ensures)
 
-less-requires : tie.Need-less-requires
-less-requires c κs = search needs
-
 put-line-requires : tie.Need-put-line-requires
 put-line-requires c κs = search needs
 
@@ -37,7 +33,7 @@ same-length-2 : tie.Need-same-length-2
 same-length-2 c = search needs
 
 returns-2 : tie.Need-returns-2
-returns-2 c = let a = c .before .before .before .before .before .before .before .before .before .before .before .args in row-put (a .rows) (a .start) (a .w) (a .v) (now (a .out)) (sym (c .before .before .before .before .before .before .parent .given .1) ∙ c .before .before .before .before .before .before .before .before .hanging .ensures) (c .before .before .before .before .less .ensures) (c .before .before .put-line .ensures .0) (c .before .before .put-line .ensures .1)
+returns-2 c = let a = c .before .before .before .before .before .before .before .before .before .before .args in row-put (a .rows) (a .start) (a .w) (a .v) (now (a .out)) (sym (c .before .before .before .before .before .parent .given .1) ∙ c .before .before .before .before .before .before .before .hanging .ensures) (c .before .before .put-line .ensures .0) (c .before .before .put-line .ensures .1)
 
 pub hang-line-spec : {M : Type 1} → statement M
 hang-line-spec =
@@ -48,7 +44,6 @@ hang-line-spec =
     enum-told
     same-length
     returns
-    less-requires
     put-line-requires
     same-length-2
     returns-2)
