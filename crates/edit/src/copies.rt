@@ -39,8 +39,7 @@ fn copy_entry(b: &[u8], k: usize, w: Walk, out: &mut [u8]) -> Walk
         w,
         out,
     );
-    let e = block::entry_of(b, i);
-    filling::put_entry(out, v, e, w.noted, v.noted - w.noted)
+    filling::put_entry(out, w, v, block::entry_of(b, i))
 }
 
 // So many entries from entry k on.

@@ -44,17 +44,18 @@ comment-size c w o =
     by-pick (λ (g : Grown). length (g .buffer) ≡ length o) (hasComment (length c) w (length o)) _ (grown w o)
     (λ _. length-put _ (w .text) c ∙ length-put o (w .comments) (commentRow (w .bytes) c)) (λ _. refl)
 
-pub entry-size : (e : Entry) (first count : ℕ) (w : Walk) (o : List ℕ) → length (putEntry e first count w o .buffer) ≡ length o
+pub entry-size : (e : Entry) (w v : Walk) (o : List ℕ) → length (putEntry e w v o .buffer) ≡ length o
 unfolding putEntry
-entry-size e first count w o =
-    by-pick (λ (g : Grown). length (g .buffer) ≡ length o) (hasEntry w (length o)) _ (grown w o)
-    (λ _. length-put o (w .moves) (entryBytes e (pick (eqb count 0) 0 first) count)) (λ _. refl)
+entry-size e w v o =
+    let n = v .noted - w .noted in
+    by-pick (λ (g : Grown). length (g .buffer) ≡ length o) (hasEntry v (length o)) _ (grown v o)
+    (λ _. length-put o (v .moves) (entryBytes e (pick (eqb n 0) 0 (w .noted)) n)) (λ _. refl)
 
 pub noted-size : (e : Noted) (w : Walk) (o : List ℕ) → length (putNoted e w o .buffer) ≡ length o
 unfolding putNoted
 noted-size e w o =
     let g = putComments (e .comments) w o in
-    entry-size (e .what) (w .noted) (g .walk .noted - w .noted) (g .walk) (g .buffer) ∙ all-size putComment comment-size (e .comments) w o
+    entry-size (e .what) w (g .walk) (g .buffer) ∙ all-size putComment comment-size (e .comments) w o
 
 pub line-size : (start parent : ℕ) (w v : Walk) (o : List ℕ) → length (putLine start parent w v o .buffer) ≡ length o
 unfolding putLine
@@ -91,18 +92,6 @@ pub doing-done : {X : Type 0} {one : X → Walk → List ℕ → Grown} {xs₀ :
     → (w ≡ putAll one xs₀ w₀ o₀ .walk) × (o ≡ putAll one xs₀ w₀ o₀ .buffer)
 unfolding putAll
 doing-done d = (ap (λ (g : Grown). g .walk) (d .same), ap (λ (g : Grown). g .buffer) (d .same))
-
--- ---- comments are counted
-
-comment-more : (c : List ℕ) (w : Walk) (o : List ℕ) → w .noted ≤ putComment c w o .walk .noted
-unfolding putComment
-comment-more c w o =
-    by-pick (λ (g : Grown). w .noted ≤ g .walk .noted) (hasComment (length c) w (length o)) _ (grown w o) (λ _. omega arith) (λ _. omega arith)
-
-pub comments-more : (cs : List (List ℕ)) (w : Walk) (o : List ℕ) → w .noted ≤ putComments cs w o .walk .noted
-unfolding putAll
-comments-more [] w o = omega arith
-comments-more (c ∷ cs) w o = omega (arith, comment-more c w o, comments-more cs (putComment c w o .walk) (putComment c w o .buffer))
 
 -- ---- one comment
 
@@ -250,7 +239,7 @@ module _ (x : Noted) where
 -- ---- put by hand: the comments, and then the entry, whose bytes say how many they are
 
 pub noted-done : (e : Entry) (cs : List (List ℕ)) (w : Walk) (o : List ℕ) {v r : Walk} {o₁ o₂ : List ℕ} {at end : ℕ} → v ≡ putComments cs w o .walk → o₁ ≡ putComments cs w o .buffer
-    → r ≡ putEntry e (w .noted) (v .noted - w .noted) v o₁ .walk → o₂ ≡ putEntry e (w .noted) (v .noted - w .noted) v o₁ .buffer
+    → r ≡ putEntry e w v o₁ .walk → o₂ ≡ putEntry e w v o₁ .buffer
     → at ≡ end → (r ≡ putNoted (record { what = e; comments = cs }) w o .walk) × ((o₂ ≡ putNoted (record { what = e; comments = cs }) w o .buffer) × (at ≡ end))
 unfolding putNoted
 noted-done e cs w o {v} {r} {o₁} {o₂} a b c d f = (c ∙ rw (a, b), (d ∙ rw (a, b), f))

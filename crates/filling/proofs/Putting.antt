@@ -269,20 +269,20 @@ pub entry-room : (w : Walk) (room : ℕ) → hasEntry w room ≡ true → EntryR
 unfolding hasEntry
 entry-room w room e = let (a, b) = pick-both (leb (w .moves + 20) room) _ e in record { row = leb-true _ _ a; number = leb-true _ _ b }
 
-module _ (e : Entry) (first count : ℕ) (w : Walk) (o : List ℕ) where
-  pub entry-none : hasEntry w (length o) ≡ false → (w ≡ putEntry e first count w o .walk) × (o ≡ putEntry e first count w o .buffer)
+module _ (e : Entry) (w v : Walk) (o : List ℕ) where
+  pub entry-none : hasEntry v (length o) ≡ false → (v ≡ putEntry e w v o .walk) × (o ≡ putEntry e w v o .buffer)
   unfolding putEntry
   entry-none n = rw n (refl, refl)
 
-  pub entry-done : {o₁ : List ℕ} {p m : ℕ} {v : Walk} → hasEntry w (length o) ≡ true → m ≡ pick (eqb count 0) 0 first
-      → Stored (fitting (entryBytes e m count) (drop (w .moves) o)) o o₁ (w .moves) p → v ≡ entered w p
-      → (v ≡ putEntry e first count w o .walk) × (o₁ ≡ putEntry e first count w o .buffer)
+  pub entry-done : {o₁ : List ℕ} {p m count : ℕ} {r : Walk} → hasEntry v (length o) ≡ true → count ≡ v .noted - w .noted → m ≡ pick (eqb count 0) 0 (w .noted)
+      → Stored (fitting (entryBytes e m count) (drop (v .moves) o)) o o₁ (v .moves) p → r ≡ entered v p
+      → (r ≡ putEntry e w v o .walk) × (o₁ ≡ putEntry e w v o .buffer)
   unfolding putEntry
-  entry-done {o₁} {p} {m} h q x y =
+  entry-done {o₁} {p} {m} {count} h c q x y =
       let n = entry-length e m count in
-      let x₁ = stored-all {t = entryBytes e m count} (omega (arith, n, entry-room w (length o) h .row)) x in
-      let z : p ≡ w .moves + 20 = omega (arith, x₁ .end, n) in
-      rw (h, ← q) (y ∙ ap (entered w) z, x₁ .bytes)
+      let x₁ = stored-all {t = entryBytes e m count} (omega (arith, n, entry-room v (length o) h .row)) x in
+      let z : p ≡ v .moves + 20 = omega (arith, x₁ .end, n) in
+      rw (h, ← c, ← q) (y ∙ ap (entered v) z, x₁ .bytes)
 
 -- ---- a line's row
 

@@ -196,12 +196,13 @@ entered w moves =
       bytes = w .bytes;
     }
 
--- An entry at the end of the entries, with its first comment and how many it has.                   (01, The block: move entry)
-unfoldable pub putEntry : Entry → ℕ → ℕ → Walk → List ℕ → Grown
-putEntry e first count w o =
-    pick (hasEntry w (length o))
-    (grown (entered w (w .moves + 20)) (put o (w .moves) (entryBytes e (pick (eqb count 0) 0 first) count)))
-    (grown w o)
+-- The entry whose comments were put between w and v, at the end of the entries.                      (01, The block: move entry)
+unfoldable pub putEntry : Entry → Walk → Walk → List ℕ → Grown
+putEntry e w v o =
+    let count = v .noted - w .noted in
+    pick (hasEntry v (length o))
+    (grown (entered v (v .moves + 20)) (put o (v .moves) (entryBytes e (pick (eqb count 0) 0 (w .noted)) count)))
+    (grown v o)
 
 -- ---- a line, hung on those before it                                                              (01, Attaching rule)
 
@@ -231,7 +232,7 @@ putComments = putAll putComment
 -- An entry with its comments: these first, since its bytes say how many they are.
 unfoldable pub putNoted : Noted → Walk → List ℕ → Grown
 putNoted e w o =
-    let g = putComments (e .comments) w o in putEntry (e .what) (w .noted) (g .walk .noted - w .noted) (g .walk) (g .buffer)
+    let g = putComments (e .comments) w o in putEntry (e .what) w (g .walk) (g .buffer)
 
 abbrev pub putEntries : List Noted → Walk → List ℕ → Grown
 putEntries = putAll putNoted

@@ -12,7 +12,6 @@ pub use puts::put_comment;
 pub use puts::put_entry;
 pub use puts::put_header;
 pub use puts::put_line;
-pub use puts::put_slot;
 
 // How many header entries, lines, entries and comments a block has, and how many bytes of text.
 pub struct Sizes {

@@ -167,29 +167,15 @@ fn entered(w: Walk, moves: usize) -> Walk
     }
 }
 
-// An entry where the entries end, with the number of its first comment and how many it has.
-pub fn put_entry(out: &mut [u8], w: Walk, e: Entry, first: usize, count: usize) -> Walk
-    ensures { λ r. ⌜ r ≡ putEntry e first count w (now (out .entry)) .walk ⌝ }
-    ensures { λ r. ⌜ now (out .exit) ≡ putEntry e first count w (now (out .entry)) .buffer ⌝ }
+// The entry whose comments were put between w and v, where the entries end.
+pub fn put_entry(out: &mut [u8], w: Walk, v: Walk, e: Entry) -> Walk
+    ensures { λ r. ⌜ r ≡ putEntry e w v (now (out .entry)) .walk ⌝ }
+    ensures { λ r. ⌜ now (out .exit) ≡ putEntry e w v (now (out .entry)) .buffer ⌝ }
 {
-    if !has_entry(w, out.len()) {
-        return w;
+    if !has_entry(v, out.len()) {
+        return v;
     }
-    let first = first_comment(first, count);
-    entered(w, block::put_entry_row(out, w.moves, e, first, count))
-}
-
-// The slot likewise; apart from put_entry, so that the bytes of an entry are not compiled into each of its callers.
-pub fn put_slot(out: &mut [u8], w: Walk, first: usize, count: usize) -> Walk
-    ensures { λ r. ⌜ r ≡ putEntry Entry.Slot first count w (now (out .entry)) .walk ⌝ }
-    ensures { λ r. ⌜ now (out .exit) ≡ putEntry Entry.Slot first count w (now (out .entry)) .buffer ⌝ }
-{
-    if !has_entry(w, out.len()) {
-        return w;
-    }
-    let first = first_comment(first, count);
-    entered(
-        w,
-        block::put_entry_row(out, w.moves, Entry::Slot, first, count),
-    )
+    let count = less(v.noted, w.noted);
+    let first = first_comment(w.noted, count);
+    entered(v, block::put_entry_row(out, v.moves, e, first, count))
 }

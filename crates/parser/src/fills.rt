@@ -2,6 +2,7 @@
 use crate::Hanging;
 use filling::Hooked;
 use filling::Walk;
+use jkf::Entry;
 use plays::FilledPlay;
 use text::Cursor;
 ghost use mathlib.Core.Path.{_≡_};
@@ -20,7 +21,7 @@ fn fill_main(s: &[u8], c: Cursor, w: Walk, out: &mut [u8]) -> FilledPlay
     ensures { λ r. ⌜ r .next .at ≡ pastMain (now (s .entry)) (slotAt (now (s .entry)) (c .at) .at) ⌝ }
     ensures { λ r. ⌜ r .lost ≡ lostFrom (now (s .entry)) (slotAt (now (s .entry)) (c .at) .at) ⌝ }
 {
-    let slot = plays::fill_slot(s, plays::skipped(c, s), w, out);
+    let slot = plays::fill_noted(s, Entry::Slot, plays::skipped(c, s), w, out);
     let u = slot.walk;
     let line = plays::fill_moves(s, slot.next, u, out);
     let v = line.walk;

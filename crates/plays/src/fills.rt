@@ -34,28 +34,14 @@ fn fill_comments(s: &[u8], c: Cursor, w: Walk, out: &mut [u8]) -> Reached
 }
 
 // An entry with the comments from a place on: these first, since its bytes say how many they are.
-fn fill_noted(s: &[u8], e: Entry, c: Cursor, w: Walk, out: &mut [u8]) -> Reached
+pub fn fill_noted(s: &[u8], e: Entry, c: Cursor, w: Walk, out: &mut [u8]) -> Reached
     ensures { λ r. ⌜ r .walk ≡ putNoted (noted e (commentsAt (now (s .entry)) (c .at) .state)) w (now (out .entry)) .walk ⌝ }
     ensures { λ r. ⌜ now (out .exit) ≡ putNoted (noted e (commentsAt (now (s .entry)) (c .at) .state)) w (now (out .entry)) .buffer ⌝ }
     ensures { λ r. ⌜ r .next .at ≡ commentsAt (now (s .entry)) (c .at) .at ⌝ }
 {
     let comments = fill_comments(s, c, w, out);
-    let v = comments.walk;
     let next = comments.next;
-    let walk = filling::put_entry(out, v, e, w.noted, v.noted - w.noted);
-    Reached { walk, next }
-}
-
-// The slot with its comments; apart from fill_noted, which so has one caller and is compiled into its loop.
-pub fn fill_slot(s: &[u8], c: Cursor, w: Walk, out: &mut [u8]) -> Reached
-    ensures { λ r. ⌜ r .walk ≡ putNoted (noted Entry.Slot (commentsAt (now (s .entry)) (c .at) .state)) w (now (out .entry)) .walk ⌝ }
-    ensures { λ r. ⌜ now (out .exit) ≡ putNoted (noted Entry.Slot (commentsAt (now (s .entry)) (c .at) .state)) w (now (out .entry)) .buffer ⌝ }
-    ensures { λ r. ⌜ r .next .at ≡ commentsAt (now (s .entry)) (c .at) .at ⌝ }
-{
-    let comments = fill_comments(s, c, w, out);
-    let v = comments.walk;
-    let next = comments.next;
-    let walk = filling::put_slot(out, v, w.noted, v.noted - w.noted);
+    let walk = filling::put_entry(out, w, comments.walk, e);
     Reached { walk, next }
 }
 

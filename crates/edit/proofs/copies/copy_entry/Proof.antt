@@ -1,10 +1,6 @@
 -- The comments first, and then the entry.
 -- Assumes nothing.
 use native.Mathlib.Omega.{arith}
-use mathlib.Core.Path.{ap}
-use Rattle.block.specs.Decode.{run, commentOf}
-use Rattle.filling.specs.declared.Walk.{Walk}
-use Rattle.filling.proofs.Growing.{comments-more}
 use Rattle.block.proofs.Within.{comments-within, comments-small}
 use Rattle.edit.proofs.Copied.{noted-copied}
 use borrow.Author.Needs.{needs}
@@ -26,9 +22,6 @@ copy-comments-requires c κs = let a = c .before .before .before .before .before
 entry-of-requires : tie.Need-entry-of-requires
 entry-of-requires c κs = search needs
 
-sub-put-entry : tie.Need-sub-put-entry
-sub-put-entry c = let a = c .before .before .before .before .before .before .before .before .before .before .before .before .args in let f = c .before .before .before .before .before .before .before .before .before .first-comment in let n = c .before .before .before .before .before .before .before .before .comment-count in omega (arith, ap (λ (v : Walk). v .noted) (c .before .before .before .before .before .before .copy-comments .ensures .0), comments-more (run (commentOf (a .b .now)) (f .result) (n .result)) (a .w) (a .out .now))
-
 put-entry-requires : tie.Need-put-entry-requires
 put-entry-requires c κs = search needs
 
@@ -36,7 +29,11 @@ same-length : tie.Need-same-length
 same-length c = search needs
 
 returns : tie.Need-returns
-returns c = let a = c .before .before .before .before .before .before .before .before .before .before .before .before .before .before .before .args in let v = c .before .before .before .before .before .before .before .before .before .copy-comments .ensures in let p = c .before .before .put-entry .ensures in noted-copied (a .b .now) (a .k) (a .w) (a .out .now) (c .before .before .before .before .before .before .before .before .before .before .before .before .first-comment .ensures .0) (c .before .before .before .before .before .before .before .before .before .before .before .comment-count .ensures .0) (v .0) (v .1) (c .before .before .before .before .before .before .entry-of .ensures) (p .0) (p .1)
+returns c =
+    let a = c .before .before .before .before .before .before .before .before .before .before .before .before .before .args in
+    let v = c .before .before .before .before .before .before .before .copy-comments .ensures in
+    let p = c .before .before .put-entry .ensures in
+    noted-copied (a .b .now) (a .k) (a .w) (a .out .now) (c .before .before .before .before .before .before .before .before .before .before .first-comment .ensures .0) (c .before .before .before .before .before .before .before .before .before .comment-count .ensures .0) (v .0) (v .1) (c .before .before .before .entry-of .ensures) (p .0) (p .1)
 
 pub copy-entry-spec : {M : Type 1} → statement M
 copy-entry-spec =
@@ -47,7 +44,6 @@ copy-entry-spec =
     comment-count-requires
     copy-comments-requires
     entry-of-requires
-    sub-put-entry
     put-entry-requires
     same-length
     returns)

@@ -11,7 +11,10 @@ has-entry-requires : tie.Need-has-entry-requires
 has-entry-requires c κs = search needs
 
 returns : tie.Need-returns
-returns c = let a = c .before .before .before .args in entry-none (a .e) (a .first) (a .count) (a .w) (a .out .now) (sym (c .before .has-entry .ensures) ∙ not-true _ (c .if1 .taken))
+returns c = let a = c .before .before .before .args in entry-none (a .e) (a .w) (a .v) (a .out .now) (sym (c .before .has-entry .ensures) ∙ not-true _ (c .if1 .taken))
+
+less-requires : tie.Need-less-requires
+less-requires c κs = search needs
 
 first-comment-requires : tie.Need-first-comment-requires
 first-comment-requires c κs = search needs
@@ -20,15 +23,15 @@ put-entry-row-requires : tie.Need-put-entry-row-requires
 put-entry-row-requires c κs = search needs
 
 entered-requires : tie.Need-entered-requires
-entered-requires c κs = entry-room _ _ (sym (c .before .before .before .before .before .before .has-entry .ensures) ∙ not-false _ (c .before .before .before .before .before .if1 .left)) .number
+entered-requires c κs = entry-room _ _ (sym (c .before .before .before .before .before .before .before .has-entry .ensures) ∙ not-false _ (c .before .before .before .before .before .before .if1 .left)) .number
 
 same-length : tie.Need-same-length
 same-length c = search needs
 
 returns-2 : tie.Need-returns-2
 returns-2 c =
-    let a = c .before .before .before .before .before .before .before .before .before .args in
-    entry-done (a .e) (a .first) (a .count) (a .w) (a .out .now) (sym (c .before .before .before .before .before .before .before .has-entry .ensures) ∙ not-false _ (c .before .before .before .before .before .before .if1 .left))
+    let a = c .before .before .before .before .before .before .before .before .before .before .args in
+    entry-done (a .e) (a .w) (a .v) (a .out .now) (sym (c .before .before .before .before .before .before .before .before .has-entry .ensures) ∙ not-false _ (c .before .before .before .before .before .before .before .if1 .left)) (c .before .before .before .before .before .before .less .ensures)
     (c .before .before .before .before .before .first-comment .ensures) (c .before .before .before .put-entry-row .ensures) (c .entered .ensures)
 
 pub put-entry-spec : {M : Type 1} → statement M
@@ -37,6 +40,7 @@ put-entry-spec =
     (tie.spec
     has-entry-requires
     returns
+    less-requires
     first-comment-requires
     put-entry-row-requires
     entered-requires

@@ -1,19 +1,13 @@
 -- The comments first, and then the entry, whose bytes say how many they are.
 -- Assumes nothing.
 use Rattle.plays.specs.Plays.{commentsAt}
-use Rattle.filling.proofs.Growing.{comments-more, noted-done}
-use Rattle.filling.specs.declared.Walk.{Walk}
-use mathlib.Core.Path.{ap}
-use native.Mathlib.Omega.{arith}
+use Rattle.filling.proofs.Growing.{noted-done}
 use borrow.Author.Needs.{needs}
 use Rattle.plays.proofs.fills.fill_noted.Statement.{statement}
 use Rattle.plays.proofs.fills.fill_noted.Tie as tie
 
 fill-comments-requires : tie.Need-fill-comments-requires
 fill-comments-requires c κs = search needs
-
-sub-put-entry : tie.Need-sub-put-entry
-sub-put-entry c = let a = c .before .before .before .before .before .before .before .before .before .before .before .args in omega (arith, ap (λ (w : Walk). w .noted) (c .before .before .before .before .before .before .before .fill-comments .ensures .0), comments-more (commentsAt (a .s .now) (a .c .at) .state) (a .w) (a .out .now))
 
 put-entry-requires : tie.Need-put-entry-requires
 put-entry-requires c κs = search needs
@@ -22,9 +16,13 @@ same-length : tie.Need-same-length
 same-length c = search needs
 
 returns : tie.Need-returns
-returns c = let a = c .before .before .before .before .before .before .before .before .before .before .before .before .before .before .args in let f = c .before .before .before .before .before .before .before .before .before .before .fill-comments .ensures in let p = c .before .before .put-entry .ensures in noted-done (a .e) (commentsAt (a .s .now) (a .c .at) .state) (a .w) (a .out .now) (f .0) (f .1 .0) (p .0) (p .1) (f .1 .1)
+returns c =
+    let a = c .before .before .before .before .before .before .before .before .before .before .before .args in
+    let f = c .before .before .before .before .before .before .before .fill-comments .ensures in
+    let p = c .before .before .put-entry .ensures in
+    noted-done (a .e) (commentsAt (a .s .now) (a .c .at) .state) (a .w) (a .out .now) (f .0) (f .1 .0) (p .0) (p .1) (f .1 .1)
 
 pub fill-noted-spec : {M : Type 1} → statement M
 fill-noted-spec =
     tie.close
-    (tie.spec fill-comments-requires sub-put-entry put-entry-requires same-length returns)
+    (tie.spec fill-comments-requires put-entry-requires same-length returns)
