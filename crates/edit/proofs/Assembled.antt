@@ -3,7 +3,7 @@
 use Prim.Native.Nat.{ℕ, zero, suc, _+_, _-_, _≤_}
 use native.Mathlib.Omega.{arith}
 use mathlib.Core.Path.{_≡_, refl, sym, ap, ap₂, _∙_, subst}
-use mathlib.Core.List.{List, _++_, map}
+use mathlib.Core.List.{List, [], _++_, map}
 use mathlib.Core.Bool.{true}
 use lib.Dec.{ltb}
 use borrow.Author.Tests.{ltb-false}
@@ -25,22 +25,20 @@ use Rattle.block.proofs.Sums.{sum-none, sum-suc}
 use Rattle.block.proofs.Tabling.{length-run, run-snoc, concat-snoc, concat-none, map-run}
 use Rattle.block.proofs.Lengths.{block-length}
 use Rattle.block.proofs.Within.{key-length, value-length}
-use Rattle.filling.specs.inner.Parts.{Opens}
 use Rattle.filling.specs.Filling.{unlessRefused, atFront, areSmall, lengthOf, opening, opened, Grown}
-use Rattle.filling.specs.inner.Parts.{sizesOf, onOpening, putHeaders}
+use Rattle.filling.specs.inner.Parts.{sizesOf, Opens}
 use Rattle.filling.specs.declared.Sizes.{Sizes}
 use Rattle.filling.specs.declared.Walk.{Walk}
-use Rattle.filling.specs.declared.Opening.{Opening}
 use Rattle.filling.specs.declared.Opening.the-variants.{Begun, Refused}
 use Rattle.filling.proofs.Growing.{all-then}
-use Rattle.filling.proofs.Putting.{length-is, not-begun, begun-walk, begun-total, opens, refuses, unrefused}
+use Rattle.filling.proofs.Putting.{length-is, opens, refuses, unrefused}
 use Rattle.filling.proofs.Wholes.{opened-lines, opened-block}
-use Rattle.edit.specs.inner.Splicing.{shifted, relined, linesAfter, recordAfter, putWhole, putWholes, entriesAfter, addedSizes, sizesAfter, headersPut, beginning, beginningOf}
+use Rattle.edit.specs.inner.Splicing.{shifted, relined, linesAfter, recordAfter, putWhole, putWholes, entriesAfter, sizesAfter, headersPut}
 use Rattle.edit.specs.Edit.{reparented}
 use Rattle.edit.specs.Outcomes.{editStored}
 use Rattle.edit.proofs.Hung.{lines-put}
 use Rattle.edit.proofs.Runs.{moved, after-is, after-length, entries-after}
-use Rattle.edit.proofs.Measured.{entries-three, comments-three, bytes-three, sizes-same}
+use Rattle.edit.proofs.Measured.{entries-three, comments-three, bytes-three, no-text, sizes-same}
 
 -- ---- the header entries of a sound block
 
@@ -56,23 +54,6 @@ module _ (b : List ℕ) (s : Sound b) where
       ap (λ (l : List Header). length (headerText l)) (run-snoc (headerIn b) n)
       ∙ ap length (concat-snoc (λ (x : Header). x .key ++ x .value) hs (headerIn b n)) ∙ length-append (headerText hs) (key ++ value) in
       omega (arith, e, length-append key value, key-length b s n (omega arith), value-length b s n (omega arith), texts-long n (omega arith), sum-suc (λ k. keyLength b k + valueLength b k) n)
-
--- ---- a block that lacks its lines
-
-module _ (version : ℕ) (b o : List ℕ) {z y : Sizes} (sized : z ≡ y) {p : Position} (at : p ≡ positionIn (drop 28 b)) {o₁ : List ℕ} (left : o₁ ≡ opened version z p o) where
-  left-is : o₁ ≡ opened version y (positionIn (drop 28 b)) o
-  left-is = left ∙ ap₂ (λ (c : Sizes) (d : Position). opened version c d o) sized at
-
-  pub begins-not : {a : Answer} → Refused a ≡ opening z (length o) → (Refused a ≡ beginning version b y o) × (o₁ ≡ beginningOf version b y o)
-  unfolding beginning beginningOf
-  begins-not {a} e = rw (← (e ∙ ap (λ (c : Sizes). opening c (length o)) sized)) (refl, left-is)
-
-  pub begins : {w v : Walk} {n : ℕ} {o₂ : List ℕ} → Begun w n ≡ opening z (length o) → v ≡ headersPut b w o₁ .walk → o₂ ≡ headersPut b w o₁ .buffer
-      → (Begun v n ≡ beginning version b y o) × (o₂ ≡ beginningOf version b y o)
-  unfolding beginning beginningOf
-  begins {w} {v} {n} {o₂} e f g =
-      rw (← (e ∙ ap (λ (c : Sizes). opening c (length o)) sized))
-      (ap (λ (c : Walk). Begun c n) (f ∙ ap (λ (l : List ℕ). headersPut b w l .walk) left-is), g ∙ ap (λ (l : List ℕ). headersPut b w l .buffer) left-is)
 
 -- ---- the block of the edited record
 
@@ -102,7 +83,7 @@ module _ (version : ℕ) (b : List ℕ) (s : Sound b) (p q : ℕ) (vs : List Lin
   entries-are = entries-after b s p q vs (within .0) (within .1)
 
   -- it has the sizes that were reckoned
-  sizes-are : sizesAfter b p q (addedSizes vs) ≡ sizesOf hd ls
+  sizes-are : sizesAfter b p q (sizesOf [] vs) ≡ sizesOf hd ls
   sizes-are =
       let front = run (notedIn b) 0 (entriesBefore b p) in
       let back = run (notedIn b) (entriesBefore b q) (movesIn b - entriesBefore b q) in
@@ -112,15 +93,13 @@ module _ (version : ℕ) (b : List ℕ) (s : Sound b) (p q : ℕ) (vs : List Lin
       let n : entriesBefore b p + length own + (movesIn b - entriesBefore b q) ≡ length (entriesOf ls) =
       omega (arith, ap length entries-are, entries-three front own back, length-run (notedIn b) 0 (entriesBefore b p), length-run (notedIn b) (entriesBefore b q) (movesIn b - entriesBefore b q)) in
       let c = sym (ap (λ (es : List Noted). length (commentsOf es)) entries-are ∙ comments-three front own back) in
-      let t = sym (ap (λ (es : List Noted). length (commentText (commentsOf es))) entries-are ∙ bytes-three front own back) in
-      sizes-same h l n c (ap₂ _+_ (texts-long b s (headersIn b) (omega arith)) t)
+      let t = ap (λ (es : List Noted). length (commentText (commentsOf es))) entries-are ∙ bytes-three front own back in
+      sizes-same h l n c (omega (arith, no-text, texts-long b s (headersIn b) (omega arith), t))
 
-  module _ {added : Sizes} (counted : added ≡ addedSizes vs) (small : areSmall (sizesAfter b p q added) ≡ true) (second : ℕ) (o : List ℕ) where
-    abbrev z : Sizes
-    z = sizesAfter b p q added
-
+  module _ {added z : Sizes} (counted : added ≡ sizesOf [] vs) (found : z ≡ sizesAfter b p q added) (small : areSmall z ≡ true) {here : Position} (placed : here ≡ start)
+      (second : ℕ) (o : List ℕ) where
     sized : z ≡ sizesOf hd ls
-    sized = ap (sizesAfter b p q) counted ∙ sizes-are
+    sized = found ∙ ap (sizesAfter b p q) counted ∙ sizes-are
 
     block-long : lengthOf z ≡ length block
     unfolding relined decode
@@ -132,64 +111,31 @@ module _ (version : ℕ) (b : List ℕ) (s : Sound b) (p q : ℕ) (vs : List Lin
         whole : sizeOf z ≡ sizeOf (sizesOf hd ls)
         whole = ap sizeOf sized
 
+    abbrev done : Outcome
+    done = record { answer = Done (length block) second; buffer = atFront block o }
+
     -- refused
-    pub refused-stored : {a : Answer} {o₁ : List ℕ} → Refused a ≡ beginning version b z o → o₁ ≡ beginningOf version b z o
+    pub refused-stored : {a : Answer} {o₁ : List ℕ} → Refused a ≡ opening z (length o) → o₁ ≡ opened version z here o
         → (a ≡ editStored block second o .answer) × (o₁ ≡ editStored block second o .buffer)
-    unfolding beginning beginningOf editStored
-    refused-stored {a} {o₁} e f = go (opening z (length o)) refl e f
-      where
-        done : Outcome
-        done = record { answer = Done (length block) second; buffer = atFront block o }
+    unfolding editStored
+    refused-stored {a} {o₁} e f =
+        subst (λ (n : ℕ). (a ≡ unlessRefused n o done .answer) × (o₁ ≡ unlessRefused n o done .buffer)) block-long (refuses version z here o e f done)
 
-        go : (r : Opening) → opening z (length o) ≡ r → Refused a ≡ onOpening r (λ w n. Begun (headersPut b w (opened version z start o) .walk) n) (λ c. Refused c)
-            → o₁ ≡ onOpening r (λ w n. headersPut b w (opened version z start o) .buffer) (λ c. opened version z start o)
-            → (a ≡ unlessRefused (length block) o done .answer) × (o₁ ≡ unlessRefused (length block) o done .buffer)
-        go (Begun w n) k x y = not-begun (sym x)
-        go (Refused c) k x y =
-            subst (λ (n : ℕ). (a ≡ unlessRefused n o done .answer) × (o₁ ≡ unlessRefused n o done .buffer)) block-long
-            (refuses version z start o (x ∙ sym k) y done)
-
-    -- or begun
-    module _ {w : Walk} {n : ℕ} {o₁ : List ℕ} (e : Begun w n ≡ beginning version b z o) (f : o₁ ≡ beginningOf version b z o) where
-      -- it was opened, and its header entries were put
-      record Ready : Type 0 where
-        walk : Walk
-        buffer : List ℕ
-        opens-so : Opens version (sizesOf hd ls) start walk n o buffer
-        walk-is : w ≡ putHeaders hd walk buffer .walk
-        buffer-is : o₁ ≡ putHeaders hd walk buffer .buffer
-
-      ready : Ready
-      unfolding beginning beginningOf
-      ready = go (opening z (length o)) refl e f
-        where
-          go : (r : Opening) → opening z (length o) ≡ r → Begun w n ≡ onOpening r (λ v m. Begun (headersPut b v (opened version z start o) .walk) m) (λ c. Refused c)
-              → o₁ ≡ onOpening r (λ v m. headersPut b v (opened version z start o) .buffer) (λ c. opened version z start o) → Ready
-          go (Refused c) k x y = not-begun x
-          go (Begun v m) k x y =
-              let t = subst (λ (c : Sizes). Opens version c start v m o (opened version z start o)) sized (opens version z start o (sym k) refl) in
-              record {
-                walk = v;
-                buffer = opened version z start o;
-                opens-so = subst (λ (c : ℕ). Opens version (sizesOf hd ls) start v c o (opened version z start o)) (sym (begun-total x)) t;
-                walk-is = begun-walk x;
-                buffer-is = y;
-              }
-
-      -- and its lines filled in
-      pub begun-stored : {o₂ : List ℕ} → o₂ ≡ putWholes ls w o₁ .buffer
-          → (Done n second ≡ editStored block second o .answer) × (o₂ ≡ editStored block second o .buffer)
-      unfolding editStored
-      begun-stored d =
-          let t = ready .opens-so in
-          let done : Outcome = record { answer = Done (length block) second; buffer = atFront block o } in
-          let long : lengthOf (sizesOf hd ls) ≡ length block = ap lengthOf (sym sized) ∙ block-long in
-          let room = opened-lines version start hd ls (position-long b) t (ready .walk-is) (ready .buffer-is) in
-          let last = opened-block version start hd ls (position-long b) t (ready .walk-is) (ready .buffer-is) (d ∙ lines-put ls w o₁ room) in
-          let fits = unrefused (length block) o done (omega (arith, long, t .short)) (omega (arith, long, t .room)) in (
-            ap (λ (c : ℕ). Done c second) (t .total ∙ long) ∙ ap (λ (c : Outcome). c .answer) (sym fits),
-            last ∙ ap₂ _++_ block-is (ap (λ (c : ℕ). drop c o) long) ∙ ap (λ (c : Outcome). c .buffer) (sym fits),
-          )
+    -- or begun, its header entries put, and then its lines
+    pub begun-stored : {w v : Walk} {n : ℕ} {o₁ o₂ o₃ : List ℕ} → Begun w n ≡ opening z (length o) → o₁ ≡ opened version z here o
+        → v ≡ headersPut b w o₁ .walk → o₂ ≡ headersPut b w o₁ .buffer → o₃ ≡ putWholes ls v o₂ .buffer
+        → (Done n second ≡ editStored block second o .answer) × (o₃ ≡ editStored block second o .buffer)
+    unfolding editStored
+    begun-stored {w} {v} {n} {o₁} {o₂} e f g h d =
+        let t : Opens version (sizesOf hd ls) start w n o o₁ =
+        subst (λ (x : Position). Opens version (sizesOf hd ls) x w n o o₁) placed (subst (λ (y : Sizes). Opens version y here w n o o₁) sized (opens version z here o e f)) in
+        let long : lengthOf (sizesOf hd ls) ≡ length block = ap lengthOf (sym sized) ∙ block-long in
+        let room = opened-lines version start hd ls (position-long b) t g h in
+        let last = opened-block version start hd ls (position-long b) t g h (d ∙ lines-put ls v o₂ room) in
+        let fits = unrefused (length block) o done (omega (arith, long, t .short)) (omega (arith, long, t .room)) in (
+          ap (λ (c : ℕ). Done c second) (t .total ∙ long) ∙ ap (λ (c : Outcome). c .answer) (sym fits),
+          last ∙ ap₂ _++_ block-is (ap (λ (c : ℕ). drop c o) long) ∙ ap (λ (c : Outcome). c .buffer) (sym fits),
+        )
 
 -- it keeps the buffer's length
 pub stored-size : (block : List ℕ) (second : ℕ) (o : List ℕ) → length (editStored block second o .buffer) ≡ length o

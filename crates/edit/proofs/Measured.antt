@@ -1,15 +1,17 @@
 -- The sizes of an edited block, counted part by part: the entries before line p, the new ones, and those from line q on.
 -- Assumes nothing.
 use Prim.Native.Nat.{ℕ, _+_, _-_, _≤_}
+use native.Mathlib.Nat.{zero-add}
 use native.Mathlib.Omega.{arith}
 use mathlib.Core.Path.{_≡_, refl, sym, ap, _∙_}
 use mathlib.Core.List.{List, [], _∷_, _++_, append-nil}
 use lib.ListN.{length, length-append}
 use Rattle.lists.specs.Repeat.{Ended}
 use Rattle.jkf.specs.Model.{Noted}
-use Rattle.block.specs.Encode.{concat, commentsOf, commentText}
+use Rattle.block.specs.Encode.{concat, headerText, commentsOf, commentText}
 use Rattle.block.specs.Decode.{headersIn, linesIn, movesIn}
 use Rattle.block.specs.Sound.{headerBytes, entriesBefore}
+use Rattle.filling.specs.inner.Parts.{sizesOf}
 use Rattle.filling.specs.declared.Sizes.{Sizes}
 use Rattle.filling.proofs.Texts.{commented, written}
 use Rattle.plays.specs.Plays.{entriesAt, sequenceAt, plyAt}
@@ -18,7 +20,7 @@ use Rattle.plays.specs.declared.Extent.{Extent}
 use Rattle.edit.specs.Edit.{variationOf, lineOn}
 use Rattle.edit.specs.declared.Added.{Added}
 use Rattle.edit.specs.declared.Added.the-variants.{Nothing, Variation}
-use Rattle.edit.specs.inner.Splicing.{numberedIn, newLines, Counted, commentsWithin, bytesWithin, addedSizes, sizesAfter}
+use Rattle.edit.specs.inner.Splicing.{numberedIn, newLines, Counted, commentsWithin, bytesWithin, sizesAfter}
 use Rattle.edit.proofs.Texts.{text-small}
 
 -- ---- three lists of entries, one after the other
@@ -63,26 +65,28 @@ extent-small t x is h =
     let r = entriesAt t 0 in
     (omega (arith, a .0, entries-are r is), omega (arith, a .1, comments-are r is), omega (arith, a .2, bytes-are r is))
 
+pub no-text : length (headerText []) ≡ 0
+unfolding concat
+no-text = refl
+
 -- the line of a text, counted
 pub added-one : (k : ℕ) (t : List ℕ) {x : Extent} → x ≡ extentAt t 0
-    → record { headers = 0; lines = 1; entries = x .entries; comments = x .comments; bytes = x .bytes } ≡ addedSizes (lineOn k (variationOf t) ∷ [])
+    → record { headers = 0; lines = 1; entries = x .entries; comments = x .comments; bytes = x .bytes } ≡ sizesOf [] (lineOn k (variationOf t) ∷ [])
 unfolding concat
 added-one k t {x} e =
     let own : entriesAt t 0 .state ++ [] ≡ entriesAt t 0 .state = append-nil (entriesAt t 0 .state) in
-    let r = entriesAt t 0 in rw (entries-are r e, comments-are r e, bytes-are r e, own)
+    let r = entriesAt t 0 in rw (entries-are r e, comments-are r e, bytes-are r e, own) (simp zero-add)
 
 -- no line, counted
-pub added-none : record { headers = 0; lines = 0; entries = 0; comments = 0; bytes = 0 } ≡ addedSizes []
+pub added-none : record { headers = 0; lines = 0; entries = 0; comments = 0; bytes = 0 } ≡ sizesOf [] []
 unfolding concat
 added-none = refl
 
 -- whatever is put in
 module _ (t : List ℕ) {z : Sizes} where
-  pub added-small : (a : Added) → Counted a t → z ≡ addedSizes (newLines a t) → (z .lines ≤ 65535) × (z .entries ≤ 65535) × (z .comments ≤ 65535) × (z .bytes ≤ 65535)
-  added-small Nothing c e = rw (e ∙ sym added-none) (omega arith, omega arith, omega arith, omega arith)
-  added-small (Variation k ply x) c e =
-      let n = extent-small t x (c .1) (c .2) in
-      rw (e ∙ sym (added-one k t (c .1))) (omega arith, n .0, n .1, n .2)
+  pub added-small : (a : Added) → Counted a t → z ≡ sizesOf [] (newLines a t) → (z .entries ≤ 65535) × (z .comments ≤ 65535) × (z .bytes ≤ 65535)
+  added-small Nothing c e = rw (e ∙ sym added-none) (omega arith, omega arith, omega arith)
+  added-small (Variation k ply x) c e = rw (e ∙ sym (added-one k t (c .1))) (extent-small t x (c .1) (c .2))
 
 -- ---- all
 

@@ -1,14 +1,15 @@
 // Lines put into a block one after another: the entries of a line, and then its row.
 use crate::Added;
 use crate::copies::copy_entries;
+use filling::Sizes;
 use filling::Walk;
 use text::Cursor;
 ghost use mathlib.Core.Path.{_≡_};
-ghost use mathlib.Core.List.{List, map};
+ghost use mathlib.Core.List.{List, [], map};
 ghost use Prim.Native.Nat.{ℕ, _+_, _≤_, _<_};
-ghost use lib.ListN.{length};
 ghost use Rattle.block.specs.Decode.{run, linesIn, lineIn};
 ghost use Rattle.block.specs.inner.Sounds.{Sound};
+ghost use Rattle.filling.specs.inner.Parts.{sizesOf};
 ghost use Rattle.plays.specs.Plays.{plyAt};
 ghost use Rattle.edit.specs.Edit.{reparented, variationOf, lineOn};
 ghost use Rattle.edit.specs.inner.Splicing.{newLines, Counted, shifted, linesAfter, putWhole, putWholes};
@@ -86,13 +87,25 @@ fn put_added(t: &[u8], a: Added, w: Walk, out: &mut [u8]) -> Walk
     }
 }
 
-// How many new lines there are.
-fn lines_added(a: Added) -> usize
-    ensures { λ r. ⌜ (r ≤ 1) × ((t : List ℕ) → r ≡ length (newLines a t)) ⌝ }
+// How large the new lines are.
+pub(crate) fn sizes_added(a: Added) -> Sizes
+    ensures { λ r. ⌜ (r .lines ≤ 1) × ((t : List ℕ) → Counted a t → r ≡ sizesOf [] (newLines a t)) ⌝ }
 {
     match a {
-        Added::Nothing => 0,
-        Added::Variation(_, _, _) => 1,
+        Added::Nothing => Sizes {
+            headers: 0,
+            lines: 0,
+            entries: 0,
+            comments: 0,
+            bytes: 0,
+        },
+        Added::Variation(_, _, x) => Sizes {
+            headers: 0,
+            lines: 1,
+            entries: x.entries,
+            comments: x.comments,
+            bytes: x.bytes,
+        },
     }
 }
 
@@ -104,7 +117,7 @@ pub(crate) fn put_lines(b: &[u8], p: usize, q: usize, t: &[u8], a: Added, w: Wal
     let x = Splice {
         p,
         q,
-        added: lines_added(a),
+        added: sizes_added(a).lines,
     };
     let v = copy_lines(b, 0, p, x, w, out);
     let u = put_added(t, a, v, out);

@@ -3,19 +3,19 @@ use crate::Added;
 use crate::copies::copy_headers;
 use crate::copies::count_entries;
 use crate::lines::put_lines;
+use crate::lines::sizes_added;
 use filling::Opening;
 use filling::Sizes;
 use jkf::Answer;
 ghost use mathlib.Core.Path.{_≡_};
 ghost use mathlib.Core.Bool.{true};
-ghost use mathlib.Core.List.{List};
-ghost use Prim.Native.Nat.{ℕ, _+_, _≤_};
+ghost use Prim.Native.Nat.{_+_, _≤_};
 ghost use Rattle.block.specs.Encode.{encode};
 ghost use Rattle.block.specs.Decode.{linesIn, movesIn};
 ghost use Rattle.block.specs.inner.Sounds.{Sound};
 ghost use Rattle.block.specs.Sound.{entriesBefore};
 ghost use Rattle.filling.specs.Filling.{areSmall};
-ghost use Rattle.edit.specs.inner.Splicing.{newLines, Counted, addedSizes, recordAfter, sizesAfter, beginning, beginningOf};
+ghost use Rattle.edit.specs.inner.Splicing.{newLines, Counted, recordAfter, sizesAfter};
 ghost use Rattle.edit.specs.Outcomes.{editStored};
 
 // How many entries stand before line k; all of them where there is no line k.
@@ -32,7 +32,7 @@ fn entries_before(b: &[u8], k: usize) -> usize
 // The sizes of the block with the lines before p, new ones of these sizes, and the lines from q on.
 fn measure(b: &[u8], p: usize, q: usize, added: Sizes) -> Sizes
     requires { ⌜ Sound (now b) × (p ≤ q) × (q ≤ linesIn (now b)) ⌝ }
-    requires { ⌜ (added .lines ≤ 65535) × (added .entries ≤ 65535) × (added .comments ≤ 65535) × (added .bytes ≤ 65535) ⌝ }
+    requires { ⌜ (added .lines ≤ 1) × (added .entries ≤ 65535) × (added .comments ≤ 65535) × (added .bytes ≤ 65535) ⌝ }
     ensures { λ r. ⌜ (r ≡ sizesAfter (now (b .entry)) p q added) × (areSmall r ≡ true) ⌝ }
 {
     let before = entries_before(b, p);
@@ -46,42 +46,6 @@ fn measure(b: &[u8], p: usize, q: usize, added: Sizes) -> Sizes
         entries: before + added.entries + rest,
         comments: front.count + added.comments + back.count,
         bytes: block::header_bytes(b) + (front.bytes + added.bytes + back.bytes),
-    }
-}
-
-// How large the new lines are.
-fn sizes_added(a: Added) -> Sizes
-    ensures { λ r. ⌜ ((t : List ℕ) → Counted a t → r ≡ addedSizes (newLines a t)) ⌝ }
-{
-    match a {
-        Added::Nothing => Sizes {
-            headers: 0,
-            lines: 0,
-            entries: 0,
-            comments: 0,
-            bytes: 0,
-        },
-        Added::Variation(_, _, x) => Sizes {
-            headers: 0,
-            lines: 1,
-            entries: x.entries,
-            comments: x.comments,
-            bytes: x.bytes,
-        },
-    }
-}
-
-// An edited block that lacks its lines alone: measured, begun, and its header entries filled in.
-fn begin_edited(b: &[u8], version: u16, p: usize, q: usize, added: Sizes, out: &mut [u8]) -> Opening
-    requires { ⌜ Sound (now b) × (p ≤ q) × (q ≤ linesIn (now b)) ⌝ }
-    requires { ⌜ (added .lines ≤ 65535) × (added .entries ≤ 65535) × (added .comments ≤ 65535) × (added .bytes ≤ 65535) ⌝ }
-    ensures { λ r. ⌜ areSmall (sizesAfter (now (b .entry)) p q added) ≡ true ⌝ }
-    ensures { λ r. ⌜ r ≡ beginning version (now (b .entry)) (sizesAfter (now (b .entry)) p q added) (now (out .entry)) ⌝ }
-    ensures { λ r. ⌜ now (out .exit) ≡ beginningOf version (now (b .entry)) (sizesAfter (now (b .entry)) p q added) (now (out .entry)) ⌝ }
-{
-    match filling::open(out, version, measure(b, p, q, added), block::position_of(b)) {
-        Opening::Begun(w, total) => Opening::Begun(copy_headers(b, w, out), total),
-        Opening::Refused(a) => Opening::Refused(a),
     }
 }
 
@@ -100,9 +64,11 @@ pub(crate) fn store(
     ensures { λ r. ⌜ r ≡ editStored (encode (recordAfter version (now (b .entry)) p q (newLines a (now (t .entry))))) second (now (out .entry)) .answer ⌝ }
     ensures { λ r. ⌜ now (out .exit) ≡ editStored (encode (recordAfter version (now (b .entry)) p q (newLines a (now (t .entry))))) second (now (out .entry)) .buffer ⌝ }
 {
-    match begin_edited(b, version, p, q, sizes_added(a), out) {
+    let sizes = measure(b, p, q, sizes_added(a));
+    match filling::open(out, version, sizes, block::position_of(b)) {
         Opening::Begun(w, total) => {
-            put_lines(b, p, q, t, a, w, out);
+            let v = copy_headers(b, w, out);
+            put_lines(b, p, q, t, a, v, out);
             Answer::Done(total, second)
         }
         Opening::Refused(r) => r,

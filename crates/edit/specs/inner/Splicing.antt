@@ -9,16 +9,13 @@ use lib.Dec.{leb}
 use Rattle.lists.specs.Pick.{pick}
 use Rattle.lists.specs.Repeat.{Ended}
 use Rattle.jkf.specs.Model.{Noted, Line, Record}
-use Rattle.block.specs.Encode.{entriesOf, commentsOf, commentText}
+use Rattle.block.specs.Encode.{commentsOf, commentText}
 use Rattle.block.specs.Decode.{run, headersIn, linesIn, movesIn, headerIn, notedIn, decode}
 use Rattle.block.specs.Sound.{headerBytes, entriesBefore}
-use Rattle.block.specs.PositionBytes.{positionIn}
-use Rattle.filling.specs.Filling.{opening, opened, Grown, putLine, putAll, putEntries}
-use Rattle.filling.specs.inner.Parts.{onOpening, putHeaders}
+use Rattle.filling.specs.Filling.{Grown, putLine, putAll, putEntries}
+use Rattle.filling.specs.inner.Parts.{putHeaders}
 use Rattle.filling.specs.declared.Sizes.{Sizes}
 use Rattle.filling.specs.declared.Walk.{Walk}
-use Rattle.filling.specs.declared.Opening.{Opening}
-use Rattle.filling.specs.declared.Opening.the-variants.{Begun, Refused}
 use Rattle.plays.specs.Plays.{plyAt, sequenceAt}
 use Rattle.plays.specs.Counted.{extentAt}
 use Rattle.edit.specs.Edit.{reparented, variationOf, lineOn}
@@ -86,17 +83,7 @@ commentsWithin b k n = length (commentsOf (run (notedIn b) k n))
 abbrev pub bytesWithin : List ℕ → ℕ → ℕ → ℕ
 bytesWithin b k n = length (commentText (commentsOf (run (notedIn b) k n)))
 
--- New lines, counted; and the sizes of the block that has them.
-abbrev pub addedSizes : List Line → Sizes
-addedSizes vs =
-    record {
-      headers = 0;
-      lines = length vs;
-      entries = length (entriesOf vs);
-      comments = length (commentsOf (entriesOf vs));
-      bytes = length (commentText (commentsOf (entriesOf vs)));
-    }
-
+-- The sizes of the block with new lines of these sizes.
 abbrev pub sizesAfter : List ℕ → ℕ → ℕ → Sizes → Sizes
 sizesAfter b p q z =
     let back = movesIn b - entriesBefore b q in
@@ -108,20 +95,6 @@ sizesAfter b p q z =
       bytes = headerBytes b (headersIn b) + (bytesWithin b 0 (entriesBefore b p) + z .bytes + bytesWithin b (entriesBefore b q) back);
     }
 
--- ---- the block without them
-
 -- The header entries of a block, put into another.
 abbrev pub headersPut : List ℕ → Walk → List ℕ → Grown
 headersPut b w o = putHeaders (run (headerIn b) 0 (headersIn b)) w o
-
--- A block of a version and of these sizes that is begun, and its header entries filled in.
-unfoldable pub beginning : ℕ → List ℕ → Sizes → List ℕ → Opening
-beginning version b z o =
-    onOpening (opening z (length o))
-    (λ w n. Begun (headersPut b w (opened version z (positionIn (drop 28 b)) o) .walk) n)
-    (λ a. Refused a)
-
-unfoldable pub beginningOf : ℕ → List ℕ → Sizes → List ℕ → List ℕ
-beginningOf version b z o =
-    let q = opened version z (positionIn (drop 28 b)) o in
-    onOpening (opening z (length o)) (λ w n. headersPut b w q .buffer) (λ a. q)
