@@ -21,8 +21,8 @@ fn fill_main(s: &[u8], c: Cursor, w: Walk, out: &mut [u8]) -> FilledPlay
     ensures { λ r. ⌜ r .next .at ≡ pastMain (now (s .entry)) (slotAt (now (s .entry)) (c .at) .at) ⌝ }
     ensures { λ r. ⌜ r .lost ≡ lostFrom (now (s .entry)) (slotAt (now (s .entry)) (c .at) .at) ⌝ }
 {
-    let slot = plays::fill_noted(s, Entry::Slot, plays::skipped(c, s), w, out);
-    let u = slot.walk;
+    let slot = plays::fill_comments(s, plays::skipped(c, s), w, out);
+    let u = filling::put_entry(out, w, slot.walk, Entry::Slot);
     let line = plays::fill_moves(s, slot.next, u, out);
     let v = line.walk;
     let next = plays::past(slot.next, v.entries - u.entries, line.next, s);

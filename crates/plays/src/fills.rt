@@ -12,7 +12,7 @@ ghost use Rattle.plays.specs.Plays.{noted, commentsAt, entriesAt};
 ghost use Rattle.plays.specs.Losses.{one, lostFrom};
 
 // The comments from a place on.
-fn fill_comments(s: &[u8], c: Cursor, w: Walk, out: &mut [u8]) -> Reached
+pub fn fill_comments(s: &[u8], c: Cursor, w: Walk, out: &mut [u8]) -> Reached
     ensures { λ r. ⌜ r .walk ≡ putComments (commentsAt (now (s .entry)) (c .at) .state) w (now (out .entry)) .walk ⌝ }
     ensures { λ r. ⌜ now (out .exit) ≡ putComments (commentsAt (now (s .entry)) (c .at) .state) w (now (out .entry)) .buffer ⌝ }
     ensures { λ r. ⌜ r .next .at ≡ commentsAt (now (s .entry)) (c .at) .at ⌝ }
@@ -34,7 +34,7 @@ fn fill_comments(s: &[u8], c: Cursor, w: Walk, out: &mut [u8]) -> Reached
 }
 
 // An entry with the comments from a place on: these first, since its bytes say how many they are.
-pub fn fill_noted(s: &[u8], e: Entry, c: Cursor, w: Walk, out: &mut [u8]) -> Reached
+fn fill_noted(s: &[u8], e: Entry, c: Cursor, w: Walk, out: &mut [u8]) -> Reached
     ensures { λ r. ⌜ r .walk ≡ putNoted (noted e (commentsAt (now (s .entry)) (c .at) .state)) w (now (out .entry)) .walk ⌝ }
     ensures { λ r. ⌜ now (out .exit) ≡ putNoted (noted e (commentsAt (now (s .entry)) (c .at) .state)) w (now (out .entry)) .buffer ⌝ }
     ensures { λ r. ⌜ r .next .at ≡ commentsAt (now (s .entry)) (c .at) .at ⌝ }

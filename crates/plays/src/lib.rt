@@ -10,8 +10,8 @@ pub use counts::ply;
 pub use counts::skipped;
 pub use counts::skips;
 use filling::Walk;
+pub use fills::fill_comments;
 pub use fills::fill_moves;
-pub use fills::fill_noted;
 use text::Cursor;
 
 // Comments: how many, how many bytes they have, and the place past them.

@@ -1,6 +1,5 @@
 -- The slot, the entries and the row are those of the main line, and the row hangs on nothing.
 -- Assumes nothing.
-use native.Mathlib.Omega.{arith}
 use Prim.Native.Nat.{ℕ}
 use mathlib.Core.Path.{sym, ap, _∙_}
 use Rattle.plays.specs.Plays.{commentsAt}
@@ -12,22 +11,31 @@ use Rattle.parser.proofs.fills.fill_main.Statement.{statement}
 use Rattle.parser.proofs.fills.fill_main.Tie as tie
 
 skipped-requires : tie.Need-skipped-requires
-skipped-requires c κs = search needs
+skipped-requires c κs = tt
 
-fill-noted-requires : tie.Need-fill-noted-requires
-fill-noted-requires c κs = search needs
+fill-comments-requires : tie.Need-fill-comments-requires
+fill-comments-requires c κs = tt
+
+put-entry-requires : tie.Need-put-entry-requires
+put-entry-requires c κs = tt
 
 fill-moves-requires : tie.Need-fill-moves-requires
-fill-moves-requires c κs = search needs
+fill-moves-requires c κs = tt
 
 sub-past : tie.Need-sub-past
-sub-past c = omega (arith, slot-grows (c .before .before .before .before .before .before .before .before .before .before .before .before .before .before .before .args .s .now) (c .before .before .before .before .before .before .before .before .before .before .before .before .before .before .before .args .c .at) (c .before .before .before .before .before .before .before .before .before .before .before .before .before .before .before .args .w) (c .before .before .before .before .before .before .before .before .before .before .before .before .before .before .before .args .out .now) (c .before .before .before .before .before .before .before .before .before .before .before .before .before .before .before .pre) (c .before .before .before .before .before .before .before .before .before .before .before .before .skipped .result) (c .before .before .before .before .before .before .before .before .before .before .fill-noted .result) _ (c .before .before .before .before .before .before .before .before .before .before .before .before .skipped .ensures) (c .before .before .before .before .before .before .before .before .before .before .fill-noted .ensures .0) (c .before .before .before .before .before .before .before .before .before .before .fill-noted .ensures .1 .0) (c .before .before .before .before .before .before .before .before .before .before .fill-noted .ensures .1 .1) (c .before .before .before .before .before .fill-moves .result) _ (c .before .before .before .before .before .fill-moves .ensures .0) (c .before .before .before .before .before .fill-moves .ensures .1 .0) (c .before .before .before .before .before .fill-moves .ensures .1 .1 .0))
+sub-past c =
+    let a = c .before .before .before .before .before .before .before .before .before .before .before .before .before .before .before .before .before .before in
+    let k = c .before .before .before .before .before .before .before .before .before .before .before .before .before .before .before .skipped in
+    let f = c .before .before .before .before .before .before .before .before .before .before .before .before .before .fill-comments in
+    let e = c .before .before .before .before .before .before .before .before .before .put-entry in
+    let m = c .before .before .before .before .before .fill-moves in
+    slot-grows (a .args .s .now) (a .args .c .at) (a .args .w) (a .args .out .now) (a .pre) (k .result) (f .result) (e .result) (k .ensures) (f .ensures .0) (f .ensures .1 .0) (f .ensures .1 .1) (e .ensures .0) (e .ensures .1) (m .result) (m .ensures .0) (m .ensures .1 .0) (m .ensures .1 .1 .0)
 
 past-requires : tie.Need-past-requires
-past-requires c κs = search needs
+past-requires c κs = tt
 
 hang-line-requires : tie.Need-hang-line-requires
-hang-line-requires c κs = search needs
+hang-line-requires c κs = tt
 
 enum-known-walk : tie.Need-enum-known-walk
 enum-known-walk c = c .match .keys1
@@ -35,19 +43,31 @@ enum-known-walk c = c .match .keys1
 enum-told : tie.Need-enum-told
 enum-told c = c .match .keys2
 
-same-length : tie.Need-same-length
-same-length c = search needs
-
 returns : tie.Need-returns
-returns c = main-hangs (c .before .before .before .before .before .before .before .before .before .before .before .before .before .before .before .before .before .before .before .before .before .before .args .s .now) (c .before .before .before .before .before .before .before .before .before .before .before .before .before .before .before .before .before .before .before .before .before .before .args .c .at) (c .before .before .before .before .before .before .before .before .before .before .before .before .before .before .before .before .before .before .before .before .before .before .args .w) (c .before .before .before .before .before .before .before .before .before .before .before .before .before .before .before .before .before .before .before .before .before .before .args .out .now) (c .before .before .before .before .before .before .before .before .before .before .before .before .before .before .before .before .before .before .before .before .before .before .pre) (c .before .before .before .before .before .before .before .before .before .before .before .before .before .before .before .before .before .before .before .skipped .result) (c .before .before .before .before .before .before .before .before .before .before .before .before .before .before .before .before .before .fill-noted .result) _ (c .before .before .before .before .before .before .before .before .before .before .before .before .before .before .before .before .before .before .before .skipped .ensures) (c .before .before .before .before .before .before .before .before .before .before .before .before .before .before .before .before .before .fill-noted .ensures .0) (c .before .before .before .before .before .before .before .before .before .before .before .before .before .before .before .before .before .fill-noted .ensures .1 .0) (c .before .before .before .before .before .before .before .before .before .before .before .before .before .before .before .before .before .fill-noted .ensures .1 .1) (c .before .before .before .before .before .before .before .before .before .before .before .before .fill-moves .result) _ (c .before .before .before .before .before .before .before .before .before .before .before .before .fill-moves .ensures .0) (c .before .before .before .before .before .before .before .before .before .before .before .before .fill-moves .ensures .1 .0) (c .before .before .before .before .before .before .before .before .before .before .before .before .fill-moves .ensures .1 .1 .0) (sym (c .enum-told .given .1) ∙ c .before .before .before .before .hang-line .ensures .0)
+returns c =
+    let a = c .before .before .before .before .before .before .before .before .before .before .before .before .before .before .before .before .before .before .before .before .before .before .before .before .before in
+    let k = c .before .before .before .before .before .before .before .before .before .before .before .before .before .before .before .before .before .before .before .before .before .before .skipped in
+    let f = c .before .before .before .before .before .before .before .before .before .before .before .before .before .before .before .before .before .before .before .before .fill-comments in
+    let e = c .before .before .before .before .before .before .before .before .before .before .before .before .before .before .before .before .put-entry in
+    let m = c .before .before .before .before .before .before .before .before .before .before .before .before .fill-moves in
+    main-hangs (a .args .s .now) (a .args .c .at) (a .args .w) (a .args .out .now) (a .pre) (k .result) (f .result) (e .result) (k .ensures) (f .ensures .0) (f .ensures .1 .0) (f .ensures .1 .1) (e .ensures .0) (e .ensures .1) (m .result) (m .ensures .0) (m .ensures .1 .0) (m .ensures .1 .1 .0) (sym (c .enum-told .given .1) ∙ c .before .before .before .before .hang-line .ensures .0)
+
+same-length : tie.Need-same-length
+same-length c = filled-length (returns c .0 .filled)
 
 returns-2 : tie.Need-returns-2
 returns-2 c =
+    let a = c .before .before .before .before .before .before .before .before .before .before .before .before .before .before .before .before .before .before .before .before .before .before .before .before .before .before in
+    let k = c .before .before .before .before .before .before .before .before .before .before .before .before .before .before .before .before .before .before .before .before .before .before .before .skipped in
+    let f = c .before .before .before .before .before .before .before .before .before .before .before .before .before .before .before .before .before .before .before .before .before .fill-comments in
+    let e = c .before .before .before .before .before .before .before .before .before .before .before .before .before .before .before .before .before .put-entry in
+    let m = c .before .before .before .before .before .before .before .before .before .before .before .before .before .fill-moves in
+    let p = c .before .before .before .before .before .before .before .past in
     let l = c .before .before .before .before .before .hang-line .ensures in (
-      main-lined (c .before .before .before .before .before .before .before .before .before .before .before .before .before .before .before .before .before .before .before .before .before .before .before .args .s .now) (c .before .before .before .before .before .before .before .before .before .before .before .before .before .before .before .before .before .before .before .before .before .before .before .args .c .at) (c .before .before .before .before .before .before .before .before .before .before .before .before .before .before .before .before .before .before .before .before .before .before .before .args .w) (c .before .before .before .before .before .before .before .before .before .before .before .before .before .before .before .before .before .before .before .before .before .before .before .args .out .now) (c .before .before .before .before .before .before .before .before .before .before .before .before .before .before .before .before .before .before .before .before .before .before .before .pre) (c .before .before .before .before .before .before .before .before .before .before .before .before .before .before .before .before .before .before .before .before .skipped .result) (c .before .before .before .before .before .before .before .before .before .before .before .before .before .before .before .before .before .before .fill-noted .result) _ (c .before .before .before .before .before .before .before .before .before .before .before .before .before .before .before .before .before .before .before .before .skipped .ensures) (c .before .before .before .before .before .before .before .before .before .before .before .before .before .before .before .before .before .before .fill-noted .ensures .0) (c .before .before .before .before .before .before .before .before .before .before .before .before .before .before .before .before .before .before .fill-noted .ensures .1 .0) (c .before .before .before .before .before .before .before .before .before .before .before .before .before .before .before .before .before .before .fill-noted .ensures .1 .1) (c .before .before .before .before .before .before .before .before .before .before .before .before .before .fill-moves .result) _ (c .before .before .before .before .before .before .before .before .before .before .before .before .before .fill-moves .ensures .0) (c .before .before .before .before .before .before .before .before .before .before .before .before .before .fill-moves .ensures .1 .0) (c .before .before .before .before .before .before .before .before .before .before .before .before .before .fill-moves .ensures .1 .1 .0) (sym (c .before .walk .given .1) ∙ l .0) (l .1),
+      main-lined (a .args .s .now) (a .args .c .at) (a .args .w) (a .args .out .now) (a .pre) (k .result) (f .result) (e .result) (k .ensures) (f .ensures .0) (f .ensures .1 .0) (f .ensures .1 .1) (e .ensures .0) (e .ensures .1) (m .result) (m .ensures .0) (m .ensures .1 .0) (m .ensures .1 .1 .0) (sym (c .before .walk .given .1) ∙ l .0) (l .1),
       (
-        past-main (c .before .before .before .before .before .before .before .before .before .before .before .before .before .before .before .before .before .before .before .before .before .before .before .args .s .now) (c .before .before .before .before .before .before .before .before .before .before .before .before .before .before .before .before .before .before .before .before .before .before .before .args .c .at) (c .before .before .before .before .before .before .before .before .before .before .before .before .before .before .before .before .before .before .before .before .before .before .before .args .w) (c .before .before .before .before .before .before .before .before .before .before .before .before .before .before .before .before .before .before .before .before .before .before .before .args .out .now) (c .before .before .before .before .before .before .before .before .before .before .before .before .before .before .before .before .before .before .before .before .before .before .before .pre) (c .before .before .before .before .before .before .before .before .before .before .before .before .before .before .before .before .before .before .before .before .skipped .result) (c .before .before .before .before .before .before .before .before .before .before .before .before .before .before .before .before .before .before .fill-noted .result) _ (c .before .before .before .before .before .before .before .before .before .before .before .before .before .before .before .before .before .before .before .before .skipped .ensures) (c .before .before .before .before .before .before .before .before .before .before .before .before .before .before .before .before .before .before .fill-noted .ensures .0) (c .before .before .before .before .before .before .before .before .before .before .before .before .before .before .before .before .before .before .fill-noted .ensures .1 .0) (c .before .before .before .before .before .before .before .before .before .before .before .before .before .before .before .before .before .before .fill-noted .ensures .1 .1) (c .before .before .before .before .before .before .before .before .before .before .before .before .before .fill-moves .result) _ (c .before .before .before .before .before .before .before .before .before .before .before .before .before .fill-moves .ensures .0) (c .before .before .before .before .before .before .before .before .before .before .before .before .before .fill-moves .ensures .1 .0) (c .before .before .before .before .before .before .before .before .before .before .before .before .before .fill-moves .ensures .1 .1 .0) (c .before .before .before .before .before .before .before .past .result) (c .before .before .before .before .before .before .before .past .ensures),
-        c .before .before .before .before .before .before .before .before .before .before .before .before .before .fill-moves .ensures .1 .1 .1 ∙ ap (lostFrom (c .before .before .before .before .before .before .before .before .before .before .before .before .before .before .before .before .before .before .before .before .before .before .before .args .s .now)) (c .before .before .before .before .before .before .before .before .before .before .before .before .before .before .before .before .before .before .fill-noted .ensures .1 .1 ∙ ap (λ (k : ℕ). commentsAt (c .before .before .before .before .before .before .before .before .before .before .before .before .before .before .before .before .before .before .before .before .before .before .before .args .s .now) k .at) (c .before .before .before .before .before .before .before .before .before .before .before .before .before .before .before .before .before .before .before .before .skipped .ensures)),
+        past-main (a .args .s .now) (a .args .c .at) (a .args .w) (a .args .out .now) (a .pre) (k .result) (f .result) (e .result) (k .ensures) (f .ensures .0) (f .ensures .1 .0) (f .ensures .1 .1) (e .ensures .0) (e .ensures .1) (m .result) (m .ensures .0) (m .ensures .1 .0) (m .ensures .1 .1 .0) (p .result) (p .ensures),
+        m .ensures .1 .1 .1 ∙ ap (lostFrom (a .args .s .now)) (f .ensures .1 .1 ∙ ap (λ (i : ℕ). commentsAt (a .args .s .now) i .at) (k .ensures)),
       ),
     )
 
@@ -59,7 +79,8 @@ fill-main-spec =
     tie.close
     (tie.spec
     skipped-requires
-    fill-noted-requires
+    fill-comments-requires
+    put-entry-requires
     fill-moves-requires
     sub-past
     past-requires
