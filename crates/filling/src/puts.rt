@@ -50,13 +50,9 @@ pub fn put_header(out: &mut [u8], w: Walk, key: &[u8], value: &[u8]) -> Walk
     let text = lent::put_at(out, past, value);
     Walk {
         headers,
-        lines: w.lines,
-        moves: w.moves,
-        comments: w.comments,
         text,
-        entries: w.entries,
-        noted: w.noted,
         bytes: middle + value.len(),
+        ..w
     }
 }
 
@@ -80,16 +76,7 @@ pub fn put_line(out: &mut [u8], w: Walk, v: Walk, start: u64, parent: u64) -> Wa
     }
     let count = less(v.entries, w.entries);
     let lines = block::put_line_row(out, v.lines, start, w.entries, count, parent);
-    Walk {
-        headers: v.headers,
-        lines,
-        moves: v.moves,
-        comments: v.comments,
-        text: v.text,
-        entries: v.entries,
-        noted: v.noted,
-        bytes: v.bytes,
-    }
+    Walk { lines, ..v }
 }
 
 // Whether a comment of n bytes has room.
@@ -122,14 +109,11 @@ pub fn put_comment(out: &mut [u8], w: Walk, c: &[u8]) -> Walk
     let text = start + n;
     lent::put_bytes(&mut out[start..text], c);
     Walk {
-        headers: w.headers,
-        lines: w.lines,
-        moves: w.moves,
         comments,
         text,
-        entries: w.entries,
         noted: w.noted + 1,
         bytes: w.bytes + n,
+        ..w
     }
 }
 
@@ -156,14 +140,9 @@ fn entered(w: Walk, moves: usize) -> Walk
     ensures { λ r. ⌜ r ≡ entered w moves ⌝ }
 {
     Walk {
-        headers: w.headers,
-        lines: w.lines,
         moves,
-        comments: w.comments,
-        text: w.text,
         entries: w.entries + 1,
-        noted: w.noted,
-        bytes: w.bytes,
+        ..w
     }
 }
 
