@@ -34,7 +34,7 @@ module _ {X : Type 0} {one : X → Walk → List ℕ → Grown} (g : ℕ → X) 
 
 pub noted-copied : (b : List ℕ) (k : ℕ) (w : Walk) (o : List ℕ) {i n : ℕ} {e : Entry} {v r : Walk} {o₁ o₂ : List ℕ} → i ≡ firstComment b k → n ≡ commentCount b k
     → v ≡ putComments (run (commentOf b) i n) w o .walk → o₁ ≡ putComments (run (commentOf b) i n) w o .buffer → e ≡ entryIn (drop (movePlace b k) b)
-    → r ≡ putEntry e w v o₁ .walk → o₂ ≡ putEntry e w v o₁ .buffer
+    → r ≡ putEntry e (w .noted) v o₁ .walk → o₂ ≡ putEntry e (w .noted) v o₁ .buffer
     → (r ≡ putNoted (notedIn b k) w o .walk) × (o₂ ≡ putNoted (notedIn b k) w o .buffer)
 noted-copied b k w o {i} {n} {e} {v} {r} {o₁} {o₂} p q x y z f g =
     let cs : run (commentOf b) i n ≡ run (commentOf b) (firstComment b k) (commentCount b k) = ap₂ (run (commentOf b)) p q in

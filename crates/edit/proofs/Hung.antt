@@ -22,12 +22,12 @@ pub whole-size : (l : Line) (w : Walk) (o : List ℕ) → length (putWhole l w o
 unfolding putWhole
 whole-size l w o =
     let g = putEntries (l .entries) w o in
-    line-size (l .start) (l .parent) w (g .walk) (g .buffer) ∙ all-size putNoted noted-size (l .entries) w o
+    line-size (l .start) (l .parent) (w .entries) (g .walk) (g .buffer) ∙ all-size putNoted noted-size (l .entries) w o
 
 -- as the code puts it: the entries, and then the row
 pub whole-made : (l : Line) (w : Walk) (o : List ℕ) {start parent : ℕ} {es : List Noted} {v r : Walk} {o₁ o₂ : List ℕ} → es ≡ l .entries
     → start ≡ l .start → parent ≡ l .parent → v ≡ putEntries es w o .walk → o₁ ≡ putEntries es w o .buffer
-    → r ≡ putLine start parent w v o₁ .walk → o₂ ≡ putLine start parent w v o₁ .buffer
+    → r ≡ putLine start parent (w .entries) v o₁ .walk → o₂ ≡ putLine start parent (w .entries) v o₁ .buffer
     → (r ≡ putWhole l w o .walk) × (o₂ ≡ putWhole l w o .buffer)
 unfolding putWhole
 whole-made l w o e a p x y f g = (f ∙ rw (a, p, x, y, e), g ∙ rw (a, p, x, y, e))

@@ -39,7 +39,7 @@ fn copy_entry(b: &[u8], k: usize, w: Walk, out: &mut [u8]) -> Walk
         w,
         out,
     );
-    filling::put_entry(out, w, v, block::entry_of(b, i))
+    filling::put_entry(out, v, block::entry_of(b, i), w.noted)
 }
 
 // So many entries from entry k on.

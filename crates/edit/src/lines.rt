@@ -47,7 +47,7 @@ fn copy_line(b: &[u8], i: usize, x: Splice, w: Walk, out: &mut [u8]) -> Walk
     let v = copy_entries(b, first, block::entry_count(b, line), w, out);
     let start = block::start_of(b, line) as u64;
     let parent = shifted(x, block::parent_of(b, line));
-    filling::put_line(out, w, v, start, parent as u64)
+    filling::put_line(out, v, start, parent as u64, w.entries)
 }
 
 // So many lines of a block from line i on.
@@ -72,7 +72,7 @@ fn put_variation(t: &[u8], k: u64, ply: u64, w: Walk, out: &mut [u8]) -> Walk
     ensures { λ r. ⌜ now (out .exit) ≡ putWhole (lineOn k (variationOf (now (t .entry)))) w (now (out .entry)) .buffer ⌝ }
 {
     let own = plays::fill_moves(t, Cursor { at: 0 }, w, out);
-    filling::put_line(out, w, own.walk, ply, k)
+    filling::put_line(out, own.walk, ply, k, w.entries)
 }
 
 // The new lines.

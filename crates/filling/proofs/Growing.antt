@@ -44,24 +44,24 @@ comment-size c w o =
     by-pick (λ (g : Grown). length (g .buffer) ≡ length o) (hasComment (length c) w (length o)) _ (grown w o)
     (λ _. length-put _ (w .text) c ∙ length-put o (w .comments) (commentRow (w .bytes) c)) (λ _. refl)
 
-pub entry-size : (e : Entry) (w v : Walk) (o : List ℕ) → length (putEntry e w v o .buffer) ≡ length o
+pub entry-size : (e : Entry) (first : ℕ) (v : Walk) (o : List ℕ) → length (putEntry e first v o .buffer) ≡ length o
 unfolding putEntry
-entry-size e w v o =
-    let n = v .noted - w .noted in
+entry-size e first v o =
+    let n = v .noted - first in
     by-pick (λ (g : Grown). length (g .buffer) ≡ length o) (hasEntry v (length o)) _ (grown v o)
-    (λ _. length-put o (v .moves) (entryBytes e (pick (eqb n 0) 0 (w .noted)) n)) (λ _. refl)
+    (λ _. length-put o (v .moves) (entryBytes e (pick (eqb n 0) 0 first) n)) (λ _. refl)
 
 pub noted-size : (e : Noted) (w : Walk) (o : List ℕ) → length (putNoted e w o .buffer) ≡ length o
 unfolding putNoted
 noted-size e w o =
     let g = putComments (e .comments) w o in
-    entry-size (e .what) w (g .walk) (g .buffer) ∙ all-size putComment comment-size (e .comments) w o
+    entry-size (e .what) (w .noted) (g .walk) (g .buffer) ∙ all-size putComment comment-size (e .comments) w o
 
-pub line-size : (start parent : ℕ) (w v : Walk) (o : List ℕ) → length (putLine start parent w v o .buffer) ≡ length o
+pub line-size : (start parent first : ℕ) (v : Walk) (o : List ℕ) → length (putLine start parent first v o .buffer) ≡ length o
 unfolding putLine
-line-size start parent w v o =
+line-size start parent first v o =
     by-pick (λ (g : Grown). length (g .buffer) ≡ length o) (leb (v .lines + 8) (length o)) _ (grown v o)
-    (λ _. length-put o (v .lines) (lineBytes start (w .entries) (v .entries - w .entries) parent)) (λ _. refl)
+    (λ _. length-put o (v .lines) (lineBytes start first (v .entries - first) parent)) (λ _. refl)
 
 -- some, and then the others
 pub all-then : {X : Type 0} (one : X → Walk → List ℕ → Grown) (xs ys : List X) (w : Walk) (o : List ℕ)
@@ -239,7 +239,7 @@ module _ (x : Noted) where
 -- ---- put by hand: the comments, and then the entry, whose bytes say how many they are
 
 pub noted-done : (e : Entry) (cs : List (List ℕ)) (w : Walk) (o : List ℕ) {v r : Walk} {o₁ o₂ : List ℕ} {at end : ℕ} → v ≡ putComments cs w o .walk → o₁ ≡ putComments cs w o .buffer
-    → r ≡ putEntry e w v o₁ .walk → o₂ ≡ putEntry e w v o₁ .buffer
+    → r ≡ putEntry e (w .noted) v o₁ .walk → o₂ ≡ putEntry e (w .noted) v o₁ .buffer
     → at ≡ end → (r ≡ putNoted (record { what = e; comments = cs }) w o .walk) × ((o₂ ≡ putNoted (record { what = e; comments = cs }) w o .buffer) × (at ≡ end))
 unfolding putNoted
 noted-done e cs w o {v} {r} {o₁} {o₂} a b c d f = (c ∙ rw (a, b), (d ∙ rw (a, b), f))
@@ -405,7 +405,7 @@ module _ (start parent : ℕ) (es : List Noted) where
     line-fit = record { entries = f .entries; noted = f .noted; bytes = f .bytes; room = line-room .1 }
 
     pub line-put : {v : Walk} {o₁ : List ℕ} → Entered es w v o o₁
-        → Lined (line start parent es ∷ []) w (putLine start parent w v o₁ .walk) o (putLine start parent w v o₁ .buffer)
+        → Lined (line start parent es ∷ []) w (putLine start parent (w .entries) v o₁ .walk) o (putLine start parent (w .entries) v o₁ .buffer)
     unfolding putLine
     line-put {v} {o₁} d =
         let n : v .entries - w .entries ≡ length es = omega (arith, d .entries) in

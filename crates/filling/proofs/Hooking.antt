@@ -28,23 +28,23 @@ module _ (rows start : ℕ) (v : Walk) (o : List ℕ) {k : ℕ} (e : k ≡ (v .l
   unfolding hangingOf
   later-hangs z = rw (← e, ne-eqb k 0 z)
 
-module _ (rows start : ℕ) (w v : Walk) (o : List ℕ) where
-  pub row-put : {p e : ℕ} {r : Walk} {o₁ : List ℕ} → On p e ≡ hangingOf rows start v o → r ≡ putLine start p w v o .walk → o₁ ≡ putLine start p w v o .buffer
-      → (Put r ≡ hookedOf rows start w v o) × (o₁ ≡ hookedIn rows start w v o)
+module _ (rows start first : ℕ) (v : Walk) (o : List ℕ) where
+  pub row-put : {p e : ℕ} {r : Walk} {o₁ : List ℕ} → On p e ≡ hangingOf rows start v o → r ≡ putLine start p first v o .walk → o₁ ≡ putLine start p first v o .buffer
+      → (Put r ≡ hookedOf rows start first v o) × (o₁ ≡ hookedIn rows start first v o)
   unfolding hookedOf hookedIn
   row-put h f g = rw (← h) (ap Put f, g)
 
-  pub none-put : Nowhere ≡ hangingOf rows start v o → (Loose ≡ hookedOf rows start w v o) × (o ≡ hookedIn rows start w v o)
+  pub none-put : Nowhere ≡ hangingOf rows start v o → (Loose ≡ hookedOf rows start first v o) × (o ≡ hookedIn rows start first v o)
   unfolding hookedOf hookedIn
   none-put h = rw (← h) (refl, refl)
 
   -- the buffer keeps its length
-  pub hooked-size : length (hookedIn rows start w v o) ≡ length o
+  pub hooked-size : length (hookedIn rows start first v o) ≡ length o
   unfolding hookedIn
   hooked-size = go (hangingOf rows start v o)
     where
-      go : (h : Hang) → length (onHang h (λ p e. putLine start p w v o .buffer) o) ≡ length o
-      go (On p e) = line-size start p w v o
+      go : (h : Hang) → length (onHang h (λ p e. putLine start p first v o .buffer) o) ≡ length o
+      go (On p e) = line-size start p first v o
       go Nowhere = refl
 
   -- ---- what a row that was put tells
@@ -53,28 +53,28 @@ module _ (rows start : ℕ) (w v : Walk) (o : List ℕ) where
     pub parent : ℕ
     pub entry : ℕ
     pub hangs : hangingOf rows start v o ≡ On parent entry
-    pub walk : u ≡ putLine start parent w v o .walk
-    pub buffer : hookedIn rows start w v o ≡ putLine start parent w v o .buffer
+    pub walk : u ≡ putLine start parent first v o .walk
+    pub buffer : hookedIn rows start first v o ≡ putLine start parent first v o .buffer
 
-  pub row-told : {u : Walk} → Put u ≡ hookedOf rows start w v o → Row u
+  pub row-told : {u : Walk} → Put u ≡ hookedOf rows start first v o → Row u
   unfolding hookedOf hookedIn
   row-told {u} q = go (hangingOf rows start v o) refl q
     where
-      go : (h : Hang) → hangingOf rows start v o ≡ h → Put u ≡ onHang h (λ p e. Put (putLine start p w v o .walk)) Loose → Row u
+      go : (h : Hang) → hangingOf rows start v o ≡ h → Put u ≡ onHang h (λ p e. Put (putLine start p first v o .walk)) Loose → Row u
       go (On p e) k x =
           record {
             parent = p;
             entry = e;
             hangs = k;
             walk = ap (λ (h : Hooked). onHooked h (λ r. r) u) x;
-            buffer = ap (λ (h : Hang). onHang h (λ p e. putLine start p w v o .buffer) o) k;
+            buffer = ap (λ (h : Hang). onHang h (λ p e. putLine start p first v o .buffer) o) k;
           }
       go Nowhere k x = let z : _≡_ {A = ℕ} 1 0 = ap (λ (h : Hooked). onHooked h (λ r. 1) 0) x in absurd (omega arith)
 
-  pub none-told : Loose ≡ hookedOf rows start w v o → hangingOf rows start v o ≡ Nowhere
+  pub none-told : Loose ≡ hookedOf rows start first v o → hangingOf rows start v o ≡ Nowhere
   unfolding hookedOf
   none-told q = go (hangingOf rows start v o) refl q
     where
-      go : (h : Hang) → hangingOf rows start v o ≡ h → Loose ≡ onHang h (λ p e. Put (putLine start p w v o .walk)) Loose → hangingOf rows start v o ≡ Nowhere
+      go : (h : Hang) → hangingOf rows start v o ≡ h → Loose ≡ onHang h (λ p e. Put (putLine start p first v o .walk)) Loose → hangingOf rows start v o ≡ Nowhere
       go (On p e) k x = let z : _≡_ {A = ℕ} 0 1 = ap (λ (h : Hooked). onHooked h (λ r. 1) 0) x in absurd (omega arith)
       go Nowhere k x = k

@@ -166,9 +166,9 @@ module _ (ls : List Line) (w : Walk) (o₀ : List ℕ) (f : LinesFit ls w o₀) 
 
       -- its entries are in, and its row is put
       pub row-lined : {x : Walk} {o₁ : List ℕ} → Entered (own .entries) v x o o₁ → {start parent : ℕ} {u : Walk} {o₂ : List ℕ} → start ≡ own .start → parent ≡ own .parent
-          → u ≡ putLine start parent v x o₁ .walk → o₂ ≡ putLine start parent v x o₁ .buffer → Lined (take (k + 1) ls) w u o₀ o₂
+          → u ≡ putLine start parent (v .entries) x o₁ .walk → o₂ ≡ putLine start parent (v .entries) x o₁ .buffer → Lined (take (k + 1) ls) w u o₀ o₂
       row-lined {x} {o₁} d {u = u} {o₂ = o₂} a b r s =
-          let row : ℕ → ℕ → Grown = λ i j. putLine i j v x o₁ in
+          let row : ℕ → ℕ → Grown = λ i j. putLine i j (v .entries) x o₁ in
           let put = line-put (own .start) (own .parent) (own .entries) room-for d in
           let put₁ : Lined (own ∷ []) v u o o₂ =
           subst (λ (c : Walk). Lined (own ∷ []) v c o o₂) (sym (r ∙ ap₂ (λ (i j : ℕ). row i j .walk) a b))

@@ -79,7 +79,6 @@ module _ (z : Sizes) where
   unfolding lengthOf
   length-is e = rw e
 
-  -- a block that is not too long is as long as its sizes say
   -- a block that is not too long has sizes that can be added up
   pub short-small : lengthOf z ≤ 65535 → areSmall z ≡ true
   short-small h = go (areSmall z) refl
@@ -93,6 +92,7 @@ module _ (z : Sizes) where
   unfolding begun
   begun-length h = length-is h
 
+  -- a block that is not too long is as long as its sizes say
   pub length-short : lengthOf z ≤ 65535 → lengthOf z ≡ blockLength (z .headers) (z .lines) (z .entries) (z .comments) (z .bytes)
   length-short h = go (areSmall z) refl
     where
@@ -269,14 +269,14 @@ pub entry-room : (w : Walk) (room : ℕ) → hasEntry w room ≡ true → EntryR
 unfolding hasEntry
 entry-room w room e = let (a, b) = pick-both (leb (w .moves + 20) room) _ e in record { row = leb-true _ _ a; number = leb-true _ _ b }
 
-module _ (e : Entry) (w v : Walk) (o : List ℕ) where
-  pub entry-none : hasEntry v (length o) ≡ false → (v ≡ putEntry e w v o .walk) × (o ≡ putEntry e w v o .buffer)
+module _ (e : Entry) (first : ℕ) (v : Walk) (o : List ℕ) where
+  pub entry-none : hasEntry v (length o) ≡ false → (v ≡ putEntry e first v o .walk) × (o ≡ putEntry e first v o .buffer)
   unfolding putEntry
   entry-none n = rw n (refl, refl)
 
-  pub entry-done : {o₁ : List ℕ} {p m count : ℕ} {r : Walk} → hasEntry v (length o) ≡ true → count ≡ v .noted - w .noted → m ≡ pick (eqb count 0) 0 (w .noted)
+  pub entry-done : {o₁ : List ℕ} {p m count : ℕ} {r : Walk} → hasEntry v (length o) ≡ true → count ≡ v .noted - first → m ≡ pick (eqb count 0) 0 first
       → Stored (fitting (entryBytes e m count) (drop (v .moves) o)) o o₁ (v .moves) p → r ≡ entered v p
-      → (r ≡ putEntry e w v o .walk) × (o₁ ≡ putEntry e w v o .buffer)
+      → (r ≡ putEntry e first v o .walk) × (o₁ ≡ putEntry e first v o .buffer)
   unfolding putEntry
   entry-done {o₁} {p} {m} {count} h c q x y =
       let n = entry-length e m count in
@@ -286,13 +286,13 @@ module _ (e : Entry) (w v : Walk) (o : List ℕ) where
 
 -- ---- a line's row
 
-module _ (start parent : ℕ) (w v : Walk) (o : List ℕ) where
-  pub line-none : leb (v .lines + 8) (length o) ≡ false → (v ≡ putLine start parent w v o .walk) × (o ≡ putLine start parent w v o .buffer)
+module _ (start parent first : ℕ) (v : Walk) (o : List ℕ) where
+  pub line-none : leb (v .lines + 8) (length o) ≡ false → (v ≡ putLine start parent first v o .walk) × (o ≡ putLine start parent first v o .buffer)
   unfolding putLine
   line-none n = rw n (refl, refl)
 
-  pub line-done : {o₁ : List ℕ} {p count : ℕ} → leb (v .lines + 8) (length o) ≡ true → count ≡ v .entries - w .entries
-      → Stored (fitting (lineBytes start (w .entries) count parent) (drop (v .lines) o)) o o₁ (v .lines) p
+  pub line-done : {o₁ : List ℕ} {p count : ℕ} → leb (v .lines + 8) (length o) ≡ true → count ≡ v .entries - first
+      → Stored (fitting (lineBytes start first count parent) (drop (v .lines) o)) o o₁ (v .lines) p
       → (_≡_ {A = Walk}
       (record {
         headers = v .headers;
@@ -304,10 +304,10 @@ module _ (start parent : ℕ) (w v : Walk) (o : List ℕ) where
         noted = v .noted;
         bytes = v .bytes;
       })
-      (putLine start parent w v o .walk)) × (o₁ ≡ putLine start parent w v o .buffer)
+      (putLine start parent first v o .walk)) × (o₁ ≡ putLine start parent first v o .buffer)
   unfolding putLine
   line-done {o₁} {p} {count} a n x =
-      let x₁ = stored-all {t = lineBytes start (w .entries) count parent} (leb-true (v .lines + 8) (length o) a) x in
+      let x₁ = stored-all {t = lineBytes start first count parent} (leb-true (v .lines + 8) (length o) a) x in
       rw (a, ← n, x₁ .end) (refl, x₁ .bytes)
 
 -- ---- a header entry

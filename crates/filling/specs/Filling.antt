@@ -135,23 +135,23 @@ putHeader h w o =
     (put (put o (w .headers) (headerRow (w .bytes) h)) (w .text) (h .key ++ h .value)))
     (grown w o)
 
--- The row of the line whose entries were put between w and v, at the end of the line rows.            (01, The block: line)
-unfoldable pub putLine : ℕ → ℕ → Walk → Walk → List ℕ → Grown
-putLine start parent w v o =
-    pick (leb (v .lines + 8) (length o))
+-- The row of the line that has the entries from number first on, at the end of the line rows.        (01, The block: line)
+unfoldable pub putLine : ℕ → ℕ → ℕ → Walk → List ℕ → Grown
+putLine start parent first w o =
+    pick (leb (w .lines + 8) (length o))
     (grown
     (record {
-      headers = v .headers;
-      lines = v .lines + 8;
-      moves = v .moves;
-      comments = v .comments;
-      text = v .text;
-      entries = v .entries;
-      noted = v .noted;
-      bytes = v .bytes;
+      headers = w .headers;
+      lines = w .lines + 8;
+      moves = w .moves;
+      comments = w .comments;
+      text = w .text;
+      entries = w .entries;
+      noted = w .noted;
+      bytes = w .bytes;
     })
-    (put o (v .lines) (lineBytes start (w .entries) (v .entries - w .entries) parent)))
-    (grown v o)
+    (put o (w .lines) (lineBytes start first (w .entries - first) parent)))
+    (grown w o)
 
 -- A comment of n bytes has room.
 unfoldable pub hasComment : ℕ → Walk → ℕ → Bool
@@ -196,29 +196,29 @@ entered w moves =
       bytes = w .bytes;
     }
 
--- The entry whose comments were put between w and v, at the end of the entries.                      (01, The block: move entry)
-unfoldable pub putEntry : Entry → Walk → Walk → List ℕ → Grown
-putEntry e w v o =
-    let count = v .noted - w .noted in
-    pick (hasEntry v (length o))
-    (grown (entered v (v .moves + 20)) (put o (v .moves) (entryBytes e (pick (eqb count 0) 0 (w .noted)) count)))
-    (grown v o)
+-- The entry that has the comments from number first on, at the end of the entries.                   (01, The block: move entry)
+unfoldable pub putEntry : Entry → ℕ → Walk → List ℕ → Grown
+putEntry e first w o =
+    let count = w .noted - first in
+    pick (hasEntry w (length o))
+    (grown (entered w (w .moves + 20)) (put o (w .moves) (entryBytes e (pick (eqb count 0) 0 first) count)))
+    (grown w o)
 
 -- ---- a line, hung on those before it                                                              (01, Attaching rule)
 
 -- Where the next line hangs: the first on none, told as entry 0 of line 0; any other on a line before it.
 unfoldable pub hangingOf : ℕ → ℕ → Walk → List ℕ → Hang
-hangingOf rows start v o =
-    let k = (v .lines - rows) / 8 in let h = hangsBy (drop rows o) start k in pick (eqb k 0) (On 0 0) h
+hangingOf rows start w o =
+    let k = (w .lines - rows) / 8 in let h = hangsBy (drop rows o) start k in pick (eqb k 0) (On 0 0) h
 
 -- Its row behind them, with the parent that was found; or that it hangs on none.
-unfoldable pub hookedOf : ℕ → ℕ → Walk → Walk → List ℕ → Hooked
-hookedOf rows start w v o =
-    onHang (hangingOf rows start v o) (λ p e. Put (putLine start p w v o .walk)) Loose
+unfoldable pub hookedOf : ℕ → ℕ → ℕ → Walk → List ℕ → Hooked
+hookedOf rows start first w o =
+    onHang (hangingOf rows start w o) (λ p e. Put (putLine start p first w o .walk)) Loose
 
-unfoldable pub hookedIn : ℕ → ℕ → Walk → Walk → List ℕ → List ℕ
-hookedIn rows start w v o =
-    onHang (hangingOf rows start v o) (λ p e. putLine start p w v o .buffer) o
+unfoldable pub hookedIn : ℕ → ℕ → ℕ → Walk → List ℕ → List ℕ
+hookedIn rows start first w o =
+    onHang (hangingOf rows start w o) (λ p e. putLine start p first w o .buffer) o
 
 -- ---- several parts, one after another
 
@@ -232,7 +232,7 @@ putComments = putAll putComment
 -- An entry with its comments: these first, since its bytes say how many they are.
 unfoldable pub putNoted : Noted → Walk → List ℕ → Grown
 putNoted e w o =
-    let g = putComments (e .comments) w o in putEntry (e .what) w (g .walk) (g .buffer)
+    let g = putComments (e .comments) w o in putEntry (e .what) (w .noted) (g .walk) (g .buffer)
 
 abbrev pub putEntries : List Noted → Walk → List ℕ → Grown
 putEntries = putAll putNoted

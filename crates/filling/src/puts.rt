@@ -66,17 +66,17 @@ pub(crate) fn less(a: usize, b: usize) -> usize
     a - b
 }
 
-// The row of the line whose entries were put between w and v, which starts at a ply, where the line rows end.
-pub fn put_line(out: &mut [u8], w: Walk, v: Walk, start: u64, parent: u64) -> Walk
-    ensures { λ r. ⌜ r ≡ putLine start parent w v (now (out .entry)) .walk ⌝ }
-    ensures { λ r. ⌜ now (out .exit) ≡ putLine start parent w v (now (out .entry)) .buffer ⌝ }
+// The row of the line that has the entries from number first on and starts at a ply, where the line rows end.
+pub fn put_line(out: &mut [u8], w: Walk, start: u64, parent: u64, first: usize) -> Walk
+    ensures { λ r. ⌜ r ≡ putLine start parent first w (now (out .entry)) .walk ⌝ }
+    ensures { λ r. ⌜ now (out .exit) ≡ putLine start parent first w (now (out .entry)) .buffer ⌝ }
 {
-    if !has_room(v.lines, 8, out.len()) {
-        return v;
+    if !has_room(w.lines, 8, out.len()) {
+        return w;
     }
-    let count = less(v.entries, w.entries);
-    let lines = block::put_line_row(out, v.lines, start, w.entries, count, parent);
-    Walk { lines, ..v }
+    let count = less(w.entries, first);
+    let lines = block::put_line_row(out, w.lines, start, first, count, parent);
+    Walk { lines, ..w }
 }
 
 // Whether a comment of n bytes has room.
@@ -146,15 +146,15 @@ fn entered(w: Walk, moves: usize) -> Walk
     }
 }
 
-// The entry whose comments were put between w and v, where the entries end.
-pub fn put_entry(out: &mut [u8], w: Walk, v: Walk, e: Entry) -> Walk
-    ensures { λ r. ⌜ r ≡ putEntry e w v (now (out .entry)) .walk ⌝ }
-    ensures { λ r. ⌜ now (out .exit) ≡ putEntry e w v (now (out .entry)) .buffer ⌝ }
+// The entry that has the comments from number first on, where the entries end.
+pub fn put_entry(out: &mut [u8], w: Walk, e: Entry, first: usize) -> Walk
+    ensures { λ r. ⌜ r ≡ putEntry e first w (now (out .entry)) .walk ⌝ }
+    ensures { λ r. ⌜ now (out .exit) ≡ putEntry e first w (now (out .entry)) .buffer ⌝ }
 {
-    if !has_entry(v, out.len()) {
-        return v;
+    if !has_entry(w, out.len()) {
+        return w;
     }
-    let count = less(v.noted, w.noted);
-    let first = first_comment(w.noted, count);
-    entered(v, block::put_entry_row(out, v.moves, e, first, count))
+    let count = less(w.noted, first);
+    let first = first_comment(first, count);
+    entered(w, block::put_entry_row(out, w.moves, e, first, count))
 }

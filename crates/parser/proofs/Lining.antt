@@ -188,8 +188,8 @@ module _ (s : List ℕ) (at : ℕ) (w : Walk) (o₀ : List ℕ) (f : LinesFit (a
           next-lost e = next-loose s at k to up some-here (hang-is h start z y ∙ e) ∙ ap (first k) (ap (plyAt s) (sym p) ∙ sym z)
 
           -- it hangs, and its row is filled in
-          module _ (parent e : ℕ) (on : h ≡ On parent e) {u : Walk} {o₂ : List ℕ} (row : u ≡ putLine start parent v (x .walk) o₁ .walk)
-              (rest-of : o₂ ≡ putLine start parent v (x .walk) o₁ .buffer) where
+          module _ (parent e : ℕ) (on : h ≡ On parent e) {u : Walk} {o₂ : List ℕ} (row : u ≡ putLine start parent (v .entries) (x .walk) o₁ .walk)
+              (rest-of : o₂ ≡ putLine start parent (v .entries) (x .walk) o₁ .buffer) where
             hang : hangs (starts ps) (counts ps) (starts ps k) k ≡ On parent e
             hang = hang-is h start z y ∙ on
 

@@ -39,8 +39,8 @@ module _ (s : List ℕ) (at : ℕ) (w : Walk) (o : List ℕ) (f : LineFits (main
   main-fit = line-fit 0 0 (mainAt s at .entries) f
 
   module _ (c : Cursor) (x : Reached) (u : Walk) {q o₁ : List ℕ} (p : c .at ≡ skippedAt s at) (a : x .walk ≡ putComments (commentsAt s (c .at) .state) w o .walk)
-      (b : q ≡ putComments (commentsAt s (c .at) .state) w o .buffer) (e : x .next .at ≡ commentsAt s (c .at) .at) (d : u ≡ putEntry Slot w (x .walk) q .walk)
-      (r : o₁ ≡ putEntry Slot w (x .walk) q .buffer) where
+      (b : q ≡ putComments (commentsAt s (c .at) .state) w o .buffer) (e : x .next .at ≡ commentsAt s (c .at) .at) (d : u ≡ putEntry Slot (w .noted) (x .walk) q .walk)
+      (r : o₁ ≡ putEntry Slot (w .noted) (x .walk) q .buffer) where
     slotted : Entered (slot ∷ []) w u o o₁
     slotted =
         let n = noted-done Slot (commentsAt s (c .at) .state) w o a b d r e in
@@ -73,12 +73,12 @@ module _ (s : List ℕ) (at : ℕ) (w : Walk) (o : List ℕ) (f : LineFits (main
 
       -- the row hangs on nothing
       abbrev row : Grown
-      row = putLine 0 0 w (y .walk) o₂
+      row = putLine 0 0 (w .entries) (y .walk) o₂
 
-      hooked : (Put (row .walk) ≡ hookedOf (w .lines) 0 w (y .walk) o₂) × (row .buffer ≡ hookedIn (w .lines) 0 w (y .walk) o₂)
-      hooked = row-put (w .lines) 0 w (y .walk) o₂ (first-hangs (w .lines) 0 (y .walk) o₂ (omega (arith, both .lines)) refl) refl refl
+      hooked : (Put (row .walk) ≡ hookedOf (w .lines) 0 (w .entries) (y .walk) o₂) × (row .buffer ≡ hookedIn (w .lines) 0 (w .entries) (y .walk) o₂)
+      hooked = row-put (w .lines) 0 (w .entries) (y .walk) o₂ (first-hangs (w .lines) 0 (y .walk) o₂ (omega (arith, both .lines)) refl) refl refl
 
-      pub main-lined : {v : Walk} {o₃ : List ℕ} → Put v ≡ hookedOf (w .lines) 0 w (y .walk) o₂ → o₃ ≡ hookedIn (w .lines) 0 w (y .walk) o₂
+      pub main-lined : {v : Walk} {o₃ : List ℕ} → Put v ≡ hookedOf (w .lines) 0 (w .entries) (y .walk) o₂ → o₃ ≡ hookedIn (w .lines) 0 (w .entries) (y .walk) o₂
           → Lined (mainLine s at ∷ []) w v o o₃
       unfolding mainAt
       main-lined {v} {o₃} m z =
@@ -86,5 +86,5 @@ module _ (s : List ℕ) (at : ℕ) (w : Walk) (o : List ℕ) (f : LineFits (main
           subst (λ (k : Walk). Lined (mainLine s at ∷ []) w k o o₃) (sym n)
           (subst (λ (l : List ℕ). Lined (mainLine s at ∷ []) w (row .walk) o l) (hooked .1 ∙ sym z) (line-put 0 0 (mainAt s at .entries) f both))
 
-      pub main-hangs : {A : Type 0} → Loose ≡ hookedOf (w .lines) 0 w (y .walk) o₂ → A
+      pub main-hangs : {A : Type 0} → Loose ≡ hookedOf (w .lines) 0 (w .entries) (y .walk) o₂ → A
       main-hangs m = let n : _≡_ {A = ℕ} 0 1 = ap (λ (h : Hooked). onHooked h (λ k. 1) 0) (m ∙ sym (hooked .0)) in absurd (omega arith)

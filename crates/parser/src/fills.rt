@@ -22,12 +22,12 @@ fn fill_main(s: &[u8], c: Cursor, w: Walk, out: &mut [u8]) -> FilledPlay
     ensures { λ r. ⌜ r .lost ≡ lostFrom (now (s .entry)) (slotAt (now (s .entry)) (c .at) .at) ⌝ }
 {
     let slot = plays::fill_comments(s, plays::skipped(c, s), w, out);
-    let u = filling::put_entry(out, w, slot.walk, Entry::Slot);
+    let u = filling::put_entry(out, slot.walk, Entry::Slot, w.noted);
     let line = plays::fill_moves(s, slot.next, u, out);
     let v = line.walk;
     let next = plays::past(slot.next, v.entries - u.entries, line.next, s);
     let lost = line.lost;
-    let Hooked::Put(walk) = filling::hang_line(out, w.lines, 0, w, v) else {
+    let Hooked::Put(walk) = filling::hang_line(out, v, w.lines, 0, w.entries) else {
         return FilledPlay {
             walk: v,
             next,
@@ -57,7 +57,7 @@ pub(crate) fn fill_lines(s: &[u8], c: Cursor, w: Walk, out: &mut [u8]) -> Hangin
             return Hanging::AllHung(next, lost);
         }
         let start = plays::ply(at, s);
-        let Hooked::Put(u) = filling::hang_line(out, table, start, walk, v) else {
+        let Hooked::Put(u) = filling::hang_line(out, v, table, start, walk.entries) else {
             return Hanging::Loose(k, start);
         };
         walk = u;

@@ -41,7 +41,7 @@ fn fill_noted(s: &[u8], e: Entry, c: Cursor, w: Walk, out: &mut [u8]) -> Reached
 {
     let comments = fill_comments(s, c, w, out);
     let next = comments.next;
-    let walk = filling::put_entry(out, w, comments.walk, e);
+    let walk = filling::put_entry(out, comments.walk, e, w.noted);
     Reached { walk, next }
 }
 

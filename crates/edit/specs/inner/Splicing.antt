@@ -65,7 +65,7 @@ recordAfter version b p q vs = relined version (decode b) (linesAfter b p q vs)
 -- A line: its entries, and then its row, on its parent.
 unfoldable pub putWhole : Line → Walk → List ℕ → Grown
 putWhole l w o =
-    let g = putEntries (l .entries) w o in putLine (l .start) (l .parent) w (g .walk) (g .buffer)
+    let g = putEntries (l .entries) w o in putLine (l .start) (l .parent) (w .entries) (g .walk) (g .buffer)
 
 abbrev pub putWholes : List Line → Walk → List ℕ → Grown
 putWholes = putAll putWhole

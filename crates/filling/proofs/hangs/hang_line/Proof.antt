@@ -24,7 +24,7 @@ same-length : tie.Need-same-length
 same-length c = search needs
 
 returns : tie.Need-returns
-returns c = let a = c .before .before .before .before .before .args in none-put (a .rows) (a .start) (a .w) (a .v) (now (a .out)) (sym (c .enum-told .given .1) ∙ c .before .before .hanging .ensures)
+returns c = let a = c .before .before .before .before .before .args in none-put (a .rows) (a .start) (a .first) (a .w) (now (a .out)) (sym (c .enum-told .given .1) ∙ c .before .before .hanging .ensures)
 
 put-line-requires : tie.Need-put-line-requires
 put-line-requires c κs = search needs
@@ -33,7 +33,7 @@ same-length-2 : tie.Need-same-length-2
 same-length-2 c = search needs
 
 returns-2 : tie.Need-returns-2
-returns-2 c = let a = c .before .before .before .before .before .before .before .before .before .before .args in row-put (a .rows) (a .start) (a .w) (a .v) (now (a .out)) (sym (c .before .before .before .before .before .parent .given .1) ∙ c .before .before .before .before .before .before .before .hanging .ensures) (c .before .before .put-line .ensures .0) (c .before .before .put-line .ensures .1)
+returns-2 c = let a = c .before .before .before .before .before .before .before .before .before .before .args in row-put (a .rows) (a .start) (a .first) (a .w) (now (a .out)) (sym (c .before .before .before .before .before .parent .given .1) ∙ c .before .before .before .before .before .before .before .hanging .ensures) (c .before .before .put-line .ensures .0) (c .before .before .put-line .ensures .1)
 
 pub hang-line-spec : {M : Type 1} → statement M
 hang-line-spec =

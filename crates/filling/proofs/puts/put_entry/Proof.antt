@@ -11,7 +11,7 @@ has-entry-requires : tie.Need-has-entry-requires
 has-entry-requires c κs = search needs
 
 returns : tie.Need-returns
-returns c = let a = c .before .before .before .args in entry-none (a .e) (a .w) (a .v) (a .out .now) (sym (c .before .has-entry .ensures) ∙ not-true _ (c .if1 .taken))
+returns c = let a = c .before .before .before .args in entry-none (a .e) (a .first) (a .w) (a .out .now) (sym (c .before .has-entry .ensures) ∙ not-true _ (c .if1 .taken))
 
 less-requires : tie.Need-less-requires
 less-requires c κs = search needs
@@ -31,7 +31,7 @@ same-length c = search needs
 returns-2 : tie.Need-returns-2
 returns-2 c =
     let a = c .before .before .before .before .before .before .before .before .before .before .args in
-    entry-done (a .e) (a .w) (a .v) (a .out .now) (sym (c .before .before .before .before .before .before .before .before .has-entry .ensures) ∙ not-false _ (c .before .before .before .before .before .before .before .if1 .left)) (c .before .before .before .before .before .before .less .ensures)
+    entry-done (a .e) (a .first) (a .w) (a .out .now) (sym (c .before .before .before .before .before .before .before .before .has-entry .ensures) ∙ not-false _ (c .before .before .before .before .before .before .before .if1 .left)) (c .before .before .before .before .before .before .less .ensures)
     (c .before .before .before .before .before .first-comment .ensures) (c .before .before .before .put-entry-row .ensures) (c .entered .ensures)
 
 pub put-entry-spec : {M : Type 1} → statement M

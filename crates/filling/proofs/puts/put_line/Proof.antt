@@ -11,7 +11,7 @@ has-room-requires : tie.Need-has-room-requires
 has-room-requires c κs = search needs
 
 returns : tie.Need-returns
-returns c = let a = c .before .before .before .args in line-none (a .start) (a .parent) (a .w) (a .v) (a .out .now) (sym (c .before .has-room .ensures) ∙ not-true _ (c .if1 .taken))
+returns c = let a = c .before .before .before .args in line-none (a .start) (a .parent) (a .first) (a .w) (a .out .now) (sym (c .before .has-room .ensures) ∙ not-true _ (c .if1 .taken))
 
 less-requires : tie.Need-less-requires
 less-requires c κs = search needs
@@ -23,7 +23,7 @@ same-length : tie.Need-same-length
 same-length c = search needs
 
 returns-2 : tie.Need-returns-2
-returns-2 c = let a = c .before .before .before .before .before .before .before .before .args in line-done (a .start) (a .parent) (a .w) (a .v) (a .out .now) (sym (c .before .before .before .before .before .before .has-room .ensures) ∙ not-false _ (c .before .before .before .before .before .if1 .left)) (c .before .before .before .before .less .ensures) (c .before .before .put-line-row .ensures)
+returns-2 c = let a = c .before .before .before .before .before .before .before .before .args in line-done (a .start) (a .parent) (a .first) (a .w) (a .out .now) (sym (c .before .before .before .before .before .before .has-room .ensures) ∙ not-false _ (c .before .before .before .before .before .if1 .left)) (c .before .before .before .before .less .ensures) (c .before .before .put-line-row .ensures)
 
 pub put-line-spec : {M : Type 1} → statement M
 put-line-spec =
