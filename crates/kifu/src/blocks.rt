@@ -3,10 +3,16 @@ use crate::edits;
 use crate::edits::Edited;
 use crate::files;
 use crate::notes;
+use crate::notes::NOTE;
 use crate::print_text;
 use crate::refusals;
 use crate::told;
-use crate::words::Word;
+use crate::trees;
+use crate::words::BLOCK_CUT;
+use crate::words::BLOCK_LIST;
+use crate::words::BLOCK_PUT;
+use crate::words::BLOCK_TREE;
+use crate::words::TEXT;
 use jkf::Figures;
 use libc::STDOUT_FILENO;
 ghost use Prim.Native.Nat.{_≤_, _<_};
@@ -49,83 +55,111 @@ pub(crate) fn tell_nested(name: &[u8], b: &[u8], left_out: u64) {
     if lines < left_out {
         return;
     }
-    notes::tell(
+    notes::tell_some(
+        NOTE,
         name,
-        b"variations of a move that has another one before them; read again from this text, they hang inside it: ",
+        b"variations of a move that has another one before them; read again from this text, they hang inside it: %",
         count_equals(b, lines - left_out),
+        0,
     );
 }
 
-// Prints the lines of a block: its listing without the line on what was read.
-fn print_lines(name: &[u8], b: &[u8], out: &mut [u8]) -> bool {
-    if !block::sound(b) {
-        refusals::tell(
-            name,
-            Figures {
-                number: 7,
-                first: 0,
-                second: 0,
-            },
-        );
-        return false;
+// Whether a block is sound; or says that it is not.
+fn is_sound(name: &[u8], b: &[u8]) -> bool {
+    if block::sound(b) {
+        return true;
     }
+    refusals::tell(
+        name,
+        Figures {
+            number: 7,
+            first: 0,
+            second: 0,
+        },
+    );
+    false
+}
+
+// Prints the length, the version and the lines of a block: its listing with another first line.
+fn print_lines(b: &[u8], out: &mut [u8]) -> bool {
     let mut head = [0u8; 128];
     let first = shown::put_read(&mut head, 0, b.len() as u64);
     let n = shown::put_listing(out, 0, b);
-    told(io::write_all(STDOUT_FILENO, lent::rest(lent::front(&out[0..], n), first)))
+    notes::say(
+        STDOUT_FILENO,
+        b"block % version %\n",
+        b.len() as u64,
+        block::version_in(b) as u64,
+        0,
+    );
+    io::write_all(STDOUT_FILENO, lent::rest(lent::front(&out[0..], n), first))
 }
 
 // Makes the edit that is asked for; a variation's text is read into the room.
-fn edit(word: Word, line: u64, name: &[u8], b: &[u8], room: &mut [u8], out: &mut [u8]) -> Edited {
+fn edit(word: usize, line: u64, name: &[u8], b: &[u8], room: &mut [u8], out: &mut [u8]) -> Edited {
     match word {
-        Word::BlockPut => edits::put(name, b, line, room, out),
-        Word::BlockCut => edits::cut(name, b, line, out),
+        BLOCK_PUT => edits::put(name, b, line, room, out),
+        BLOCK_CUT => edits::cut(name, b, line, out),
         _ => edits::restate(name, b, out),
     }
 }
 
-// Which word names the new file.
-fn place_of_out(word: Word) -> usize
-    ensures { λ r. ⌜ r ≤ 5 ⌝ }
-{
+// Which name is that of the new file.
+fn place_of_out(word: usize) -> usize {
     match word {
-        Word::BlockPut => 5,
-        Word::BlockCut => 4,
-        _ => 3,
+        BLOCK_PUT => 4,
+        BLOCK_CUT => 3,
+        _ => 2,
     }
 }
 
 // Prints how long the new block is, and the number of the new line or how many lines were cut.
-fn print_done(word: Word, n: u64, second: u64) -> bool {
+fn print_done(word: usize, n: u64, second: u64) -> bool {
     match word {
-        Word::BlockPut => notes::say_two(STDOUT_FILENO, b"block ", n, b" line ", second, b"\n"),
-        Word::BlockCut => notes::say_two(STDOUT_FILENO, b"block ", n, b" removed ", second, b"\n"),
-        _ => notes::say(STDOUT_FILENO, b"block ", n, b"\n"),
+        BLOCK_PUT => notes::say(STDOUT_FILENO, b"block % line %\n", n, second, 0),
+        BLOCK_CUT => notes::say(STDOUT_FILENO, b"block % removed %\n", n, second, 0),
+        _ => notes::say(STDOUT_FILENO, b"block %\n", n, 0, 0),
     }
 }
 
-// Writes an edited block into a new file. The text that is put in is read before anything is printed, so both use one buffer.
-fn keep_edited(word: Word, line: u64, name: &[u8], b: &[u8], room: &mut [u8]) {
-    let mut edited = [0u8; 65535];
-    let Edited::Block(n, second, times) = edit(word, line, name, b, room, &mut edited) else {
+// Writes an edited block into a new file, which goes again where that cannot be told.
+fn keep_edited(word: usize, line: u64, name: &[u8], b: &[u8], room: &mut [u8], made: &mut [u8]) {
+    let Edited::Block(n, second, times) = edit(word, line, name, b, room, made) else {
         return;
     };
-    if !files::keep(place_of_out(word), lent::front(&edited, n)) {
+    if !files::keep(place_of_out(word), lent::front(&made[0..], n)) {
         return;
     }
     if told(print_done(word, n as u64, second)) {
         edits::tell_variation(times);
+        return;
     }
+    files::remove(place_of_out(word));
 }
 
-pub(crate) fn answer(word: Word, line: u64, name: &[u8], b: &[u8], out: &mut [u8]) {
+// The text that is put in is read before anything is printed, so both use one buffer.
+pub(crate) fn answer(
+    word: usize,
+    line: u64,
+    name: &[u8],
+    b: &[u8],
+    out: &mut [u8],
+    made: &mut [u8],
+) {
     match word {
-        Word::Text => {
+        TEXT => {
             print_text(name, b, out);
         }
-        Word::BlockList => {
-            print_lines(name, b, out);
+        BLOCK_LIST => {
+            if is_sound(name, b) {
+                told(print_lines(b, out));
+            }
         }
-        _ => keep_edited(word, line, name, b, out),
+        BLOCK_TREE => {
+            if is_sound(name, b) {
+                told(trees::print(b));
+            }
+        }
+        _ => keep_edited(word, line, name, b, out, made),
     }
 }

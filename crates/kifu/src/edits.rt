@@ -1,6 +1,7 @@
 // Edits of a block, into a buffer that is as long as a block can be.
 use crate::files;
 use crate::notes;
+use crate::notes::REFUSED;
 use crate::refusals;
 use crate::times;
 use crate::times::Times;
@@ -18,19 +19,58 @@ pub enum Edited {
     Refused,
 }
 
-// What an edit came to; where it is refused, why.
-fn made(name: &[u8], f: Figures, t: Times) -> Edited {
-    if f.number != 0 {
+// The moves of a line, on which a variation can be put: the first and the last.
+fn say_moves(b: &[u8], line: u16) -> bool {
+    let start = block::start_of(b, line) as u64;
+    let first = if start == 0 { 1 } else { start };
+    let past = start + block::entry_count(b, line) as u64;
+    notes::say(
+        STDERR_FILENO,
+        b"; its moves are % to %",
+        first,
+        notes::above(past, 1),
+        0,
+    )
+}
+
+// What an edit of a block came to; where it is refused, why.
+fn made(name: &[u8], b: &[u8], f: Figures, t: Times) -> Edited {
+    if f.number == 0 {
+        return Edited::Block(f.first as usize, f.second, t);
+    }
+    if f.number != 12 {
         refusals::tell(name, f);
         return Edited::Refused;
     }
-    Edited::Block(f.first as usize, f.second, t)
+    notes::head(REFUSED, name);
+    notes::say(
+        STDERR_FILENO,
+        b"line of play % has no move % to put a variation at",
+        f.first,
+        f.second,
+        0,
+    );
+    if f.first < 65536 {
+        say_moves(b, f.first as u16);
+    }
+    refusals::end(12);
+    Edited::Refused
 }
 
 // Without a line, and without all that hangs from it.
 pub(crate) fn cut(name: &[u8], b: &[u8], line: u64, out: &mut [u8]) -> Edited {
+    if line == 0 {
+        notes::head(REFUSED, name);
+        io::write_all(
+            STDERR_FILENO,
+            b"line of play 0 is the main line, which stays; a variation has a number from 1 on",
+        );
+        refusals::end(10);
+        return Edited::Refused;
+    }
     made(
         name,
+        b,
         jkf::figures_of(edit::cut(b, line, out)),
         times::none(),
     )
@@ -40,14 +80,12 @@ pub(crate) fn cut(name: &[u8], b: &[u8], line: u64, out: &mut [u8]) -> Edited {
 pub(crate) fn restate(name: &[u8], b: &[u8], out: &mut [u8]) -> Edited {
     let f = jkf::figures_of(edit::restate(b, out));
     if f.number == 7 && block::sound(b) {
-        notes::say_name(b"kifu: refused: ", name);
-        io::write_all(
-            STDERR_FILENO,
-            b"the block is of version 2 already (refusal 7)\n",
-        );
+        notes::head(REFUSED, name);
+        io::write_all(STDERR_FILENO, b"the block is of version 2 already");
+        refusals::end(7);
         return Edited::Refused;
     }
-    made(name, f, times::none())
+    made(name, b, f, times::none())
 }
 
 // The number that was expected where so many entries follow a first one; the last number of 64 bits has none after it.
@@ -55,7 +93,7 @@ fn say_expected(first: u64, count: u64) -> bool {
     if u64::MAX - first < count {
         return io::write_all(STDERR_FILENO, b", and no number is above the one before it");
     }
-    notes::say(STDERR_FILENO, b", where ", first + count, b" is expected")
+    notes::say(STDERR_FILENO, b", where % is expected", first + count, 0, 0)
 }
 
 // Says at which line of a text its numbers do not go up by one; and whether they do not.
@@ -66,18 +104,18 @@ fn tell_stray(name: &[u8], text: &[u8]) -> bool {
     let MoveLine::Numbered(number, _, _) = moves::move_line(x.next, text) else {
         return false;
     };
-    notes::say_name(b"kifu: refused: ", name);
+    notes::head(REFUSED, name);
     let line = stops::line_column(text, x.next.at).line;
-    notes::say_two(
+    notes::say(
         STDERR_FILENO,
-        b"line ",
+        b"line %: the move is numbered %",
         line,
-        b": the move is numbered ",
         number,
-        b"",
+        0,
     );
     say_expected(first, x.entries as u64);
-    io::write_all(STDERR_FILENO, b" (refusal 11)\n")
+    refusals::end(11);
+    true
 }
 
 // Why a line of play goes no further than a place; at the start of a text only a move is sought, and at its end nothing.
@@ -100,13 +138,31 @@ fn tell_reason(name: &[u8], text: &[u8]) -> bool {
     let Failed::At(at, reason) = fails(end, text) else {
         return false;
     };
-    notes::say_name(b"kifu: refused: ", name);
-    wheres::say_reached(STDERR_FILENO, text, end.at, reason, at);
-    io::write_all(STDERR_FILENO, b" (refusal 11)\n")
+    let fd = notes::head(REFUSED, name);
+    wheres::say_reached(fd, text, end.at, reason, at);
+    if end.at == 0 {
+        io::write_all(
+            fd,
+            b"; the file of a variation begins with its first move, and neither \xe5\xa4\x89\xe5\x8c\x96, \xe6\x89\x8b\xe6\x95\xb0 nor a header line stands in it",
+        );
+    } else {
+        io::write_all(
+            fd,
+            b"; behind the first move of a variation stand only moves and comments, and neither an empty line nor \xe3\x81\xbe\xe3\x81\xa7",
+        );
+    }
+    refusals::end(11);
+    true
 }
 
-// Says that a text is too long or not UTF-8; and whether it is.
+// Says that a text is empty, too long or not UTF-8; and whether it is.
 fn tell_unread(name: &[u8], text: &[u8]) -> bool {
+    if text.len() == 0 {
+        notes::head(REFUSED, name);
+        io::write_all(STDERR_FILENO, b"the file is empty, and has no variation");
+        refusals::end(11);
+        return true;
+    }
     if 65535 < text.len() {
         refusals::tell_at(name, text, 1, text.len() as u64, 11);
         return true;
@@ -147,33 +203,19 @@ fn put_text(
         tell_text(variation, text, f);
         return Edited::Refused;
     }
-    made(name, f, times::of_variation(text))
+    made(name, b, f, times::of_variation(text))
 }
 
-// With that of a file, read into a buffer with room for more than a text may have, so that a longer one is refused and not cut.
-fn put_file(
-    name: &[u8],
-    b: &[u8],
-    line: u64,
-    variation: &[u8],
-    room: &mut [u8],
-    out: &mut [u8],
-) -> Edited {
-    let files::Got::Bytes(n) = files::fill(variation, room) else {
-        return Edited::Refused;
-    };
-    put_text(name, b, line, variation, lent::front(&room[0..], n), out)
-}
-
-// With that of the file that the fourth word names.
+// With that of the file that the third name is of, read into a buffer with room for more than a text may have, so that a longer one is refused
+// and not cut.
 pub(crate) fn put(name: &[u8], b: &[u8], line: u64, room: &mut [u8], out: &mut [u8]) -> Edited {
     let mut variation = io::buffer();
-    let n = words::arg(4, &mut variation);
-    if os::errno() != 0 {
-        os::fail(b"kifu: refused: VARIATION");
+    let n = words::name(3, &mut variation);
+    let files::Got::Bytes(from, to) = files::fill_text(&variation[..n], room) else {
         return Edited::Refused;
-    }
-    put_file(name, b, line, &variation[..n], room, out)
+    };
+    let text = lent::rest(lent::front(&room[0..], to), from);
+    put_text(name, b, line, &variation[..n], text, out)
 }
 
 // Says how many times of that file were lost, where some were.
@@ -182,6 +224,6 @@ pub(crate) fn tell_variation(t: Times) {
         return;
     }
     let mut variation = io::buffer();
-    let n = words::arg(4, &mut variation);
-    times::tell(&variation[..n], t);
+    let n = words::name(3, &mut variation);
+    times::tell(notes::NOTE, &variation[..n], t);
 }

@@ -1,27 +1,23 @@
-// Files by their names.
+// Files by their names; `-` is standard input.
+use crate::notes::NOTE;
+use crate::notes::REFUSED;
+use crate::notes::tell;
+use crate::quotes;
 use crate::words;
-ghost use Prim.Native.Nat.{_≤_};
-ghost use lib.ListN.{length};
+use libc::STDERR_FILENO;
+use libc::STDIN_FILENO;
 
-// How many bytes were read, or that reading failed.
+// Where the bytes that were read begin and end in their buffer, or that reading failed.
 pub enum Got {
-    Bytes(usize),
+    Bytes(usize, usize),
     Failed,
 }
 
-// The head of a refusal and a name.
-fn put_refused(out: &mut [u8], name: &[u8]) -> usize
-    ensures { λ r. ⌜ r ≤ length (now (out .entry)) ⌝ }
-{
-    let n = lent::put_bytes(out, b"kifu: refused: ");
-    n + lent::put_bytes(&mut out[n..], name)
-}
-
-// Says why the last call on a file failed. The line is made before anything is written, so that errno is still that call's.
+// Says why the last call on a file failed: what is written before it leaves errno alone.
 fn fail(name: &[u8]) {
-    let mut what = [0u8; 4352];
-    let n = put_refused(&mut what, name);
-    os::fail(lent::front(&what, n));
+    io::write_all(STDERR_FILENO, b"kifu: refused: ");
+    quotes::say_name(name);
+    os::fail(b"");
 }
 
 // Whether a file can still be read: at its end a read answers 0, and -1 only where it fails, as of a folder.
@@ -30,9 +26,17 @@ fn reads_on(fd: i32) -> bool {
     libc::read(fd, &mut more) >= 0
 }
 
+// Opens a file for reading.
+fn open(name: &[u8]) -> i32 {
+    if check::same(name, b"-") {
+        return STDIN_FILENO;
+    }
+    os::open_read(name)
+}
+
 // Fills a buffer with the front of a file, or says why it cannot.
 pub(crate) fn fill(name: &[u8], buf: &mut [u8]) -> Got {
-    let fd = os::open_read(name);
+    let fd = open(name);
     if fd < 0 {
         fail(name);
         return Got::Failed;
@@ -40,24 +44,68 @@ pub(crate) fn fill(name: &[u8], buf: &mut [u8]) -> Got {
     let n = io::read_full(fd, buf);
     if !reads_on(fd) {
         fail(name);
-        libc::close(fd);
         return Got::Failed;
     }
     libc::close(fd);
-    Got::Bytes(n)
+    Got::Bytes(0, n)
 }
 
-// Writes bytes into the new file that word k names, or says why it cannot.
-pub(crate) fn keep(k: usize, bytes: &[u8]) -> bool
-    requires { ⌜ k ≤ 5 ⌝ }
-{
-    let mut name = io::buffer();
-    let n = words::arg(k, &mut name);
-    if os::errno() != 0 {
-        os::fail(b"kifu: refused: OUT");
-        return false;
+// The part of a file that is a text: not a block, and without a BOM, which is passed only where that is asked for. One that is too long is left to
+// the reader, which refuses it.
+fn text_of(name: &[u8], s: &[u8]) -> Got {
+    if text::stands(s, 0, b"KB\x01\0") || text::stands(s, 0, b"KB\x02\0") {
+        tell(
+            REFUSED,
+            name,
+            b"this is a block file and no KIF text; kifu text makes a text of it",
+            0,
+            0,
+        );
+        return Got::Failed;
     }
+    if 65535 < s.len() || !text::stands(s, 0, b"\xef\xbb\xbf") {
+        return Got::Bytes(0, s.len());
+    }
+    if words::has(words::SKIP_BOM) {
+        tell(
+            NOTE,
+            name,
+            b"the BOM at its start was passed over; bytes are counted from behind it",
+            0,
+            0,
+        );
+        return Got::Bytes(3, s.len());
+    }
+    tell(
+        REFUSED,
+        name,
+        b"line 1 begins with a BOM (the bytes EF BB BF), and would not be understood; --skip-bom reads past it",
+        0,
+        0,
+    );
+    Got::Failed
+}
+
+// The same with a file that is a text.
+pub(crate) fn fill_text(name: &[u8], buf: &mut [u8]) -> Got {
+    let Got::Bytes(_, n) = fill(name, buf) else {
+        return Got::Failed;
+    };
+    text_of(name, lent::front(&buf[0..], n))
+}
+
+// Writes bytes into the new file that name k is of, or says why it cannot.
+pub(crate) fn keep(k: usize, bytes: &[u8]) -> bool {
+    let mut name = io::buffer();
+    let n = words::name(k, &mut name);
     make(&name[..n], bytes)
+}
+
+// Takes away the file that was made under name k.
+pub(crate) fn remove(k: usize) {
+    let mut name = io::buffer();
+    let n = words::name(k, &mut name);
+    os::unlink(&name[..n]);
 }
 
 // Writes a new file, all of it, and answers true; or says why it cannot, and takes away what it made. A file that stands there is left alone.
@@ -69,7 +117,6 @@ fn make(name: &[u8], bytes: &[u8]) -> bool {
     }
     if !io::write_all(fd, bytes) {
         fail(name);
-        libc::close(fd);
         os::unlink(name);
         return false;
     }

@@ -1,5 +1,6 @@
 // What writing loses of a block, counted over the lines that are written.   (01, Writing, and what is lost)
 use crate::notes;
+use crate::notes::NOTE;
 use jkf::Clock;
 use jkf::Entry;
 use jkf::Time;
@@ -67,19 +68,25 @@ fn written(b: &[u8], left_out: u64) -> usize
 // Says what was lost where so many lines were left out.
 pub(crate) fn tell(name: &[u8], b: &[u8], left_out: u64) {
     let l = count_lost(b, written(b, left_out));
-    notes::tell(
+    notes::tell_some(
+        NOTE,
         name,
-        b"lines left out, from the first that starts at ply 0 on: ",
+        b"lines left out, from the first that starts at ply 0 on: %",
         left_out,
+        0,
     );
-    notes::tell(
+    notes::tell_some(
+        NOTE,
         name,
-        b"marks \xe4\xb8\x8d\xe6\x88\x90 that are not written: ",
+        b"marks \xe4\xb8\x8d\xe6\x88\x90 that are not written: %",
         l.marks as u64,
+        0,
     );
-    notes::tell(
+    notes::tell_some(
+        NOTE,
         name,
-        b"hours of a move's own time that are not written: ",
+        b"hours of a move's own time that are not written: %",
         l.hours as u64,
+        0,
     );
 }

@@ -1,13 +1,30 @@
 // The sentence of each refusal, with its figures.   (01, Numbers of refusal)
 use crate::notes;
+use crate::notes::REFUSED;
+use crate::passes;
+use crate::passes::Walk;
+use crate::words;
 use jkf::Figures;
 use libc::STDERR_FILENO;
 use stops::Astray;
 use stops::StopAnswer;
+use text::Cursor;
+use text::Place;
 
-// The kinds that can be held, in the order of the hands: rows of 8 bytes.
-fn say_kind(kind: u64) -> bool {
+// The end of a refusal: its number.
+pub(crate) fn end(number: u64) {
+    notes::say(STDERR_FILENO, b" (refusal %)\n", number, 0, 0);
+}
+
+// A count that cannot be written, of a side and of a kind, in the order of the hands.
+fn say_hand(side: u64, kind: u64) -> bool {
+    let color = if side == 0 { 0 } else { 6 };
     let at = if kind < 6 { 8 * (kind as usize) } else { 48 };
+    io::write_all(
+        STDERR_FILENO,
+        shown::table_text(b"\x05Black\x05White", color),
+    );
+    io::write_all(STDERR_FILENO, b" has more than 99 ");
     io::write_all(
         STDERR_FILENO,
         shown::table_text(
@@ -20,101 +37,51 @@ fn say_kind(kind: u64) -> bool {
               \x05rooks  ",
             at,
         ),
-    )
+    );
+    io::write_all(STDERR_FILENO, b" in hand, which no text can say")
 }
 
-// A count that cannot be written.
-fn say_hand(side: u64, kind: u64) -> bool {
-    if side == 0 {
-        io::write_all(STDERR_FILENO, b"Black");
-    } else {
-        io::write_all(STDERR_FILENO, b"White");
-    }
-    io::write_all(STDERR_FILENO, b" has more than 99 ");
-    say_kind(kind);
-    io::write_all(STDERR_FILENO, b" in hand")
+// The row of a refusal in the table of sentences.
+fn row_of(number: u64) -> usize {
+    if number < 14 { number as usize } else { 14 }
 }
 
-// The place of the first #, or the end.
-fn mark(t: &[u8]) -> usize {
-    let mut i = 0;
-    while i < t.len() {
-        if t[i] == b'#' {
-            return i;
-        }
-        i += 1;
-    }
-    i
-}
-
-// The end of a sentence, with a figure in the place of its mark, if it has one.
-fn say_end(t: &[u8], y: u64) -> bool {
-    let at = mark(t);
-    if t.len() <= at {
-        return io::write_all(STDERR_FILENO, t);
-    }
-    notes::say(STDERR_FILENO, lent::front(t, at), y, &t[at + 1..])
-}
-
-// A sentence, with its figures in the places of its marks: two, one or none.
-fn say(t: &[u8], x: u64, y: u64) -> bool {
-    let at = mark(t);
-    if t.len() <= at {
-        return io::write_all(STDERR_FILENO, t);
-    }
-    io::write_all(STDERR_FILENO, lent::front(t, at));
-    io::print_decimal(STDERR_FILENO, x);
-    say_end(&t[at + 1..], y)
-}
-
-// Where the sentence of a refusal begins in their table: those of 15, 16 and 20 stand behind that of 13.
-fn sentence_of(number: u64) -> usize {
-    if number < 14 {
-        return 98 * (number as usize);
-    }
-    match number {
-        15 => 1372,
-        16 => 1470,
-        _ => 1568,
-    }
-}
-
-// The sentences: rows of 98 bytes. That of refusal 8 names a side and a kind, that of refusal 6 has more figures, and that of refusal 17 a move.
+// The sentences: those of 6, 8 and from 15 to 17 are made elsewhere, and that of 20 is the last.
 fn say_refusal(number: u64, x: u64, y: u64) -> bool {
     if number == 8 {
         return say_hand(x, y);
     }
-    say(
-        shown::table_text(
-            b"\x00                                                                                                 \
-              \x2fthe text has # bytes or more; 65535 is the most                                                  \
-              \x51the text is not UTF-8 after its first # bytes, in line #; perhaps it is Shift_JIS                \
-              \x2fthe hand line at byte #, line #, cannot be read                                                  \
-              \x2fthe block would have # bytes; 65535 is the most                                                  \
-              \x2cthe result has # bytes, and there is no room                                                     \
-              \x00                                                                                                 \
-              \x3dthis is not a sound block; of a KIF file kifu block makes one                                    \
-              \x00                                                                                                 \
-              \x61line #, entry # cannot be written: its square is off the board, or its time has no room beside it\
-              \x18there is no such line: #                                                                         \
-              \x1dthe text is not one variation                                                                    \
-              \x29line # has no ply # to put a variation at                                                        \
-              \x5cline #, ply # already carries a variation; a block of version 2 may have more (kifu restate)     \
-              \x39the record has no diagram, and its handicap is not \xe5\xb9\xb3\xe6\x89\x8b                                        \
-              \x15line # has no entry #                                                                            \
-              \x59line # starts at ply 0; --plain writes the text without it and without the lines after it        ",
-            sentence_of(number),
+    notes::say(
+        STDERR_FILENO,
+        words::row(
+            b"\n\
+              the file has more than 65535 bytes, which are the most that can be read\n\
+              line %: this is no UTF-8 text (byte %); if it is Shift_JIS, as many KIF files are, this makes a file that can be read: iconv -f CP932 -t UTF-8 FILE >NEW\n\
+              line %: the pieces in hand cannot be read (byte %); they are written as \xe9\xa3\x9b\xe3\x80\x80\xe6\xad\xa9\xe4\xba\x8c, and \xe3\x81\xaa\xe3\x81\x97 for none\n\
+              the record is too large: its block would have % bytes, and 65535 are the most\n\
+              the result has % bytes, and there is no room\n\
+              \n\
+              this is no block file, or a damaged one; kifu block makes one of a KIF file\n\
+              \n\
+              line of play %, entry %: this cannot be written as text: its square is off the board, or its time has no room beside it\n\
+              there is no line of play %; kifu list or block-list shows which there are\n\
+              the text is not one variation\n\
+              line of play % has no move % to put a variation at\n\
+              line of play %, move %: a variation stands there already, and a text has room for one; put the other into that variation's line, which kifu tree shows, or both into a block (kifu restate)\n\
+              line of play % begins at move 0, which no text can say; --plain writes the text without it and without the lines after it\n",
+            row_of(number),
         ),
         x,
         y,
+        0,
     )
 }
 
 // Says in a line why a file was refused, in the words of one refusal and with the number of another.
 fn tell_as(name: &[u8], f: Figures, number: u64) {
-    notes::say_name(b"kifu: refused: ", name);
+    notes::head(REFUSED, name);
     say_refusal(f.number, f.first, f.second);
-    notes::say(STDERR_FILENO, b" (refusal ", number, b")\n");
+    end(number);
 }
 
 // Says in a line why a file was refused.
@@ -122,62 +89,80 @@ pub(crate) fn tell(name: &[u8], f: Figures) {
     tell_as(name, f, f.number);
 }
 
-// Whether this is line 0, and it has no move.
-fn is_bare(line: u64, last: u64) -> bool {
-    if line != 0 {
-        return false;
-    }
-    last == 0
-}
-
-// The sentence of refusal 6, of a variation that begins in this line of the text.
-fn say_astray(a: Astray, line: u64) -> bool {
-    notes::say_two(
-        STDERR_FILENO,
-        b"variation ",
-        a.variation,
-        b" (line ",
-        line,
-        b" of the text) starts at ply ",
-    );
-    io::print_decimal(STDERR_FILENO, a.ply);
-    if is_bare(a.parent, a.last) {
-        return io::write_all(
-            STDERR_FILENO,
-            b", but no move was read before it (perhaps an empty line, a # line or a BOM stands before \xe6\x89\x8b\xe6\x95\xb0, or a move has no number)",
-        );
-    }
-    notes::say_two(
-        STDERR_FILENO,
-        b", but line of play ",
-        a.parent,
-        b", on which it would hang, has plies ",
-        a.first,
-        b" to ",
-    );
-    notes::say(STDERR_FILENO, b"", a.last, b" only")
-}
-
-// Says in a line that a variation hangs nowhere.
-fn tell_astray(name: &[u8], a: Astray, line: u64) {
-    notes::say_name(b"kifu: refused: ", name);
-    say_astray(a, line);
-    io::write_all(STDERR_FILENO, b" (refusal 6)\n");
-}
-
-// Says in a line why a text was refused, by a place in it, whose line is the second figure; in the words of one refusal and with the number of
-// another.
+// Says in a line why a text was refused, by a place in it: its line, and the byte; in the words of one refusal and with the number of another.
 pub(crate) fn tell_at(name: &[u8], text: &[u8], words: u64, at: u64, number: u64) {
-    let line = stops::line_column(text, at as usize).line;
     tell_as(
         name,
         Figures {
             number: words,
-            first: at,
-            second: line,
+            first: stops::line_column(text, at as usize).line,
+            second: at,
         },
         number,
     );
+}
+
+// Where the line stands that ends the moves before a walk's end: the first behind them that is none of the usual ones; else an empty one, behind 手数 or
+// まで if they stand there.
+fn strange_line(text: &[u8], w: Walk) -> usize {
+    let run = w.run;
+    if 0 < w.odd && run <= w.first && passes::move_at(text, w.first) == 0 {
+        return w.first;
+    }
+    if !passes::is_plain(text, run) {
+        return run;
+    }
+    let Place::Past(next) = (Cursor { at: run }).line_end(text) else {
+        return run;
+    };
+    next.at
+}
+
+// 1 where a line is empty.
+fn empty_line(text: &[u8], at: usize) -> u64 {
+    let Place::Absent = (Cursor { at }).line_ending(text) else {
+        return 1;
+    };
+    0
+}
+
+// Says in a line that moves hang nowhere: behind 変化 or, which is the usual cause, behind a line that was not understood.
+fn tell_astray(name: &[u8], text: &[u8], a: Astray) {
+    let w = passes::walked(text, passes::before_moves(text).next, a.at as usize);
+    let line = stops::line_column(text, a.at as usize).line;
+    let fd = notes::head(REFUSED, name);
+    if w.is_led && 0 < a.last {
+        notes::say(
+            fd,
+            b"the variation in line % begins at move %, but line of play %, on which it would hang, ",
+            line,
+            a.ply,
+            a.parent,
+        );
+        notes::say(fd, b"has moves % to % only", a.first, a.last, 0);
+        end(6);
+        return;
+    }
+    let at = strange_line(text, w);
+    notes::say(
+        fd,
+        notes::agreeing(
+            empty_line(text, at),
+            b"line % is empty, ",
+            b"line % is no move, no comment and no header line, ",
+        ),
+        stops::line_column(text, at).line,
+        0,
+        0,
+    );
+    notes::say(
+        fd,
+        b"so that the moves from line % on are taken for a variation that begins at move %, and hang nowhere; take that line out",
+        line,
+        a.ply,
+        0,
+    );
+    end(6);
 }
 
 // Says why reading stopped with a refusal.
@@ -186,11 +171,7 @@ pub(crate) fn tell_stop(name: &[u8], text: &[u8], stop: StopAnswer) {
         StopAnswer::TextTooLong(n) => tell_at(name, text, 1, n, 1),
         StopAnswer::NotUtf8(n) => tell_at(name, text, 2, n, 2),
         StopAnswer::HandLine(at) => tell_at(name, text, 3, at, 3),
-        StopAnswer::NoEntry(a) => tell_astray(
-            name,
-            a,
-            stops::line_column(text, a.at as usize).line,
-        ),
+        StopAnswer::NoEntry(a) => tell_astray(name, text, a),
         StopAnswer::Stopped(_, _, _) => (),
     }
 }

@@ -1,6 +1,5 @@
 // Times too large to read: how many, and the line of the text in which the first stands.   (02, request (iv))
 use crate::notes;
-use libc::STDERR_FILENO;
 use moves::MoveLine;
 use text::Cursor;
 
@@ -60,7 +59,7 @@ pub(crate) fn of_variation(text: &[u8]) -> Times {
 
 // Where the first stands of a text that lost some: line of play after line of play, past the skip lines before each.
 fn first_in(s: &[u8]) -> usize {
-    let mut places = [0u16; 13107];
+    let mut places = [0u16; 1];
     let start = kakinoki::parse_without_moves(s, &mut places);
     let mut next = plays::count_comments(plays::skipped(start.next, s), s).next;
     let mut k = 0;
@@ -87,17 +86,12 @@ pub(crate) fn of_text(text: &[u8], lost: u64) -> Times {
 }
 
 // Says so where some were lost.
-pub(crate) fn tell(name: &[u8], t: Times) {
-    if t.lost == 0 {
-        return;
-    }
-    notes::say_name(b"kifu: note: ", name);
-    notes::say_two(
-        STDERR_FILENO,
-        b"times too large to read: ",
+pub(crate) fn tell(kind: u8, name: &[u8], t: Times) {
+    notes::tell_some(
+        kind,
+        name,
+        b"times too large to read: %, the first in line %",
         t.lost,
-        b", the first in line ",
         t.line,
-        b"\n",
     );
 }

@@ -1,151 +1,44 @@
-// Where reading stopped: in lines to print, and in notes.   (02, request (ii))
+// Where reading stopped: in lines of the answer, in notes, or in a refusal.   (02, request (ii))
 use crate::notes;
+use crate::notes::ANSWER;
+use crate::notes::NOTE;
+use crate::notes::REFUSED;
+use crate::notes::UNREAD;
 use crate::reasons;
-use libc::STDERR_FILENO;
 use libc::STDOUT_FILENO;
 use moves::Reason;
 use stops::StopAnswer;
-use text::Cursor;
-use text::Place;
 
 // How many bytes of a text were not taken.
-pub(crate) fn left(s: &[u8], taken: usize) -> u64 {
+fn left(s: &[u8], taken: usize) -> u64 {
     notes::above(s.len() as u64, taken as u64)
-}
-
-// The first byte not taken, and how many were not.
-fn say_stopped(fd: i32, s: &[u8], taken: usize) -> bool {
-    notes::say_two(
-        fd,
-        b"stopped before byte ",
-        taken as u64,
-        b", line ",
-        stops::line_column(s, taken).line,
-        b"; ",
-    );
-    let n = left(s, taken);
-    notes::say(
-        fd,
-        b"",
-        n,
-        notes::agreeing(n, b" byte was not taken\n", b" bytes were not taken\n"),
-    )
 }
 
 // The place that was reached, and why no further one was.
 pub(crate) fn say_reached(fd: i32, s: &[u8], taken: usize, reason: Reason, at: usize) -> bool {
     let x = stops::line_column(s, at);
-    notes::say_two(fd, b"line ", x.line, b", column ", x.column, b": ");
+    notes::say(fd, b"line %, column %: ", x.line, x.column, 0);
     reasons::say(fd, s, taken, reason, at)
 }
 
-// Both, in two lines.
-fn print_rest(s: &[u8], taken: usize, reason: Reason, at: usize) -> bool {
-    say_stopped(STDOUT_FILENO, s, taken);
-    say_reached(STDOUT_FILENO, s, taken, reason, at);
-    io::write_all(STDOUT_FILENO, b"\n")
-}
-
-// Both, in two notes.
-fn tell_rest(name: &[u8], s: &[u8], taken: usize, reason: Reason, at: usize) {
-    notes::say_name(b"kifu: note: ", name);
-    say_stopped(STDERR_FILENO, s, taken);
-    notes::say_name(b"kifu: note: ", name);
-    say_reached(STDERR_FILENO, s, taken, reason, at);
-    io::write_all(STDERR_FILENO, b"\n");
-}
-
-// Whether a line begins at a place that may be meant as a move: it is not empty, tells no result and leads no variation.
-fn is_meant(s: &[u8], at: usize) -> bool {
-    if 0 < at {
-        if lent::peek(s, at - 1) != b'\n' {
-            return false;
-        }
-    }
-    let Place::Absent = (Cursor { at }).blanks(s).line_ending(s) else {
-        return false;
-    };
-    if text::stands(s, at, b"\xe3\x81\xbe\xe3\x81\xa7") {
-        return false;
-    }
-    !text::stands(s, at, b"\xe5\xa4\x89\xe5\x8c\x96")
-}
-
-// Where the first such line begins from a place on, or the end.
-fn first_meant(s: &[u8], from: usize) -> usize {
-    let mut i = from;
-    while i < s.len() {
-        if is_meant(s, i) {
-            return i;
-        }
-        i += 1;
-    }
-    i
-}
-
-// What is said of the line passed over that begins at a place and may be meant as a move.
-fn say_meant(fd: i32, s: &[u8], at: usize) -> bool {
-    notes::say(fd, b"line ", stops::line_column(s, at).line, b"");
-    let Place::Absent = moves::move_line_end(Cursor { at }, s) else {
-        return io::write_all(
-            fd,
-            b" is a move, but the empty line before it takes it along\n",
-        );
-    };
-    io::write_all(
+// The first byte not taken and how many were not; and the place that was reached.
+fn tell_rest(kind: u8, name: &[u8], s: &[u8], taken: usize, reason: Reason, at: usize) -> bool {
+    let n = left(s, taken);
+    let fd = notes::head(kind, name);
+    notes::say(
         fd,
-        b" is not empty and begins with neither \xe3\x81\xbe\xe3\x81\xa7 nor \xe5\xa4\x89\xe5\x8c\x96; moves are read only with their numbers\n",
-    )
-}
-
-// The first such line, since moves without numbers look so.
-fn print_meant(s: &[u8], taken: usize) -> bool {
-    let at = first_meant(s, taken);
-    if s.len() <= at {
-        return true;
-    }
-    say_meant(STDOUT_FILENO, s, at)
-}
-
-// The same in a note.
-fn tell_meant(name: &[u8], s: &[u8], taken: usize) {
-    let at = first_meant(s, taken);
-    if s.len() <= at {
-        return;
-    }
-    notes::say_name(b"kifu: note: ", name);
-    say_meant(STDERR_FILENO, s, at);
-}
-
-// A rest with a reason: one of blanks and breaks alone lacks nothing.
-fn print_why(s: &[u8], taken: usize, reason: Reason, at: usize) -> bool {
-    if is_empty(lent::rest(s, taken)) {
-        say_stopped(STDOUT_FILENO, s, taken);
-        return io::write_all(
-            STDOUT_FILENO,
-            b"nothing is missing: only blanks and breaks are left\n",
-        );
-    }
-    print_rest(s, taken, reason, at)
-}
-
-// Where reading stopped, in full.
-pub(crate) fn print(s: &[u8], taken: usize, reason: Reason, at: usize) -> bool {
-    if s.len() <= taken {
-        return notes::say(
-            STDOUT_FILENO,
-            b"all ",
-            s.len() as u64,
-            b" bytes were taken\n",
-        );
-    }
-    if !print_why(s, taken, reason, at) {
-        return false;
-    }
-    match reason {
-        Reason::EndOfText => print_meant(s, taken),
-        _ => true,
-    }
+        notes::agreeing(
+            n,
+            b"stopped before byte %, line %; % byte was not taken\n",
+            b"stopped before byte %, line %; % bytes were not taken\n",
+        ),
+        taken as u64,
+        stops::line_column(s, taken).line,
+        n,
+    );
+    notes::head(kind, name);
+    say_reached(fd, s, taken, reason, at);
+    io::write_all(fd, b"\n")
 }
 
 // A blank or a byte of a break.
@@ -174,42 +67,88 @@ fn is_empty(t: &[u8]) -> bool {
     true
 }
 
-// How long a rest is by which nothing is missed.
-fn tell_length(name: &[u8], s: &[u8], taken: usize) {
-    notes::tell(
-        name,
-        b"bytes at the end that were not read: ",
-        left(s, taken),
-    );
-}
-
-// The lines on a rest that is not quiet, or on a line in it that may be meant as a move.
-pub(crate) fn print_left(s: &[u8]) -> bool {
-    let StopAnswer::Stopped(taken, reason, at) = stops::stop(s) else {
-        return true;
-    };
+// Whether something is missed by a rest: it is not where only lines that are no moves are left, or only blanks and breaks.
+fn is_missed(s: &[u8], taken: usize, reason: Reason) -> bool {
     if let Reason::EndOfText = reason {
-        return print_meant(s, taken as usize);
+        return false;
     }
-    if is_empty(lent::rest(s, taken as usize)) {
-        return true;
-    }
-    print_rest(s, taken as usize, reason, at as usize)
+    !is_empty(lent::rest(s, taken))
 }
 
-// The notes on it; of a quiet one how long it is, and such a line.
+// Refuses a text of which something is missed, and says how to go on; and whether it did.
+pub(crate) fn refuse(name: &[u8], s: &[u8]) -> bool {
+    let StopAnswer::Stopped(taken, reason, at) = stops::stop(s) else {
+        return false;
+    };
+    if !is_missed(s, taken as usize, reason) {
+        return false;
+    }
+    tell_rest(REFUSED, name, s, taken as usize, reason, at as usize);
+    notes::tell(
+        NOTE,
+        name,
+        b"nothing was done, since what stands from line % on would be lost; --partial goes on with what was read",
+        stops::line_column(s, taken as usize).line,
+        0,
+    );
+    true
+}
+
+// The notes on a rest; of one by which nothing is missed how long it is.
 pub(crate) fn tell_left(name: &[u8], s: &[u8]) {
     let StopAnswer::Stopped(taken, reason, at) = stops::stop(s) else {
         return;
     };
-    if let Reason::EndOfText = reason {
-        tell_length(name, s, taken as usize);
-        tell_meant(name, s, taken as usize);
+    if is_missed(s, taken as usize, reason) {
+        tell_rest(NOTE, name, s, taken as usize, reason, at as usize);
         return;
     }
-    if is_empty(lent::rest(s, taken as usize)) {
-        tell_length(name, s, taken as usize);
-        return;
+    notes::tell_some(
+        NOTE,
+        name,
+        b"bytes at the end that are no moves and were not read: %, from line % on",
+        left(s, taken as usize),
+        stops::line_column(s, taken as usize).line,
+    );
+}
+
+// The lines of the answer to `check` on a rest by which something is missed, and that it was not read.
+pub(crate) fn print_left(name: &[u8], s: &[u8]) -> bool {
+    let StopAnswer::Stopped(taken, reason, at) = stops::stop(s) else {
+        return true;
+    };
+    if !is_missed(s, taken as usize, reason) {
+        return true;
     }
-    tell_rest(name, s, taken as usize, reason, at as usize);
+    notes::tell(
+        UNREAD,
+        name,
+        b"from line % on the file was not read: % bytes",
+        stops::line_column(s, taken as usize).line,
+        left(s, taken as usize),
+    );
+    tell_rest(ANSWER, name, s, taken as usize, reason, at as usize)
+}
+
+// Where reading stopped, in full.
+pub(crate) fn print(name: &[u8], s: &[u8], taken: usize, reason: Reason, at: usize) -> bool {
+    if s.len() <= taken {
+        return notes::say(
+            STDOUT_FILENO,
+            b"all % bytes were taken\n",
+            s.len() as u64,
+            0,
+            0,
+        );
+    }
+    if is_empty(lent::rest(s, taken)) {
+        return notes::say(
+            STDOUT_FILENO,
+            b"nothing is missing: only blanks and breaks are left, from byte %, line % on\n",
+            taken as u64,
+            stops::line_column(s, taken).line,
+            0,
+        );
+    }
+    tell_rest(ANSWER, name, s, taken, reason, at)
 }

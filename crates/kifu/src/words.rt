@@ -1,30 +1,54 @@
 // The words that the tool is told by, and how it is used.
+use crate::quotes;
 use converter::Mode;
 use libc::STDERR_FILENO;
-use libc::STDOUT_FILENO;
 use text::Cursor;
 use text::Number;
+use text::Place;
 ghost use Prim.Native.Nat.{_≤_};
 ghost use Rattle.io.specs.Counts.{Counts};
 
-// What is asked for.
-pub enum Word {
-    List,
-    Tidy,
-    Block,
-    Text,
-    Check,
-    Where,
-    Put,
-    Cut,
-    Show,
-    Restate,
-    BlockList,
-    BlockPut,
-    BlockCut,
-    Help,
-    Unknown,
-}
+// What is asked for: rows of the tables below. From TEXT on the file that is named first is a block's.
+pub(crate) const LIST: usize = 0;
+
+pub(crate) const TIDY: usize = 1;
+
+pub(crate) const BLOCK: usize = 2;
+
+pub(crate) const CHECK: usize = 3;
+
+pub(crate) const WHERE: usize = 4;
+
+pub(crate) const PUT: usize = 5;
+
+pub(crate) const CUT: usize = 6;
+
+pub(crate) const SHOW: usize = 7;
+
+pub(crate) const TREE: usize = 8;
+
+pub(crate) const TEXT: usize = 9;
+
+pub(crate) const RESTATE: usize = 10;
+
+pub(crate) const BLOCK_LIST: usize = 11;
+
+pub(crate) const BLOCK_PUT: usize = 12;
+
+pub(crate) const BLOCK_CUT: usize = 13;
+
+pub(crate) const BLOCK_TREE: usize = 14;
+
+pub(crate) const NO_WORD: usize = 15;
+
+// The flags; and what begins as a flag does.
+const PLAIN: u8 = 1;
+
+const PARTIAL: u8 = 2;
+
+pub(crate) const SKIP_BOM: u8 = 4;
+
+const NO_FLAG: u8 = 8;
 
 // The number that a word is, or that it is none.
 pub enum Numbered {
@@ -32,172 +56,149 @@ pub enum Numbered {
     NoNumber,
 }
 
-// The numbers of a line and of an entry of it.
-pub struct Spot {
-    pub line: u64,
-    pub entry: u64,
+// Which flag a word is; 0 for a name.
+fn flag_of(w: &[u8]) -> u8 {
+    if !text::stands(w, 0, b"--") {
+        return 0;
+    }
+    if check::same(w, b"--plain") {
+        return PLAIN;
+    }
+    if check::same(w, b"--partial") {
+        return PARTIAL;
+    }
+    if check::same(w, b"--skip-bom") {
+        return SKIP_BOM;
+    }
+    NO_FLAG
 }
 
-// Those that are asked for, or that a word is no number.
-pub enum Asked {
-    At(Spot),
-    NoNumber,
-}
-
-// Whether the word at a place is --plain.
-fn is_plain_at(i: usize) -> bool {
+// Which flag the word at a place is.
+fn flag_at(i: usize) -> u8 {
     let mut w = io::buffer();
     let n = os::arg(i, &mut w);
-    if os::errno() != 0 {
-        return false;
-    }
-    check::same(&w[..n], b"--plain")
+    flag_of(&w[..n])
 }
 
-// The place of the first --plain behind the first word, among as many words as there can be; past them where there is none.
-fn plain_place() -> usize {
-    if is_plain_at(2) {
-        return 2;
+// Whether a flag stands behind the first word.
+pub(crate) fn has(flag: u8) -> bool {
+    let count = os::arg_count();
+    let mut i = 2;
+    while i < count {
+        if flag_at(i) == flag {
+            return true;
+        }
+        i += 1;
     }
-    if is_plain_at(3) {
-        return 3;
-    }
-    if is_plain_at(4) {
-        return 4;
-    }
-    if is_plain_at(5) { 5 } else { 6 }
+    false
 }
 
-// Whether the text is asked for as to_kif writes it.
-pub(crate) fn is_plain() -> bool {
-    plain_place() < 6
+// The place of name k behind the first word, counted from 1; past the words where there are fewer.
+fn place_of(k: usize) -> usize {
+    let count = os::arg_count();
+    let mut left = k;
+    let mut i = 2;
+    while i < count {
+        if flag_at(i) == 0 {
+            if left <= 1 {
+                return i;
+            }
+            left -= 1;
+        }
+        i += 1;
+    }
+    i
+}
+
+// Name k.
+pub(crate) fn name(k: usize, w: &mut [u8]) -> usize
+    ensures { λ r. ⌜ Counts r (now (w .exit)) ⌝ }
+{
+    os::arg(place_of(k), w)
+}
+
+// Whether name k is that of standard input.
+fn is_input(k: usize) -> bool {
+    let mut w = io::buffer();
+    let n = name(k, &mut w);
+    check::same(&w[..n], b"-")
 }
 
 // The mode that is asked for: without --plain the one that loses nothing and that other programs read.
 pub(crate) fn mode() -> Mode {
-    if is_plain() {
+    if has(PLAIN) {
         return Mode::Plain;
     }
     Mode::Shared
 }
 
-// Word k, --plain not counted.
-pub(crate) fn arg(k: usize, w: &mut [u8]) -> usize
-    requires { ⌜ k ≤ 5 ⌝ }
-    ensures { λ r. ⌜ Counts r (now (w .exit)) ⌝ }
+// Whether the mode may lose something.
+pub(crate) fn is_plain() -> bool {
+    has(PLAIN)
+}
+
+// How many names a word takes.
+fn names_of(word: usize) -> usize
+    ensures { λ r. ⌜ r ≤ 255 ⌝ }
 {
-    if plain_place() <= k {
-        return os::arg(k + 1, w);
-    }
-    os::arg(k, w)
+    lent::wide(lent::peek(
+        b"\x01\x01\x02\x01\x01\x03\x02\x03\x01\x01\x02\x01\x04\x03\x01",
+        word,
+    ))
 }
 
-// What the first word asks for, of the words for a block's file and for help.
-fn last_word_of(w: &[u8]) -> Word {
-    if check::same(w, b"restate") {
-        return Word::Restate;
-    }
-    if check::same(w, b"block-list") {
-        return Word::BlockList;
-    }
-    if check::same(w, b"block-put") {
-        return Word::BlockPut;
-    }
-    if check::same(w, b"block-cut") {
-        return Word::BlockCut;
-    }
-    if check::same(w, b"help") {
-        return Word::Help;
-    }
-    Word::Unknown
+// Whether a flag may stand behind a word: a row has the sum of those that may.
+fn takes(word: usize, flag: u8) -> bool {
+    let flags = lent::peek(
+        b"\x04\x07\x06\x04\x04\x07\x07\x04\x04\x01\x00\x00\x04\x00\x00",
+        word,
+    );
+    flags & flag != 0
 }
 
-// What it asks for, of the words from those for an edit on.
-fn later_word_of(w: &[u8]) -> Word {
-    if check::same(w, b"put") {
-        return Word::Put;
+// Whether a flag stands behind a word that does not take it.
+fn is_stray(word: usize, flag: u8) -> bool {
+    if takes(word, flag) {
+        return false;
     }
-    if check::same(w, b"cut") {
-        return Word::Cut;
-    }
-    if check::same(w, b"show") {
-        return Word::Show;
-    }
-    last_word_of(w)
+    has(flag)
 }
 
-// What the first word asks for, of all.
-pub(crate) fn word_of(w: &[u8]) -> Word {
-    if check::same(w, b"list") {
-        return Word::List;
+// Whether a word refuses what was not read to its end: each that writes, if --partial is not there.
+pub(crate) fn wants_all(word: usize) -> bool {
+    if takes(word, PARTIAL) {
+        return !has(PARTIAL);
     }
-    if check::same(w, b"tidy") {
-        return Word::Tidy;
-    }
-    if check::same(w, b"block") {
-        return Word::Block;
-    }
-    if check::same(w, b"text") {
-        return Word::Text;
-    }
-    if check::same(w, b"check") {
-        return Word::Check;
-    }
-    if check::same(w, b"where") {
-        return Word::Where;
-    }
-    later_word_of(w)
+    false
 }
 
-// Whether the second word names a block's file, and not a text's.
-pub(crate) fn is_of_block(word: Word) -> bool {
-    match word {
-        Word::Text => true,
-        Word::Restate => true,
-        Word::BlockList => true,
-        Word::BlockPut => true,
-        Word::BlockCut => true,
-        _ => false,
+// Whether the flags are such as a word takes.
+fn are_flags(word: usize) -> bool {
+    if is_stray(word, PLAIN) {
+        return false;
     }
+    if is_stray(word, PARTIAL) {
+        return false;
+    }
+    if is_stray(word, SKIP_BOM) {
+        return false;
+    }
+    !has(NO_FLAG)
 }
 
-// Whether a word writes a text, so that --plain may stand behind it.
-fn writes(word: Word) -> bool {
-    match word {
-        Word::Tidy => true,
-        Word::Text => true,
-        Word::Put => true,
-        Word::Cut => true,
-        _ => false,
+// Whether the names are as many as a word takes, and standard input is one of them at most.
+fn are_names(word: usize) -> bool {
+    let n = names_of(word);
+    if os::arg_count() <= place_of(n) {
+        return false;
     }
-}
-
-// Whether there are as many words as it takes.
-pub(crate) fn is_complete(word: Word) -> bool {
-    if is_plain() {
-        if !writes(word) {
-            return false;
-        }
-        return os::arg_count() == count(word) + 1;
+    if place_of(n + 1) < os::arg_count() {
+        return false;
     }
-    os::arg_count() == count(word)
-}
-
-// How many words there are with it, the program's name and itself among them.
-fn count(word: Word) -> usize
-    ensures { λ r. ⌜ r ≤ 6 ⌝ }
-{
-    match word {
-        Word::Help => 2,
-        Word::Block => 4,
-        Word::Cut => 4,
-        Word::Restate => 4,
-        Word::Put => 5,
-        Word::Show => 5,
-        Word::BlockCut => 5,
-        Word::BlockPut => 6,
-        _ => 3,
+    if is_input(1) {
+        return !is_input(3);
     }
+    true
 }
 
 // Digits to the end, and no more than there is room for in a number.
@@ -211,132 +212,86 @@ fn number_in(w: &[u8]) -> Numbered {
     Numbered::As(n)
 }
 
-// The number that word k is.
-fn number_at(k: usize) -> Numbered
-    requires { ⌜ k ≤ 4 ⌝ }
-{
+// The number that name k is; or says what is none, by the word that stands for it.
+pub(crate) fn number(k: usize, stands: &[u8]) -> Numbered {
     let mut w = io::buffer();
-    let n = arg(k, &mut w);
-    if os::errno() != 0 {
-        return Numbered::NoNumber;
-    }
-    number_in(&w[..n])
-}
-
-// The line that the third word numbers.
-fn line_asked() -> Asked {
-    let Numbered::As(line) = number_at(3) else {
-        return Asked::NoNumber;
+    let n = name(k, &mut w);
+    let x = number_in(&w[..n]);
+    let Numbered::NoNumber = x else {
+        return x;
     };
-    Asked::At(Spot { line, entry: 0 })
-}
-
-// The same, and the entry that the fourth numbers.
-fn entry_asked() -> Asked {
-    let Numbered::As(line) = number_at(3) else {
-        return Asked::NoNumber;
-    };
-    let Numbered::As(entry) = number_at(4) else {
-        return Asked::NoNumber;
-    };
-    Asked::At(Spot { line, entry })
-}
-
-// The line and the entry that go with a word: 0 where none does.
-pub(crate) fn spot_of(word: Word) -> Asked {
-    match word {
-        Word::Put => line_asked(),
-        Word::Cut => line_asked(),
-        Word::BlockPut => line_asked(),
-        Word::BlockCut => line_asked(),
-        Word::Show => entry_asked(),
-        _ => Asked::At(Spot { line: 0, entry: 0 }),
-    }
-}
-
-// Where its row begins in the table of uses.
-fn use_of(word: Word) -> usize {
-    match word {
-        Word::List => 0,
-        Word::Tidy => 111,
-        Word::Block => 222,
-        Word::Text => 333,
-        Word::Check => 444,
-        Word::Where => 555,
-        Word::Put => 666,
-        Word::Cut => 777,
-        Word::Show => 888,
-        Word::Restate => 999,
-        Word::BlockList => 1110,
-        Word::BlockPut => 1221,
-        Word::BlockCut => 1332,
-        _ => 1443,
-    }
-}
-
-// How a word is used, in a line: rows of 111 bytes.
-fn print_usage(fd: i32, word: Word) -> bool {
-    io::write_all(
-        fd,
-        shown::table_text(
-            b"\x67kifu list FILE                         the lines of play of a KIF file: number, start, entries, parent\n       \
-              \x5akifu tidy FILE [--plain]               the file read and written anew, to standard output\n                    \
-              \x4fkifu block FILE OUT                    the file's block, into the new file OUT\n                               \
-              \x56kifu text BLOCK [--plain]              a block's file as KIF text, to standard output\n                        \
-              \x59kifu check FILE                        how much of the file was taken, and what it holds\n                     \
-              \x52kifu where FILE                        where reading of the file stopped, and why\n                            \
-              \x65kifu put FILE LINE VARIATION [--plain] the file with a variation put into a line, to standard output\n         \
-              \x6ekifu cut FILE LINE [--plain]           the file without a line and all that hangs from it, to standard output\n\
-              \x6akifu show FILE LINE ENTRY              the position after an entry of a line, and the move that led to it\n    \
-              \x65kifu restate BLOCK OUT                 a block as version 2, whose moves may have several variations\n         \
-              \x4bkifu block-list BLOCK                  the lines of play of a block's file\n                                   \
-              \x68kifu block-put BLOCK LINE VARIATION OUT a block with a variation put into a line, into the new file OUT\n      \
-              \x63kifu block-cut BLOCK LINE OUT          a block without a line and all that hangs from it, into OUT\n           \
-              \x33kifu help                              these lines\n                                                           ",
-            use_of(word),
-        ),
-    )
-}
-
-// Says how a word is used that came with too few words, too many or a line or an entry that is no number.
-pub(crate) fn tell_usage(word: Word) {
     io::write_all(STDERR_FILENO, b"kifu: usage: ");
-    print_usage(STDERR_FILENO, word);
+    io::write_all(STDERR_FILENO, stands);
+    io::write_all(STDERR_FILENO, b" must be a number, and this is none: ");
+    quotes::say_word(&w[..n]);
+    io::write_all(STDERR_FILENO, b"\n");
+    Numbered::NoNumber
+}
+
+// Where the line behind the one at a place begins.
+fn next_row(table: &[u8], at: usize) -> usize {
+    let Place::Past(next) = (Cursor { at }).line_end(table) else {
+        return table.len();
+    };
+    next.at
+}
+
+// Whether the row at a place is that of a word.
+fn is_row_of(table: &[u8], at: usize, w: &[u8]) -> bool {
+    let Place::Past(past) = (Cursor { at }).tag(table, w) else {
+        return false;
+    };
+    lent::peek(table, past.at) == b' '
+}
+
+// The row of a word in the table of uses; or says that there is none, and answers 15.
+pub(crate) fn word_of(uses: &[u8], w: &[u8]) -> usize {
+    let mut at = 0;
+    let mut k = 0;
+    while k < NO_WORD {
+        if is_row_of(uses, at, w) {
+            return k;
+        }
+        at = next_row(uses, at);
+        k += 1;
+    }
+    tell_unknown(w);
+    k
 }
 
 // Says that there is no such word.
-pub(crate) fn tell_unknown(w: &[u8]) {
+fn tell_unknown(w: &[u8]) {
     io::write_all(STDERR_FILENO, b"kifu: usage: ");
     if w.len() == 0 {
         io::write_all(STDERR_FILENO, b"a word is missing");
     } else {
         io::write_all(STDERR_FILENO, b"no such word: ");
-        io::write_all(STDERR_FILENO, w);
+        quotes::say_word(w);
     }
-    io::write_all(
-        STDERR_FILENO,
-        b"; the words are list, tidy, block, text, check, where, put, cut, show, restate, block-list, block-put, block-cut and help\n",
-    );
+    io::write_all(STDERR_FILENO, b"; kifu help tells the words\n");
 }
 
-// How each is used.
-pub(crate) fn print_help() -> bool {
-    print_usage(STDOUT_FILENO, Word::List);
-    print_usage(STDOUT_FILENO, Word::Tidy);
-    print_usage(STDOUT_FILENO, Word::Block);
-    print_usage(STDOUT_FILENO, Word::Text);
-    print_usage(STDOUT_FILENO, Word::Check);
-    print_usage(STDOUT_FILENO, Word::Where);
-    print_usage(STDOUT_FILENO, Word::Put);
-    print_usage(STDOUT_FILENO, Word::Cut);
-    print_usage(STDOUT_FILENO, Word::Show);
-    print_usage(STDOUT_FILENO, Word::Restate);
-    print_usage(STDOUT_FILENO, Word::BlockList);
-    print_usage(STDOUT_FILENO, Word::BlockPut);
-    print_usage(STDOUT_FILENO, Word::BlockCut);
-    print_usage(STDOUT_FILENO, Word::Help);
-    io::write_all(
-        STDOUT_FILENO,
-        b"--plain: the text as shogi-kifu-converter writes it, with notes on what it loses; without it nothing is lost but which variations are equals\n",
-    )
+// The line with a number of a table.
+pub(crate) fn row(table: &[u8], k: usize) -> &[u8] {
+    let mut at = 0;
+    let mut i = 0;
+    while i < k {
+        at = next_row(table, at);
+        i += 1;
+    }
+    let rest = lent::rest(table, at);
+    lent::front(rest, Cursor { at: 0 }.text(rest).at)
+}
+
+// Whether names and flags are such as a word takes; or says how it is used.
+pub(crate) fn is_used(uses: &[u8], word: usize) -> bool {
+    if are_names(word) {
+        if are_flags(word) {
+            return true;
+        }
+    }
+    io::write_all(STDERR_FILENO, b"kifu: usage: kifu ");
+    io::write_all(STDERR_FILENO, row(uses, word));
+    io::write_all(STDERR_FILENO, b"\n");
+    false
 }

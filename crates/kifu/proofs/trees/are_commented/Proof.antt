@@ -1,22 +1,21 @@
--- The place is at most the length, and each turn goes one byte on.
+-- Each turn goes one entry on.
 -- Assumes nothing.
-use Prim.Native.Nat.{_-_, _≤_}
-use lib.ListN.{length}
+use Prim.Native.Nat.{_-_}
 use borrow.Author.Needs.{needs}
-use Rattle.kifu.proofs.refusals.mark.Statement.{statement}
-use Rattle.kifu.proofs.refusals.mark.Tie as tie
+use Rattle.kifu.proofs.trees.are_commented.Statement.{statement}
+use Rattle.kifu.proofs.trees.are_commented.Tie as tie
 
 abbrev Inv-loop : tie.InvT-loop
-Inv-loop t i₀ i = i ≤ length t
+Inv-loop b k from to i₀ i = Unit {0}
 
 abbrev μ-loop : tie.MeasureT-loop
-μ-loop t i₀ i = length t - i
+μ-loop b k from to i₀ i = to - i
 
 loop-holds : tie.Need-loop-holds Inv-loop μ-loop
 loop-holds c = search needs
 
-shared-slice-read-if1 : tie.Need-shared-slice-read-if1 Inv-loop μ-loop
-shared-slice-read-if1 c = search needs
+is-commented-requires : tie.Need-is-commented-requires Inv-loop μ-loop
+is-commented-requires c κs = search needs
 
 returns : tie.Need-returns Inv-loop μ-loop
 returns c = search needs
@@ -33,14 +32,14 @@ loop-again c = search needs
 returns-2 : tie.Need-returns-2 Inv-loop μ-loop
 returns-2 c = search needs
 
-pub mark-spec : {M : Type 1} → statement M
-mark-spec =
+pub are-commented-spec : {M : Type 1} → statement M
+are-commented-spec =
     tie.close
     (tie.spec
     Inv-loop
     μ-loop
     loop-holds
-    shared-slice-read-if1
+    is-commented-requires
     returns
     add-i
     loop-less

@@ -1,22 +1,25 @@
--- Each turn goes one byte on, towards the end.
+-- The place is at most the length, and each turn goes one byte on.
 -- Assumes nothing.
 use Prim.Native.Nat.{_-_, _≤_}
 use lib.ListN.{length}
 use borrow.Author.Needs.{needs}
-use Rattle.kifu.proofs.wheres.first_meant.Statement.{statement}
-use Rattle.kifu.proofs.wheres.first_meant.Tie as tie
+use Rattle.kifu.proofs.quotes.first_hidden.Statement.{statement}
+use Rattle.kifu.proofs.quotes.first_hidden.Tie as tie
 
 abbrev Inv-loop : tie.InvT-loop
-Inv-loop s from i₀ i = i₀ ≤ i
+Inv-loop name is-text i₀ i = i ≤ length name
 
 abbrev μ-loop : tie.MeasureT-loop
-μ-loop s from i₀ i = length s - i
+μ-loop name is-text i₀ i = length name - i
 
 loop-holds : tie.Need-loop-holds Inv-loop μ-loop
 loop-holds c = search needs
 
-is-meant-requires : tie.Need-is-meant-requires Inv-loop μ-loop
-is-meant-requires c κs = search needs
+shared-slice-read-is-shown : tie.Need-shared-slice-read-is-shown Inv-loop μ-loop
+shared-slice-read-is-shown c = search needs
+
+is-shown-requires : tie.Need-is-shown-requires Inv-loop μ-loop
+is-shown-requires c κs = search needs
 
 returns : tie.Need-returns Inv-loop μ-loop
 returns c = search needs
@@ -33,14 +36,15 @@ loop-again c = search needs
 returns-2 : tie.Need-returns-2 Inv-loop μ-loop
 returns-2 c = search needs
 
-pub first-meant-spec : {M : Type 1} → statement M
-first-meant-spec =
+pub first-hidden-spec : {M : Type 1} → statement M
+first-hidden-spec =
     tie.close
     (tie.spec
     Inv-loop
     μ-loop
     loop-holds
-    is-meant-requires
+    shared-slice-read-is-shown
+    is-shown-requires
     returns
     add-i
     loop-less

@@ -1,0 +1,67 @@
+// Names and words as they are told: one with control characters, or that is not UTF-8, stands as the shell reads it, $'a\x0ab'.
+use libc::STDERR_FILENO;
+
+// Whether a byte stands as it is, in a text or in what is none.
+fn is_shown(b: u8, is_text: bool) -> bool {
+    if b < b' ' {
+        return false;
+    }
+    if b < 127 {
+        return true;
+    }
+    if b == 127 {
+        return false;
+    }
+    is_text
+}
+
+// The place of the first byte that does not, or the end.
+fn first_hidden(name: &[u8], is_text: bool) -> usize {
+    let mut i = 0;
+    while i < name.len() {
+        if !is_shown(name[i], is_text) {
+            return i;
+        }
+        i += 1;
+    }
+    i
+}
+
+// A byte between the quotes.
+fn say_byte(b: u8, is_text: bool) -> bool {
+    if b != b'\'' && b != b'\\' {
+        if is_shown(b, is_text) {
+            return io::write_all(STDERR_FILENO, &[b]);
+        }
+    }
+    io::write_all(STDERR_FILENO, b"\\x");
+    io::print_hex(STDERR_FILENO, b as u64, 2)
+}
+
+// All of them.
+fn say_bytes(name: &[u8], is_text: bool) {
+    let mut i = 0;
+    while i < name.len() {
+        say_byte(name[i], is_text);
+        i += 1;
+    }
+}
+
+// A word.
+pub(crate) fn say_word(w: &[u8]) -> bool {
+    let is_text = text::well_formed(w) == w.len();
+    if w.len() <= first_hidden(w, is_text) {
+        return io::write_all(STDERR_FILENO, w);
+    }
+    io::write_all(STDERR_FILENO, b"$'");
+    say_bytes(w, is_text);
+    io::write_all(STDERR_FILENO, b"'")
+}
+
+// The name of a file that is read.
+pub(crate) fn say_name(name: &[u8]) -> bool {
+    if check::same(name, b"-") {
+        return io::write_all(STDERR_FILENO, b"standard input");
+    }
+    say_word(name)
+}
