@@ -95,15 +95,6 @@ fn print_lines(b: &[u8], out: &mut [u8]) -> bool {
     io::write_all(STDOUT_FILENO, lent::rest(lent::front(&out[0..], n), first))
 }
 
-// Makes the edit that is asked for; a variation's text is read into the room.
-fn edit(word: usize, line: u64, name: &[u8], b: &[u8], room: &mut [u8], out: &mut [u8]) -> Edited {
-    match word {
-        BLOCK_PUT => edits::put(name, b, line, room, out),
-        BLOCK_CUT => edits::cut(name, b, line, out),
-        _ => edits::restate(name, b, out),
-    }
-}
-
 // Which name is that of the new file.
 fn place_of_out(word: usize) -> usize {
     match word {
@@ -124,7 +115,7 @@ fn print_done(word: usize, n: u64, second: u64) -> bool {
 
 // Writes an edited block into a new file, which goes again where that cannot be told.
 fn keep_edited(word: usize, line: u64, name: &[u8], b: &[u8], room: &mut [u8], made: &mut [u8]) {
-    let Edited::Block(n, second, times) = edit(word, line, name, b, room, made) else {
+    let Edited::Block(n, second, times) = edits::make(word, line, name, b, room, made) else {
         return;
     };
     if !files::keep(place_of_out(word), lent::front(&made[0..], n)) {

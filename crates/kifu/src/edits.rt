@@ -58,7 +58,7 @@ fn made(name: &[u8], b: &[u8], f: Figures, t: Times) -> Edited {
 }
 
 // Without a line, and without all that hangs from it.
-pub(crate) fn cut(name: &[u8], b: &[u8], line: u64, out: &mut [u8]) -> Edited {
+fn cut(name: &[u8], b: &[u8], line: u64, out: &mut [u8]) -> Edited {
     if line == 0 {
         notes::head(REFUSED, name);
         io::write_all(
@@ -77,7 +77,7 @@ pub(crate) fn cut(name: &[u8], b: &[u8], line: u64, out: &mut [u8]) -> Edited {
 }
 
 // As version 2; where it is that already, it is said so.
-pub(crate) fn restate(name: &[u8], b: &[u8], out: &mut [u8]) -> Edited {
+fn restate(name: &[u8], b: &[u8], out: &mut [u8]) -> Edited {
     let f = jkf::figures_of(edit::restate(b, out));
     if f.number == 7 && block::sound(b) {
         notes::head(REFUSED, name);
@@ -208,14 +208,30 @@ fn put_text(
 
 // With that of the file that the third name is of, read into a buffer with room for more than a text may have, so that a longer one is refused
 // and not cut.
-pub(crate) fn put(name: &[u8], b: &[u8], line: u64, room: &mut [u8], out: &mut [u8]) -> Edited {
+fn put(name: &[u8], b: &[u8], line: u64, room: &mut [u8], out: &mut [u8]) -> Edited {
     let mut variation = io::buffer();
     let n = words::name(3, &mut variation);
-    let files::Got::Bytes(from, to) = files::fill_text(&variation[..n], room) else {
+    let files::Got::Bytes(from, to) = files::fill(&variation[..n], true, room) else {
         return Edited::Refused;
     };
     let text = lent::rest(lent::front(&room[0..], to), from);
     put_text(name, b, line, &variation[..n], text, out)
+}
+
+// The edit that is asked for; a variation's text is read into the room.
+pub(crate) fn make(
+    word: usize,
+    line: u64,
+    name: &[u8],
+    b: &[u8],
+    room: &mut [u8],
+    out: &mut [u8],
+) -> Edited {
+    match word {
+        words::PUT | words::BLOCK_PUT => put(name, b, line, room, out),
+        words::CUT | words::BLOCK_CUT => cut(name, b, line, out),
+        _ => restate(name, b, out),
+    }
 }
 
 // Says how many times of that file were lost, where some were.

@@ -34,8 +34,8 @@ fn open(name: &[u8]) -> i32 {
     os::open_read(name)
 }
 
-// Fills a buffer with the front of a file, or says why it cannot.
-pub(crate) fn fill(name: &[u8], buf: &mut [u8]) -> Got {
+// Fills a buffer with the front of a file, which is to be a text or any; or says why it cannot.
+pub(crate) fn fill(name: &[u8], is_text: bool, buf: &mut [u8]) -> Got {
     let fd = open(name);
     if fd < 0 {
         fail(name);
@@ -47,51 +47,47 @@ pub(crate) fn fill(name: &[u8], buf: &mut [u8]) -> Got {
         return Got::Failed;
     }
     libc::close(fd);
+    if is_text {
+        return text_of(name, lent::front(&buf[0..], n));
+    }
     Got::Bytes(0, n)
 }
 
-// The part of a file that is a text: not a block, and without a BOM, which is passed only where that is asked for. One that is too long is left to
-// the reader, which refuses it.
-fn text_of(name: &[u8], s: &[u8]) -> Got {
+// What stands at the start of a file that is no text, or that is one: 0 is nothing, 1 a block, 2 a BOM, and 3 a BOM that is to be passed. A file that is
+// too long is left to the reader, which refuses it.
+fn odd_start(s: &[u8]) -> usize {
     if text::stands(s, 0, b"KB\x01\0") || text::stands(s, 0, b"KB\x02\0") {
-        tell(
-            REFUSED,
-            name,
-            b"this is a block file and no KIF text; kifu text makes a text of it",
-            0,
-            0,
-        );
-        return Got::Failed;
+        return 1;
     }
     if 65535 < s.len() || !text::stands(s, 0, b"\xef\xbb\xbf") {
+        return 0;
+    }
+    if words::has(words::SKIP_BOM) { 3 } else { 2 }
+}
+
+// The part of a file that is a text.
+fn text_of(name: &[u8], s: &[u8]) -> Got {
+    let odd = odd_start(s);
+    if odd == 0 {
         return Got::Bytes(0, s.len());
     }
-    if words::has(words::SKIP_BOM) {
-        tell(
-            NOTE,
-            name,
-            b"the BOM at its start was passed over; bytes are counted from behind it",
-            0,
-            0,
-        );
-        return Got::Bytes(3, s.len());
-    }
     tell(
-        REFUSED,
+        if odd == 3 { NOTE } else { REFUSED },
         name,
-        b"line 1 begins with a BOM (the bytes EF BB BF), and would not be understood; --skip-bom reads past it",
+        words::row(
+            b"\n\
+              this is a block file and no KIF text; kifu text makes a text of it\n\
+              line 1 begins with a BOM (the bytes EF BB BF), and would not be understood; --skip-bom reads past it\n\
+              the BOM at its start was passed over; bytes are counted from behind it\n",
+            odd,
+        ),
         0,
         0,
     );
+    if odd == 3 {
+        return Got::Bytes(3, s.len());
+    }
     Got::Failed
-}
-
-// The same with a file that is a text.
-pub(crate) fn fill_text(name: &[u8], buf: &mut [u8]) -> Got {
-    let Got::Bytes(_, n) = fill(name, buf) else {
-        return Got::Failed;
-    };
-    text_of(name, lent::front(&buf[0..], n))
 }
 
 // Writes bytes into the new file that name k is of, or says why it cannot.

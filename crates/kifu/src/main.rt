@@ -38,11 +38,32 @@ pub(crate) fn print_text(name: &[u8], b: &[u8], out: &mut [u8]) -> bool {
     if !told(io::write_all(STDOUT_FILENO, lent::front(&out[0..], f.first as usize))) {
         return false;
     }
-    if words::is_plain() {
+    if words::has(words::PLAIN) {
         losses::tell(name, b, f.second);
     }
     blocks::tell_nested(name, b, f.second);
     true
+}
+
+// What is asked of the bytes of a file.
+fn answer(
+    word: usize,
+    line: u64,
+    entry: u64,
+    name: &[u8],
+    bytes: &[u8],
+    out: &mut [u8],
+    made: &mut [u8],
+) {
+    if words::TEXT <= word {
+        blocks::answer(word, line, name, bytes, out, made);
+        return;
+    }
+    if word == words::WHERE {
+        texts::print_where(name, bytes);
+        return;
+    }
+    texts::read(word, line, entry, name, bytes, out, made);
 }
 
 // What is asked of the file with a name: of one byte more than a text or a block may have, so that a longer one is refused and not cut. What is
@@ -50,27 +71,20 @@ pub(crate) fn print_text(name: &[u8], b: &[u8], out: &mut [u8]) -> bool {
 // 2,048; the longest listing has 112,133. A block that is made has room too, as long as a block can be.
 fn obey(word: usize, line: u64, entry: u64, name: &[u8]) {
     let mut input = io::large_buffer();
-    let mut out = [0u8; 182000];
-    let mut made = [0u8; 65535];
-    if words::TEXT <= word {
-        let files::Got::Bytes(_, n) = files::fill(name, &mut input) else {
-            return;
-        };
-        blocks::answer(
-            word,
-            line,
-            name,
-            lent::front(&input, n),
-            &mut out,
-            &mut made,
-        );
-        return;
-    }
-    let files::Got::Bytes(from, to) = files::fill_text(name, &mut input) else {
+    let files::Got::Bytes(from, to) = files::fill(name, word < words::TEXT, &mut input) else {
         return;
     };
-    let text = lent::rest(lent::front(&input, to), from);
-    texts::answer(word, line, entry, name, text, &mut out, &mut made);
+    let mut out = [0u8; 182000];
+    let mut made = [0u8; 65535];
+    answer(
+        word,
+        line,
+        entry,
+        name,
+        lent::rest(lent::front(&input, to), from),
+        &mut out,
+        &mut made,
+    );
 }
 
 // With the file that the first name is of.
@@ -121,11 +135,10 @@ fn start(first: &[u8]) {
     if words::NO_WORD <= word || !words::is_used(uses, word) {
         return;
     }
-    match word {
-        words::PUT | words::CUT | words::SHOW | words::BLOCK_PUT | words::BLOCK_CUT => on_line(
-            word,
-        ),
-        _ => on_file(word, 0, 0),
+    if words::takes(word, words::LINE) {
+        on_line(word);
+    } else {
+        on_file(word, 0, 0);
     }
 }
 

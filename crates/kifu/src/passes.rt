@@ -20,6 +20,7 @@ pub struct Walk {
     pub is_led: bool,
 }
 
+// The places of the header lines are not asked for, so there is room for one only.
 pub(crate) fn before_moves(s: &[u8]) -> Head {
     let mut places = [0u16; 1];
     let start = kakinoki::parse_without_moves(s, &mut places);

@@ -5,6 +5,7 @@ use crate::files;
 use crate::notes;
 use crate::notes::ANSWER;
 use crate::notes::NOTE;
+use crate::notes::REFUSED;
 use crate::passes;
 use crate::print_text;
 use crate::refusals;
@@ -79,6 +80,13 @@ fn tell_doubts(kind: u8, name: &[u8], s: &[u8], b: &[u8]) {
     }
 }
 
+// Says what was left of a text that was read, and what was passed over in it.
+fn tell_read(kind: u8, name: &[u8], s: &[u8], b: &[u8]) {
+    wheres::tell_left(kind, name, s);
+    passes::tell(kind, name, s, passes::before_moves(s).next);
+    tell_doubts(kind, name, s, b);
+}
+
 // Prints how much of a text was taken, and what it holds.
 fn print_counts(s: &[u8], taken: usize, b: &[u8]) -> bool {
     notes::say(
@@ -109,7 +117,6 @@ fn print_check(name: &[u8], s: &[u8], taken: usize, b: &[u8], lost: u64) -> bool
     if !print_counts(s, taken, b) {
         return false;
     }
-    let head = passes::before_moves(s);
     notes::tell_some(
         ANSWER,
         name,
@@ -121,13 +128,15 @@ fn print_check(name: &[u8], s: &[u8], taken: usize, b: &[u8], lost: u64) -> bool
         ANSWER,
         name,
         b"header lines whose key stands again below, which are not kept: %",
-        notes::above(head.headers as u64, block::headers_in(b) as u64),
+        notes::above(
+            passes::before_moves(s).headers as u64,
+            block::headers_in(b) as u64,
+        ),
         0,
     );
-    passes::tell(ANSWER, name, s, head.next);
+    tell_read(ANSWER, name, s, b);
     times::tell(ANSWER, name, times::of_text(s, lost));
-    tell_doubts(ANSWER, name, s, b);
-    wheres::print_left(name, s)
+    true
 }
 
 // Prints bytes taken and block length.
@@ -153,18 +162,10 @@ fn keep(taken: u64, b: &[u8]) {
     }
 }
 
-// Makes the edit that is asked for; a variation's text is read into the room.
-fn edit(word: usize, line: u64, name: &[u8], b: &[u8], room: &mut [u8], out: &mut [u8]) -> Edited {
-    if word == words::PUT {
-        return edits::put(name, b, line, room, out);
-    }
-    edits::cut(name, b, line, out)
-}
-
 // Prints a block as a text once it is edited. The edit is done before anything is printed, so both use one buffer.
 fn print_edited(word: usize, line: u64, name: &[u8], b: &[u8], out: &mut [u8]) {
     let mut edited = [0u8; 65535];
-    let Edited::Block(n, second, times) = edit(word, line, name, b, out, &mut edited) else {
+    let Edited::Block(n, second, times) = edits::make(word, line, name, b, out, &mut edited) else {
         return;
     };
     if !print_text(name, lent::front(&edited, n), out) {
@@ -185,7 +186,7 @@ fn print_position(name: &[u8], b: &[u8], line: u64, entry: u64) {
     told(shows::print(b, after));
 }
 
-// What is asked of a text that was read into a block, but for `check`.
+// What is asked of a text that was read into a block, but for `check`. Two calls keep what an edit needs of the stack apart from this function's.
 fn give(word: usize, line: u64, entry: u64, name: &[u8], taken: u64, b: &[u8], out: &mut [u8]) {
     match word {
         words::LIST => {
@@ -204,18 +205,8 @@ fn give(word: usize, line: u64, entry: u64, name: &[u8], taken: u64, b: &[u8], o
     }
 }
 
-// The notes on what was read: what is left, what was passed over, and the times that were lost, of which a listing has none to show.
-fn tell_read(word: usize, name: &[u8], s: &[u8], b: &[u8], lost: u64) {
-    wheres::tell_left(name, s);
-    passes::tell(NOTE, name, s, passes::before_moves(s).next);
-    tell_doubts(NOTE, name, s, b);
-    if word != words::LIST {
-        times::tell(NOTE, name, times::of_text(s, lost));
-    }
-}
-
-// Reads a text into a block.
-fn read(
+// Reads a text into a block, does what is asked of it and tells the rest; of times that were lost a listing has none to show.
+pub(crate) fn read(
     word: usize,
     line: u64,
     entry: u64,
@@ -236,15 +227,18 @@ fn read(
         told(print_check(name, text, f.first as usize, b, r.lost));
         return;
     }
-    if words::wants_all(word) && wheres::refuse(name, text) {
+    if words::wants_all(word) && wheres::tell_left(REFUSED, name, text) {
         return;
     }
     give(word, line, entry, name, f.first, b, out);
-    tell_read(word, name, text, b, r.lost);
+    tell_read(NOTE, name, text, b);
+    if word != words::LIST {
+        times::tell(NOTE, name, times::of_text(text, r.lost));
+    }
 }
 
 // Prints where reading of a text stopped, or says why the text is refused.
-fn print_where(name: &[u8], text: &[u8]) {
+pub(crate) fn print_where(name: &[u8], text: &[u8]) {
     let stop = stops::stop(text);
     let StopAnswer::Stopped(taken, reason, at) = stop else {
         refusals::tell_stop(name, text, stop);
@@ -253,20 +247,4 @@ fn print_where(name: &[u8], text: &[u8]) {
     if told(wheres::print(name, text, taken as usize, reason, at as usize)) {
         passes::tell(ANSWER, name, text, passes::before_moves(text).next);
     }
-}
-
-pub(crate) fn answer(
-    word: usize,
-    line: u64,
-    entry: u64,
-    name: &[u8],
-    text: &[u8],
-    out: &mut [u8],
-    made: &mut [u8],
-) {
-    if word == words::WHERE {
-        print_where(name, text);
-        return;
-    }
-    read(word, line, entry, name, text, out, made);
 }

@@ -75,59 +75,50 @@ fn is_missed(s: &[u8], taken: usize, reason: Reason) -> bool {
     !is_empty(lent::rest(s, taken))
 }
 
-// Refuses a text of which something is missed, and says how to go on; and whether it did.
-pub(crate) fn refuse(name: &[u8], s: &[u8]) -> bool {
-    let StopAnswer::Stopped(taken, reason, at) = stops::stop(s) else {
-        return false;
-    };
-    if !is_missed(s, taken as usize, reason) {
-        return false;
+// Says what comes of it that something is missed from a line on: the answer to `check` is not the whole, and of a refusal how to go on.
+fn tell_missed(kind: u8, name: &[u8], line: u64) {
+    if kind == ANSWER {
+        notes::tell(
+            UNREAD,
+            name,
+            b"from line % on the file was not read",
+            line,
+            0,
+        );
     }
-    tell_rest(REFUSED, name, s, taken as usize, reason, at as usize);
-    notes::tell(
-        NOTE,
-        name,
-        b"nothing was done, since what stands from line % on would be lost; --partial goes on with what was read",
-        stops::line_column(s, taken as usize).line,
-        0,
-    );
-    true
+    if kind == REFUSED {
+        notes::tell(
+            NOTE,
+            name,
+            b"nothing was done, since what stands from line % on would be lost; --partial goes on with what was read",
+            line,
+            0,
+        );
+    }
 }
 
-// The notes on a rest; of one by which nothing is missed how long it is.
-pub(crate) fn tell_left(name: &[u8], s: &[u8]) {
-    let StopAnswer::Stopped(taken, reason, at) = stops::stop(s) else {
-        return;
+// Says what was left of a text, in lines of a kind; and whether something is missed by it. Else a note tells how long it is.
+pub(crate) fn tell_left(kind: u8, name: &[u8], s: &[u8]) -> bool {
+    let StopAnswer::Stopped(to, reason, at) = stops::stop(s) else {
+        return false;
     };
-    if is_missed(s, taken as usize, reason) {
-        tell_rest(NOTE, name, s, taken as usize, reason, at as usize);
-        return;
-    }
-    notes::tell_some(
-        NOTE,
-        name,
-        b"bytes at the end that are no moves and were not read: %, from line % on",
-        left(s, taken as usize),
-        stops::line_column(s, taken as usize).line,
-    );
-}
-
-// The lines of the answer to `check` on a rest by which something is missed, and that it was not read.
-pub(crate) fn print_left(name: &[u8], s: &[u8]) -> bool {
-    let StopAnswer::Stopped(taken, reason, at) = stops::stop(s) else {
-        return true;
-    };
-    if !is_missed(s, taken as usize, reason) {
+    let taken = to as usize;
+    let line = stops::line_column(s, taken).line;
+    if is_missed(s, taken, reason) {
+        tell_rest(kind, name, s, taken, reason, at as usize);
+        tell_missed(kind, name, line);
         return true;
     }
-    notes::tell(
-        UNREAD,
-        name,
-        b"from line % on the file was not read: % bytes",
-        stops::line_column(s, taken as usize).line,
-        left(s, taken as usize),
-    );
-    tell_rest(ANSWER, name, s, taken as usize, reason, at as usize)
+    if kind == NOTE {
+        notes::tell_some(
+            NOTE,
+            name,
+            b"bytes at the end that are no moves and were not read: %, from line % on",
+            left(s, taken),
+            line,
+        );
+    }
+    false
 }
 
 // Where reading stopped, in full.

@@ -41,14 +41,16 @@ pub(crate) const BLOCK_TREE: usize = 14;
 
 pub(crate) const NO_WORD: usize = 15;
 
-// The flags; and what begins as a flag does.
-const PLAIN: u8 = 1;
+// The flags, and what begins as one does; and that a word takes the number of a line.
+pub(crate) const PLAIN: u8 = 1;
 
 const PARTIAL: u8 = 2;
 
 pub(crate) const SKIP_BOM: u8 = 4;
 
 const NO_FLAG: u8 = 8;
+
+pub(crate) const LINE: u8 = 16;
 
 // The number that a word is, or that it is none.
 pub enum Numbered {
@@ -132,11 +134,6 @@ pub(crate) fn mode() -> Mode {
     Mode::Shared
 }
 
-// Whether the mode may lose something.
-pub(crate) fn is_plain() -> bool {
-    has(PLAIN)
-}
-
 // How many names a word takes.
 fn names_of(word: usize) -> usize
     ensures { λ r. ⌜ r ≤ 255 ⌝ }
@@ -147,21 +144,13 @@ fn names_of(word: usize) -> usize
     ))
 }
 
-// Whether a flag may stand behind a word: a row has the sum of those that may.
-fn takes(word: usize, flag: u8) -> bool {
+// Whether a flag may stand behind a word, or a line's number is its second name: a row has the sum of what may.
+pub(crate) fn takes(word: usize, flag: u8) -> bool {
     let flags = lent::peek(
-        b"\x04\x07\x06\x04\x04\x07\x07\x04\x04\x01\x00\x00\x04\x00\x00",
+        b"\x04\x07\x06\x04\x04\x17\x17\x14\x04\x01\x00\x00\x14\x10\x00",
         word,
     );
     flags & flag != 0
-}
-
-// Whether a flag stands behind a word that does not take it.
-fn is_stray(word: usize, flag: u8) -> bool {
-    if takes(word, flag) {
-        return false;
-    }
-    has(flag)
 }
 
 // Whether a word refuses what was not read to its end: each that writes, if --partial is not there.
@@ -174,16 +163,16 @@ pub(crate) fn wants_all(word: usize) -> bool {
 
 // Whether the flags are such as a word takes.
 fn are_flags(word: usize) -> bool {
-    if is_stray(word, PLAIN) {
-        return false;
+    let count = os::arg_count();
+    let mut i = 2;
+    while i < count {
+        let flag = flag_at(i);
+        if flag != 0 && !takes(word, flag) {
+            return false;
+        }
+        i += 1;
     }
-    if is_stray(word, PARTIAL) {
-        return false;
-    }
-    if is_stray(word, SKIP_BOM) {
-        return false;
-    }
-    !has(NO_FLAG)
+    true
 }
 
 // Whether the names are as many as a word takes, and standard input is one of them at most.
