@@ -236,8 +236,8 @@ for (const [name, held] of Object.entries(cases)) {
     await held();
   } catch (error) {
     failed += 1;
-    console.log(`tests/js, ${name}: ${error.message}\n${error.stack.split('\n').find((line) => line.includes('binding.mjs')) ?? ''}`);
+    console.log(`tests/node, ${name}: ${error.message}\n${error.stack.split('\n').find((line) => line.includes('binding.mjs')) ?? ''}`);
   }
 }
-console.log(`tests/js: ${Object.keys(cases).length - failed} cases hold${failed === 0 ? '' : `, ${failed} fail`}`);
+console.log(`tests/node: ${Object.keys(cases).length - failed} cases hold${failed === 0 ? '' : `, ${failed} fail`}`);
 process.exit(failed === 0 ? 0 : 1);
