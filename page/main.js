@@ -216,17 +216,23 @@ class Page {
     tellDone(say('refusedFile', name, refusalWords(refusal)), true);
   }
 
-  save() {
-    const name = this.file?.name ?? 'record.kif';
+  // Saves the record; what would not be read back as the same one is asked about first.
+  save(anyway = false) {
     try {
-      const { bytes, same } = writtenFile(this.kif, this.game.record);
-      saveFile(name, bytes);
-      this.game.saved = this.game.record;
-      tellDone(say(same ? 'saved' : 'savedOther', name, bytes.length), !same);
+      const written = writtenFile(this.kif, this.game.record);
+      if (written.same || anyway) return this.keep(written);
+      tellDone(say('notBack'), true, button(say('saveAnyway'), () => this.save(true)), button(say('cancel'), clearDone));
     } catch (refusal) {
       if (!(refusal instanceof KifError)) throw refusal;
       tellDone(say('notSaved', refusalWords(refusal)), true);
     }
+  }
+
+  keep({ bytes, same }) {
+    const { name } = this.file;
+    saveFile(name, bytes);
+    this.game.saved = this.game.record;
+    tellDone(say(same ? 'saved' : 'savedOther', name, bytes.length));
   }
 }
 
