@@ -2,6 +2,7 @@
 -- Assumes nothing.
 use Prim.Native.Nat.{ℕ, _<_, _-_, _/_}
 use native.Mathlib.Omega.{arith}
+use native.Mathlib.Nat.{le-refl}
 use mathlib.Core.Path.{sym}
 use mathlib.Core.List.{List}
 use lib.ListN.{length, drop, length-take, length-drop}
@@ -167,7 +168,7 @@ sort-places-part-sort-places-start : (t : ℕ) → sort-places-lts.Need-part-sor
   merge-halves-reads.Asked,
   merge-halves-reads.Learnt,
 ) (sort-places-at t) sort-places.Post
-sort-places-part-sort-places-start t c = search needs
+sort-places-part-sort-places-start t c = sort-places-sub-sort-places t c
 
 sort-places-part-sort-places-end : (t : ℕ) → sort-places-lts.Need-part-sort-places-end (
   pack-reads.Asked,
@@ -177,7 +178,7 @@ sort-places-part-sort-places-end : (t : ℕ) → sort-places-lts.Need-part-sort-
   merge-halves-reads.Asked,
   merge-halves-reads.Learnt,
 ) (sort-places-at t) sort-places.Post
-sort-places-part-sort-places-end t c = search needs
+sort-places-part-sort-places-end t c = le-refl _
 
 sort-places-mul-sort-places-2 : (t : ℕ) → sort-places-lts.Need-mul-sort-places-2 (
   pack-reads.Asked,
@@ -207,7 +208,7 @@ sort-places-part-sort-places-start-2 : (t : ℕ) → sort-places-lts.Need-part-s
   merge-halves-reads.Asked,
   merge-halves-reads.Learnt,
 ) (sort-places-at t) sort-places.Post
-sort-places-part-sort-places-start-2 t c = search needs
+sort-places-part-sort-places-start-2 t c = sort-places-sub-sort-places-2 t c
 
 sort-places-part-sort-places-end-2 : (t : ℕ) → sort-places-lts.Need-part-sort-places-end-2 (
   pack-reads.Asked,
@@ -217,7 +218,7 @@ sort-places-part-sort-places-end-2 : (t : ℕ) → sort-places-lts.Need-part-sor
   merge-halves-reads.Asked,
   merge-halves-reads.Learnt,
 ) (sort-places-at t) sort-places.Post
-sort-places-part-sort-places-end-2 t c = search needs
+sort-places-part-sort-places-end-2 t c = le-refl _
 
 sort-places-sort-places-requires-2 : (t : ℕ) → sort-places-lts.Need-sort-places-requires-2 (
   pack-reads.Asked,
