@@ -5,8 +5,10 @@ use native.Mathlib.Nat.{add-zero}
 use native.Mathlib.Omega.{arith}
 use mathlib.Core.Path.{_≡_, refl, sym, ap, subst, _∙_}
 use mathlib.Core.List.{List}
+use mathlib.Core.Bool.{true}
 use lib.ListN.{length, getD}
-use borrow.Author.Tests.{lt-ltb, le-ltb, ne-eqb}
+use lib.Dec.{ltb}
+use borrow.Author.Tests.{lt-ltb, le-ltb, ne-eqb, ltb-true}
 use Rattle.text.specs.inner.Runs.{Run, Count}
 use Rattle.text.specs.Text.{isText, textAt, pastAll}
 use Rattle.text.specs.Utf8.{sizeOf, lowestOf, highestOf, secondOf, isNext, charWidth}
@@ -30,6 +32,20 @@ run-on p q =
 -- one step more, after k
 pub step-on : (f : ℕ → ℕ) (at k : ℕ) → f at ≡ f (at + k) → f (at + k) ≡ f (at + k + 1) → f at ≡ f (at + (k + 1))
 step-on f at k p q = let e : at + k + 1 ≡ at + (k + 1) = omega arith in p ∙ q ∙ ap f e
+
+-- where eight bytes stand, the first k were passed
+pub record Passed (f : ℕ → ℕ) (s : List ℕ) (at k : ℕ) : Type 0 where
+  pub room : at + 8 ≤ length s
+  pub run : Run f s at (at + k)
+
+pub eight-first : (f : ℕ → ℕ) (s : List ℕ) (at : ℕ) → at + 8 ≤ length s → (at < length s → f at ≡ f (at + 1)) → Passed f s at 1
+eight-first f s at h on = record { room = h; run = record { from = omega arith; within = omega arith; same = on (omega arith) } }
+
+pub eight-on : (f : ℕ → ℕ) (s : List ℕ) (at k : ℕ) → ltb k 8 ≡ true → (at + k < length s → f (at + k) ≡ f (at + k + 1)) → Passed f s at k → Passed f s at (k + 1)
+eight-on f s at k few on p =
+    let h = p .room in
+    let l = ltb-true k 8 few in
+    record { room = h; run = record { from = omega arith; within = omega arith; same = step-on f at k (p .run .same) (on (omega arith)) } }
 
 -- ---- bytes that are counted
 
