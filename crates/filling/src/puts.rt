@@ -3,8 +3,7 @@ use crate::Walk;
 use jkf::Entry;
 ghost use mathlib.Core.Path.{_≡_};
 ghost use Prim.Native.Nat.{_+_, _-_, _≤_};
-ghost use lib.Dec.{eqb, leb};
-ghost use Rattle.lists.specs.Pick.{pick};
+ghost use lib.Dec.{leb};
 ghost use Rattle.filling.specs.Filling.{header, hasHeader, hasComment, hasEntry, entered, putHeader, putLine, putComment, putEntry};
 
 // Whether n more from a place on come to an end or less.
@@ -117,13 +116,6 @@ pub fn put_comment(out: &mut [u8], w: Walk, c: &[u8]) -> Walk
     }
 }
 
-// The number of the first comment, which is 0 where there is none.
-fn first_comment(first: usize, count: usize) -> usize
-    ensures { λ r. ⌜ r ≡ pick (eqb count 0) 0 first ⌝ }
-{
-    if count == 0 { 0 } else { first }
-}
-
 // Whether an entry has room.
 fn has_entry(w: Walk, room: usize) -> bool
     ensures { λ r. ⌜ r ≡ hasEntry w room ⌝ }
@@ -146,7 +138,7 @@ fn entered(w: Walk, moves: usize) -> Walk
     }
 }
 
-// The entry that has the comments from number first on, where the entries end.
+// The entry that has the comments from number first on, where the entries end; where it has none, that number is 0.
 pub fn put_entry(out: &mut [u8], w: Walk, e: Entry, first: usize) -> Walk
     ensures { λ r. ⌜ r ≡ putEntry e first w (now (out .entry)) .walk ⌝ }
     ensures { λ r. ⌜ now (out .exit) ≡ putEntry e first w (now (out .entry)) .buffer ⌝ }
@@ -155,6 +147,8 @@ pub fn put_entry(out: &mut [u8], w: Walk, e: Entry, first: usize) -> Walk
         return w;
     }
     let count = less(w.noted, first);
-    let first = first_comment(first, count);
+    if count == 0 {
+        return entered(w, block::put_entry_row(out, w.moves, e, 0, 0));
+    }
     entered(w, block::put_entry_row(out, w.moves, e, first, count))
 }
