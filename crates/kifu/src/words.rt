@@ -281,6 +281,6 @@ pub(crate) fn is_used(uses: &[u8], word: usize) -> bool {
     }
     io::write_all(STDERR_FILENO, b"kifu: usage: kifu ");
     io::write_all(STDERR_FILENO, row(uses, word));
-    io::write_all(STDERR_FILENO, b"\n");
+    io::write_all(STDERR_FILENO, b"; kifu help tells more\n");
     false
 }

@@ -1,4 +1,4 @@
--- The place is at most the length, and each turn goes one byte on.
+-- Each turn goes one byte on.
 -- Assumes nothing.
 use Prim.Native.Nat.{_-_, _≤_}
 use lib.ListN.{length}
@@ -7,16 +7,13 @@ use Rattle.kifu.proofs.quotes.first_hidden.Statement.{statement}
 use Rattle.kifu.proofs.quotes.first_hidden.Tie as tie
 
 abbrev Inv-loop : tie.InvT-loop
-Inv-loop name is-text i₀ i = i ≤ length name
+Inv-loop w is-text i₀ i = i ≤ length w
 
 abbrev μ-loop : tie.MeasureT-loop
-μ-loop name is-text i₀ i = length name - i
+μ-loop w is-text i₀ i = length w - i
 
 loop-holds : tie.Need-loop-holds Inv-loop μ-loop
 loop-holds c = search needs
-
-shared-slice-read-is-shown : tie.Need-shared-slice-read-is-shown Inv-loop μ-loop
-shared-slice-read-is-shown c = search needs
 
 is-shown-requires : tie.Need-is-shown-requires Inv-loop μ-loop
 is-shown-requires c κs = search needs
@@ -43,7 +40,6 @@ first-hidden-spec =
     Inv-loop
     μ-loop
     loop-holds
-    shared-slice-read-is-shown
     is-shown-requires
     returns
     add-i

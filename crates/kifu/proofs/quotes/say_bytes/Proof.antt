@@ -7,16 +7,13 @@ use Rattle.kifu.proofs.quotes.say_bytes.Statement.{statement}
 use Rattle.kifu.proofs.quotes.say_bytes.Tie as tie
 
 abbrev Inv-loop : tie.InvT-loop
-Inv-loop name is-text i₀ i = i ≤ length name
+Inv-loop w is-text i₀ i = i ≤ length w
 
 abbrev μ-loop : tie.MeasureT-loop
-μ-loop name is-text i₀ i = length name - i
+μ-loop w is-text i₀ i = length w - i
 
 loop-holds : tie.Need-loop-holds Inv-loop μ-loop
 loop-holds c = search needs
-
-shared-slice-read-say-byte : tie.Need-shared-slice-read-say-byte Inv-loop μ-loop
-shared-slice-read-say-byte c = search needs
 
 say-byte-requires : tie.Need-say-byte-requires Inv-loop μ-loop
 say-byte-requires c κs = search needs
@@ -40,7 +37,6 @@ say-bytes-spec =
     Inv-loop
     μ-loop
     loop-holds
-    shared-slice-read-say-byte
     say-byte-requires
     add-i
     loop-less
