@@ -205,6 +205,34 @@ fn give(word: usize, line: u64, entry: u64, name: &[u8], taken: u64, b: &[u8], o
     }
 }
 
+// Says that lines were passed over and no move was read, as of a file whose moves have no numbers; and whether it is so.
+fn tell_bare(name: &[u8], s: &[u8], b: &[u8]) -> bool {
+    if block::moves_in(b) != 1 {
+        return false;
+    }
+    let from = passes::before_moves(s).next;
+    if passes::walked(s, from, s.len()).odd == 0 {
+        return false;
+    }
+    passes::tell(REFUSED, name, s, from);
+    notes::tell(
+        NOTE,
+        name,
+        b"nothing was done, since no move was read; --partial goes on without them",
+        0,
+        0,
+    );
+    true
+}
+
+// Says what a word that writes would lose of a text; and whether there is such a thing.
+fn tell_loss(name: &[u8], s: &[u8], b: &[u8]) -> bool {
+    if wheres::tell_left(REFUSED, name, s) {
+        return true;
+    }
+    tell_bare(name, s, b)
+}
+
 // Reads a text into a block, does what is asked of it and tells the rest; of times that were lost a listing has none to show.
 pub(crate) fn read(
     word: usize,
@@ -227,7 +255,7 @@ pub(crate) fn read(
         told(print_check(name, text, f.first as usize, b, r.lost));
         return;
     }
-    if words::wants_all(word) && wheres::tell_left(REFUSED, name, text) {
+    if words::wants_all(word) && tell_loss(name, text, b) {
         return;
     }
     give(word, line, entry, name, f.first, b, out);
