@@ -104,7 +104,7 @@ pub(crate) fn say(fd: i32, s: &[u8], taken: usize, reason: Reason, at: usize) ->
               no origin: half-width digits must stand here\n\
               no origin: a ) must stand here\n\
               no origin: (77) or \xe6\x89\x93 must stand here\n\
-              no break: the last line does not end\n\
+              no break: the last line of the file must end in a line break\n\
               no break: a CR stands without LF\n\
               a comment out of place: behind \xe5\xa4\x89\xe5\x8c\x96 or another line that is no move, a move must come first\n\
               end of text: no move stands here\n\

@@ -148,8 +148,8 @@ fn tell_astray(name: &[u8], text: &[u8], a: Astray) {
         fd,
         notes::agreeing(
             empty_line(text, at),
-            b"line % is empty, ",
-            b"line % is no move, no comment and no header line, ",
+            b"take out line %, which is empty: ",
+            b"look at line %, which is no move, no comment and no header line: ",
         ),
         stops::line_column(text, at).line,
         0,
@@ -157,7 +157,7 @@ fn tell_astray(name: &[u8], text: &[u8], a: Astray) {
     );
     notes::say(
         fd,
-        b"so that the moves from line % on are taken for a variation that begins at move %, and hang nowhere; take that line out",
+        b"by it the moves from line % on are taken for a variation that begins at move %, and hang nowhere",
         line,
         a.ply,
         0,

@@ -6,6 +6,7 @@ use crate::notes;
 use crate::notes::ANSWER;
 use crate::notes::NOTE;
 use crate::notes::REFUSED;
+use crate::notes::UNREAD;
 use crate::passes;
 use crate::print_text;
 use crate::refusals;
@@ -80,11 +81,12 @@ fn tell_doubts(kind: u8, name: &[u8], s: &[u8], b: &[u8]) {
     }
 }
 
-// Says what was left of a text that was read, and what was passed over in it.
-fn tell_read(kind: u8, name: &[u8], s: &[u8], b: &[u8]) {
+// Says what was left of a text that was read, and what was passed over in it; and whether moves were passed over.
+fn tell_read(kind: u8, name: &[u8], s: &[u8], b: &[u8]) -> bool {
     wheres::tell_left(kind, name, s);
-    passes::tell(kind, name, s, passes::before_moves(s).next);
+    let is_hiding = passes::tell(kind, name, s, passes::before_moves(s).next);
     tell_doubts(kind, name, s, b);
+    is_hiding
 }
 
 // Prints how much of a text was taken, and what it holds.
@@ -134,7 +136,9 @@ fn print_check(name: &[u8], s: &[u8], taken: usize, b: &[u8], lost: u64) -> bool
         ),
         0,
     );
-    tell_read(ANSWER, name, s, b);
+    if tell_read(ANSWER, name, s, b) {
+        notes::tell(UNREAD, name, b"moves were passed over", 0, 0);
+    }
     times::tell(ANSWER, name, times::of_text(s, lost));
     true
 }
@@ -205,20 +209,18 @@ fn give(word: usize, line: u64, entry: u64, name: &[u8], taken: u64, b: &[u8], o
     }
 }
 
-// Says that lines were passed over and no move was read, as of a file whose moves have no numbers; and whether it is so.
-fn tell_bare(name: &[u8], s: &[u8], b: &[u8]) -> bool {
-    if block::moves_in(b) != 1 {
-        return false;
-    }
+// Says that lines were passed over that are moves, or that may be, since no other move was read; and whether it is so.
+fn tell_passed(name: &[u8], s: &[u8], b: &[u8]) -> bool {
     let from = passes::before_moves(s).next;
-    if passes::walked(s, from, s.len()).odd == 0 {
+    let w = passes::walked(s, from, s.len());
+    if w.hidden == 0 && (w.odd == 0 || block::moves_in(b) != 1) {
         return false;
     }
     passes::tell(REFUSED, name, s, from);
     notes::tell(
         NOTE,
         name,
-        b"nothing was done, since no move was read; --partial goes on without them",
+        b"nothing was done, since moves would be lost; --partial goes on without them",
         0,
         0,
     );
@@ -230,7 +232,7 @@ fn tell_loss(name: &[u8], s: &[u8], b: &[u8]) -> bool {
     if wheres::tell_left(REFUSED, name, s) {
         return true;
     }
-    tell_bare(name, s, b)
+    tell_passed(name, s, b)
 }
 
 // Reads a text into a block, does what is asked of it and tells the rest; of times that were lost a listing has none to show.

@@ -113,7 +113,7 @@ pub(crate) fn tell_left(kind: u8, name: &[u8], s: &[u8]) -> bool {
         notes::tell_some(
             NOTE,
             name,
-            b"bytes at the end that are no moves and were not read: %, from line % on",
+            b"bytes at the end that were not read: %, from line % on",
             left(s, taken),
             line,
         );

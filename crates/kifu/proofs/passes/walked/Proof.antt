@@ -12,6 +12,9 @@ Inv-loop s from to w₀ k₀ w k = k ≤ length s
 abbrev μ-loop : tie.MeasureT-loop
 μ-loop s from to w₀ k₀ w k = length s - k
 
+started-requires : tie.Need-started-requires Inv-loop μ-loop
+started-requires c κs = search needs
+
 loop-holds : tie.Need-loop-holds Inv-loop μ-loop
 loop-holds c = search needs
 
@@ -39,6 +42,7 @@ walked-spec =
     (tie.spec
     Inv-loop
     μ-loop
+    started-requires
     loop-holds
     returns
     step-requires
