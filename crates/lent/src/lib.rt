@@ -1,5 +1,7 @@
 // Lent memory: bytes read at a place, and writer leaves that fill the rest of a lent buffer.
 // A leaf answers how many bytes it filled. Where its text does not fit it fills none, answers 0 and changes nothing.
+#![tactic(auto)]
+
 ghost use Rattle.std.specs.Prelude.{◌≡◌, ◌+◌, ◌≤◌, ◌<◌, length, take, drop, get_or, replicate};
 ghost use Rattle.lent.specs.Bytes.{le16, bytes16, Wrote, fitting};
 ghost use Rattle.lent.specs.Numbers.{decimal, padded};
@@ -56,7 +58,8 @@ pub fn put_bytes(out: &mut [u8], t: &[u8]) -> usize
     if out.len() < t.len() {
         return 0;
     }
-    bytes::copy(t, out)
+    out[..t.len()].copy_from_slice(t);
+    t.len()
 }
 
 // One byte n times.
