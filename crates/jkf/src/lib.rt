@@ -1,4 +1,6 @@
 // The types of a record, the answers of the calls, and the attaching rule.   (the Rust's src/jkf.rs)
+#![tactic(auto)]
+
 mod attaching;
 mod entries;
 

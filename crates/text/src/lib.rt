@@ -1,5 +1,7 @@
 // A place in a text that hands itself on by value, and the smallest things that are read there.
 // The text goes beside the place as a slice. Past the end of the text the rest is empty.
+#![tactic(auto)]
+
 mod utf8;
 
 ghost use Rattle.std.specs.Prelude.{◌≡◌, ◌+◌, ◌≤◌, length, true};
