@@ -7,7 +7,7 @@ ghost use Rattle.block.specs.EntryBytes.{from_mark, same_mark, hour_mark, time_m
 use jkf::{Clock, Entry, Move, Origin, Special, Target, Time};
 
 // A mark and the two bytes of a square.
-#[derive(Drop)]
+#[derive(Clone, Copy)]
 struct Field {
     mark: u8,
     x: u8,
@@ -15,7 +15,7 @@ struct Field {
 }
 
 // A mark and the three bytes of a clock.
-#[derive(Drop)]
+#[derive(Clone, Copy)]
 struct Figure {
     mark: u8,
     h: u8,

@@ -19,7 +19,7 @@ use crate::usuals::{is_usual, put_usual};
 use jkf::{Clock, Entry, Move, Origin, Target, Time};
 
 // So many bytes and so many lines were written.
-#[derive(Drop)]
+#[derive(Clone, Copy)]
 struct Written {
     bytes: usize,
     lines: usize,

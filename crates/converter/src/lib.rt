@@ -27,7 +27,7 @@ use said::said_entry;
 use starts::{put_headers, put_position};
 
 // How a record is written: as to_kif does, losing nothing, or so that other programs read it too.   (02, xi)
-#[derive(Drop)]
+#[derive(Clone, Copy)]
 pub enum Mode {
     Plain,
     Whole,
@@ -35,7 +35,7 @@ pub enum Mode {
 }
 
 // Two figures that say what cannot be written, or that all can.
-#[derive(Drop)]
+#[derive(Clone, Copy)]
 pub enum Obstacle {
     At(u64, u64),
     Clear,

@@ -19,14 +19,14 @@ use stores::store;
 use text::Cursor;
 
 // The lines that an edit puts in: none, or the line of a text, by the line that it hangs on, its ply, and what was counted of it.
-#[derive(Drop)]
+#[derive(Clone, Copy)]
 pub(crate) enum Added {
     Nothing,
     Variation(u64, u64, Extent),
 }
 
 // Comments: how many, and how many bytes they have.
-#[derive(Drop)]
+#[derive(Clone, Copy)]
 pub(crate) struct Comments {
     pub count: usize,
     pub bytes: usize,

@@ -13,7 +13,7 @@ use filling::{Sizes, Walk};
 use text::Cursor;
 
 // Where lines change: those from p to q - 1 give way to new ones.
-#[derive(Drop)]
+#[derive(Clone, Copy)]
 pub(crate) struct Splice {
     pub p: usize,
     pub q: usize,

@@ -10,7 +10,7 @@ pub use opens::{admit, open};
 pub use puts::{put_comment, put_entry, put_header, put_line};
 
 // How many header entries, lines, entries and comments a block has, and how many bytes of text.
-#[derive(Drop)]
+#[derive(Clone, Copy)]
 pub struct Sizes {
     pub headers: usize,
     pub lines: usize,
@@ -21,7 +21,7 @@ pub struct Sizes {
 
 // Where the header rows, the line rows, the entries, the comment rows and the texts of a block end by now, and how many entries,
 // comments and bytes of text it has by now.
-#[derive(Drop)]
+#[derive(Clone, Copy)]
 pub struct Walk {
     pub headers: usize,
     pub lines: usize,
@@ -34,14 +34,14 @@ pub struct Walk {
 }
 
 // A block whose front is filled in, and its length; or why it is not begun.
-#[derive(Drop)]
+#[derive(Clone, Copy)]
 pub enum Opening {
     Begun(Walk, u64),
     Refused(Answer),
 }
 
 // The block with one line more, or that it hangs on none.
-#[derive(Drop)]
+#[derive(Clone, Copy)]
 pub enum Hooked {
     Put(Walk),
     Loose,

@@ -56,6 +56,7 @@ near_none st s = refl
 -- a line before
 pub near_before : (st : ℕ → ℕ) (s k : ℕ) → 0 < k → near st s k < k
 unfolding near
+near_before st s zero h = elim h [ ]
 near_before st s (suc zero) h = by_pick (λ (n : ℕ). n < 1) (leb (st 0) s) 0 0 (λ e. omega arith) (λ e. omega arith)
 near_before st s (suc (suc k)) h =
     let r = near_before st s (suc k) (omega arith) in
@@ -64,6 +65,7 @@ near_before st s (suc (suc k)) h =
 -- one that starts at or below, where line 0 does
 pub near-low : (st : ℕ → ℕ) (s k : ℕ) → 0 < k → st 0 ≤ s → st (near st s k) ≤ s
 unfolding near
+near-low st s zero h l = elim h [ ]
 near-low st s (suc zero) h l = by_pick (λ (n : ℕ). st n ≤ s) (leb (st 0) s) 0 0 (λ e. l) (λ e. l)
 near-low st s (suc (suc k)) h l =
     by_pick (λ (n : ℕ). st n ≤ s) (leb (st (suc k)) s) (suc k) (near st s (suc k)) (λ e. leb-true _ _ e) (λ e. near-low st s (suc k) (omega arith) l)

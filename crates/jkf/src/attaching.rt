@@ -42,8 +42,8 @@ pub fn nearest_in_turn(lines: &[u8], k: usize, s: u64) -> usize
 // The first line whose start is at or below s along the parents, from the last of k lines on. All lines between a line and its right
 // parent start above it, so with such parents this is the nearest.   (the Rust's merge_forks finds it by a stack)
 pub fn nearest(lines: &[u8], k: usize, s: u64) -> usize
-    ensures value { result ≡ followed lines.now s k }
-    ensures value_2 { Linked lines.now k → result ≡ near (start_at lines.now) s k }
+    ensures by_parents { result ≡ followed lines.now s k }
+    ensures as_searched { Linked lines.now k → result ≡ near (start_at lines.now) s k }
 {
     if k == 0 {
         return 0;

@@ -11,7 +11,7 @@ pub use attaching::{hang_of, nearest, nearest_in_turn};
 pub use entries::{number_of, special_of, time_of};
 
 // What a call of 01 answers: done, with two figures, or one of the 17 refusals.
-#[derive(Drop)]
+#[derive(Clone, Copy)]
 pub enum Answer {
     Done(u64, u64),
     TextTooLong(u64),
@@ -34,7 +34,7 @@ pub enum Answer {
 }
 
 // The number of an answer, 0 for done, and its two figures.
-#[derive(Drop)]
+#[derive(Clone, Copy)]
 pub struct Figures {
     pub number: u64,
     pub first: u64,
@@ -78,7 +78,7 @@ fn figured(number: u64, first: u64, second: u64) -> Figures
 }
 
 // An ending, in the Rust's order.   (the Rust's MoveSpecial)
-#[derive(Drop)]
+#[derive(Clone, Copy)]
 pub enum Special {
     Toryo,
     Chudan,
@@ -97,35 +97,35 @@ pub enum Special {
 }
 
 // A time of the clock, with its hour or without.   (the Rust's TimeFormat)
-#[derive(Drop)]
+#[derive(Clone, Copy)]
 pub enum Clock {
     Hms(u8, u8, u8),
     Ms(u8, u8),
 }
 
 // The time of an entry: what it took and the total, or none.   (the Rust's Option<Time>)
-#[derive(Drop)]
+#[derive(Clone, Copy)]
 pub enum Time {
     Untimed,
     Timed(Clock, Clock),
 }
 
 // Where a move goes: the square of the move before it, or a file and a rank.
-#[derive(Drop)]
+#[derive(Clone, Copy)]
 pub enum Target {
     Same,
     Square(u8, u8),
 }
 
 // Where it comes from, if that is known.
-#[derive(Drop)]
+#[derive(Clone, Copy)]
 pub enum Origin {
     Unknown,
     From(u8, u8),
 }
 
 // A move: its colour (0 Black, 1 White), the kind from 1, and 0 for no mark, 1 for 不成, 2 for 成.   (the Rust's MoveMoveFormat)
-#[derive(Drop)]
+#[derive(Clone, Copy)]
 pub struct Move {
     pub color: u8,
     pub piece: u8,
@@ -136,7 +136,7 @@ pub struct Move {
 }
 
 // An entry of a line: the initial slot, a move, or a special.   (the Rust's MoveFormat)
-#[derive(Drop)]
+#[derive(Clone, Copy)]
 pub enum Entry {
     Slot,
     Moved(Move),
@@ -144,14 +144,14 @@ pub enum Entry {
 }
 
 // Where a variation hangs: on a line and an entry of it, or nowhere.
-#[derive(Drop)]
+#[derive(Clone, Copy)]
 pub enum Hang {
     On(u64, u64),
     Nowhere,
 }
 
 // The position that a record starts from: a preset alone, or a diagram with hands and the side to move.   (the Rust's Initial)
-#[derive(Drop)]
+#[derive(Clone, Copy)]
 pub struct Position {
     pub preset: u8,
     pub board: u8,

@@ -10,42 +10,42 @@ pub use starts::parse_without_moves;
 use text::Cursor;
 
 // A piece in a hand: its kind, how many, and the place past it.
-#[derive(Drop)]
+#[derive(Clone, Copy)]
 pub enum Piece {
     Of(u8, u8, Cursor),
     NoPiece,
 }
 
 // The counts of a hand, 歩 to 飛, and the place past it.   (the Rust's Hand)
-#[derive(Drop)]
+#[derive(Clone, Copy)]
 pub struct Hand {
     pub counts: [u8; 7],
     pub next: Cursor,
 }
 
 // Whose hand a line says, and the place past it; that it cannot be read; or that it is no hand line.
-#[derive(Drop)]
+#[derive(Clone, Copy)]
 pub enum Held {
     By(u8, Cursor),
     Unreadable,
     NoHand,
 }
 
-#[derive(Drop)]
+#[derive(Clone, Copy)]
 pub struct HandSaid {
     pub held: Held,
     pub counts: [u8; 7],
 }
 
 // A key and its value: where the value begins and ends, and the place past the line.
-#[derive(Drop)]
+#[derive(Clone, Copy)]
 pub enum KeyValue {
     Pair(Cursor, Cursor, Cursor),
     NoPair,
 }
 
 // What an information line is; that it is a hand line that cannot be read; or no information line.   (the Rust's Information)
-#[derive(Drop)]
+#[derive(Clone, Copy)]
 pub enum Info {
     Preset(u8),
     Turn(u8),
@@ -56,7 +56,7 @@ pub enum Info {
 }
 
 // What it is, the counts of its hand, and the place past it.
-#[derive(Drop)]
+#[derive(Clone, Copy)]
 pub struct Information {
     pub info: Info,
     pub counts: [u8; 7],
@@ -64,14 +64,14 @@ pub struct Information {
 }
 
 // A number that a line has said, or that none has.   (the Rust's Option)
-#[derive(Drop)]
+#[derive(Clone, Copy)]
 pub enum Named {
     Is(u8),
     Unsaid,
 }
 
 // What an information block says, but for its header entries.   (the Rust's InformationData)
-#[derive(Drop)]
+#[derive(Clone, Copy)]
 pub struct Told {
     pub preset: Named,
     pub turn: Named,
@@ -80,14 +80,14 @@ pub struct Told {
 }
 
 // Where a hand line begins that cannot be read, or that there is none.
-#[derive(Drop)]
+#[derive(Clone, Copy)]
 pub enum Fault {
     NoFault,
     At(usize),
 }
 
 // An information block: what it says, how many header entries it has, the hand line in it that cannot be read, if any, and the place past it.
-#[derive(Drop)]
+#[derive(Clone, Copy)]
 pub struct InformationBlock {
     pub told: Told,
     pub headers: usize,
@@ -96,7 +96,7 @@ pub struct InformationBlock {
 }
 
 // A diagram, if it is there: its cells by file and rank, and the place past it.
-#[derive(Drop)]
+#[derive(Clone, Copy)]
 pub struct Board {
     pub there: bool,
     pub cells: [u8; 81],
@@ -104,7 +104,7 @@ pub struct Board {
 }
 
 // What stands before the moves: a hand line that cannot be read, if any, the position, how many header lines there are, and the place past them.
-#[derive(Drop)]
+#[derive(Clone, Copy)]
 pub struct Start {
     pub fault: Fault,
     pub position: Position,

@@ -20,14 +20,14 @@ pub use remarks::{begins_comment, comment_line, skip_line};
 use text::{Cursor, Number, Place};
 
 // Where a move goes, and the place past it.
-#[derive(Drop)]
+#[derive(Clone, Copy)]
 pub enum Aim {
     To(Target, Cursor),
     NoAim,
 }
 
 // Where it comes from, and the place past it; or that nothing says so, or a figure too large.
-#[derive(Drop)]
+#[derive(Clone, Copy)]
 pub enum Source {
     Out(Origin, Cursor),
     NoSource,
@@ -35,56 +35,56 @@ pub enum Source {
 }
 
 // 2 for 成, 1 for 不成, 0 for neither, and the place past it.
-#[derive(Drop)]
+#[derive(Clone, Copy)]
 pub struct Mark {
     pub promote: u8,
     pub next: Cursor,
 }
 
 // A clock's time, and the place past it.
-#[derive(Drop)]
+#[derive(Clone, Copy)]
 pub enum Clocked {
     Shows(Clock, Cursor),
     NoClock,
 }
 
 // A time, or that there is none, and the place past it.
-#[derive(Drop)]
+#[derive(Clone, Copy)]
 pub struct Timing {
     pub time: Time,
     pub next: Cursor,
 }
 
 // What is played, and the place past it.
-#[derive(Drop)]
+#[derive(Clone, Copy)]
 pub enum What {
     Is(Entry, Cursor),
     Nothing,
 }
 
 // A comment: where its text begins and ends, and the place past its line.
-#[derive(Drop)]
+#[derive(Clone, Copy)]
 pub enum Remark {
     Stands(Cursor, Cursor, Cursor),
     NoRemark,
 }
 
 // A move line: its number, its entry and the place past it.
-#[derive(Drop)]
+#[derive(Clone, Copy)]
 pub enum MoveLine {
     Numbered(u64, Entry, Cursor),
     NoLine,
 }
 
 // A move line, and whether it has no time because a figure was too large.
-#[derive(Drop)]
+#[derive(Clone, Copy)]
 pub struct TakenLine {
     pub line: MoveLine,
     pub lost: bool,
 }
 
 // Why a rule fails.   (02, request (ii))
-#[derive(Drop)]
+#[derive(Clone, Copy)]
 pub enum Reason {
     NoNumber,
     TooLarge,
@@ -97,7 +97,7 @@ pub enum Reason {
 }
 
 // Where a rule fails and why; silent where it reads, and of a line that begins as none of its own.
-#[derive(Drop)]
+#[derive(Clone, Copy)]
 pub enum Failed {
     Silent,
     At(usize, Reason),

@@ -12,7 +12,7 @@ pub use reads::{fill, measure};
 use text::Cursor;
 
 // All lines of play: how many, their entries, their comments and the bytes of these, and the place past them.
-#[derive(Drop)]
+#[derive(Clone, Copy)]
 pub struct Extents {
     pub lines: usize,
     pub entries: usize,
@@ -22,14 +22,14 @@ pub struct Extents {
 }
 
 // That every variation hangs, with the place past the last and how many times were lost; or the first that does not, and its ply.
-#[derive(Drop)]
+#[derive(Clone, Copy)]
 pub enum Hanging {
     AllHung(Cursor, usize),
     Loose(u64, u64),
 }
 
 // Whether a text is refused before its block is measured.
-#[derive(Drop)]
+#[derive(Clone, Copy)]
 pub enum Early {
     Refused(Answer),
     Passed,
@@ -37,7 +37,7 @@ pub enum Early {
 
 // A text before anything of it is stored: whether it is refused; else its position, where its lines of play begin, the sizes of its block, and
 // how many bytes are taken.
-#[derive(Drop)]
+#[derive(Clone, Copy)]
 pub struct Survey {
     pub early: Early,
     pub position: Position,
@@ -47,7 +47,7 @@ pub struct Survey {
 }
 
 // What filling answers, and how many move lines lost a time to a figure too large: none where it refuses.
-#[derive(Drop)]
+#[derive(Clone, Copy)]
 pub struct FillAnswer {
     pub answer: Answer,
     pub lost: u64,

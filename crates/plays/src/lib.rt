@@ -8,7 +8,7 @@ pub use fills::{fill_comments, fill_moves};
 use text::Cursor;
 
 // Comments: how many, how many bytes they have, and the place past them.
-#[derive(Drop)]
+#[derive(Clone, Copy)]
 pub struct Remarks {
     pub count: usize,
     pub bytes: usize,
@@ -16,7 +16,7 @@ pub struct Remarks {
 }
 
 // A line of play: its entries, their comments and the bytes of these, and the place past it.
-#[derive(Drop)]
+#[derive(Clone, Copy)]
 pub struct Extent {
     pub entries: usize,
     pub comments: usize,
@@ -25,14 +25,14 @@ pub struct Extent {
 }
 
 // The block that is being filled, and the place in the text past what was filled into it.
-#[derive(Drop)]
+#[derive(Clone, Copy)]
 pub struct Reached {
     pub walk: Walk,
     pub next: Cursor,
 }
 
 // The same with a line of play, and how many of its move lines lost a time to a figure too large.
-#[derive(Drop)]
+#[derive(Clone, Copy)]
 pub struct FilledPlay {
     pub walk: Walk,
     pub next: Cursor,

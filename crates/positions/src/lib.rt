@@ -8,7 +8,7 @@ pub use paths::{position_after, store_position};
 pub use steps::play_step;
 
 // Why a move stops the play.   (02, request (i): "stops the play")
-#[derive(Drop)]
+#[derive(Clone, Copy)]
 pub enum Hindrance {
     NoneBefore,
     OffBoard,
@@ -22,14 +22,14 @@ pub enum Hindrance {
 }
 
 // Whether the play goes on.
-#[derive(Drop)]
+#[derive(Clone, Copy)]
 pub enum Verdict {
     Goes,
     Stops(Hindrance),
 }
 
 // A position after a step: whether the move could be played, the place of the last landing (81 for none), the position.
-#[derive(Drop)]
+#[derive(Clone, Copy)]
 pub struct Stepping {
     pub how: Verdict,
     pub last: usize,
@@ -37,7 +37,7 @@ pub struct Stepping {
 }
 
 // A course of play: whether it goes on, the line and entry of its last move or of the one that stopped it, the place of the last landing, the position.
-#[derive(Drop)]
+#[derive(Clone, Copy)]
 pub struct Course {
     pub how: Verdict,
     pub line: usize,
@@ -47,7 +47,7 @@ pub struct Course {
 }
 
 // All of a course but the position.
-#[derive(Drop)]
+#[derive(Clone, Copy)]
 pub struct Trail {
     pub how: Verdict,
     pub line: usize,
@@ -56,7 +56,7 @@ pub struct Trail {
 }
 
 // The answer; how the play went, which is as before any move where none was played; and the position, which is all zero if refused.
-#[derive(Drop)]
+#[derive(Clone, Copy)]
 pub struct After {
     pub answer: Answer,
     pub trail: Trail,

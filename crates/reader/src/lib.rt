@@ -11,7 +11,7 @@ use text::{Cursor, Place};
 
 // A move line: its number, its entry and the place past it. A comment: where its text begins and ends, and the place past its line.
 // A skip line: the place past it. Or nothing of these.
-#[derive(Drop)]
+#[derive(Clone, Copy)]
 pub enum TextLine {
     Played(u64, Entry, Cursor),
     Remarked(Cursor, Cursor, Cursor),
@@ -19,21 +19,21 @@ pub enum TextLine {
     Nothing,
 }
 
-#[derive(Drop)]
+#[derive(Clone, Copy)]
 pub struct Reader<'a> {
     pub text: &'a [u8],
     pub at: usize,
 }
 
 // Where the first skip line begins whose character is neither an LF nor a CR.
-#[derive(Drop)]
+#[derive(Clone, Copy)]
 pub enum FirstSkip {
     At(usize),
     NoSkip,
 }
 
 // How many move lines, comments and skip lines were passed, the first skip line, and the place past them all.
-#[derive(Drop)]
+#[derive(Clone, Copy)]
 pub struct PassedLines {
     pub moves: usize,
     pub comments: usize,
@@ -43,7 +43,7 @@ pub struct PassedLines {
 }
 
 // A count with one line more, or that no line stands where it ends.
-#[derive(Drop)]
+#[derive(Clone, Copy)]
 enum Advance {
     Further(PassedLines),
     NoFurther,

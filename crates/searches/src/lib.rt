@@ -6,8 +6,8 @@ ghost use Rattle.jkf.specs.Following.{start_at, Linked, followed};
 // Along the parents.
 #[unsafe(no_mangle)]
 pub extern "C" fn search_by_parents(lines: &[u8], k: usize, s: u64) -> usize
-    ensures value { result ≡ followed lines.now s k }
-    ensures value_2 { Linked lines.now k → result ≡ near (start_at lines.now) s k }
+    ensures by_parents { result ≡ followed lines.now s k }
+    ensures as_searched { Linked lines.now k → result ≡ near (start_at lines.now) s k }
 {
     jkf::nearest(lines, k, s)
 }

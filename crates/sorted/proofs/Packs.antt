@@ -77,7 +77,7 @@ leading_start k = record { goes-on = refl; bytes = λ b. b; small = le_refl 2814
 
 pub leading_end : (k l : List ℕ) (v left : ℕ) → Leading k l v left → left ≡ 0 → Lead k v
 unfolding lead_from KeyBytes widened
-leading_end k l v zero w e = record { value = w.goes_on; bytes = w.bytes tt; small = omega (arith, w.small) }
+leading_end k l v zero w e = record { value = w.goes-on; bytes = w.bytes tt; small = omega (arith, w.small) }
 leading_end k l v (suc n) w e = absurd (omega arith)
 
 module _ {k l : List ℕ} {v left : ℕ} (w : Leading k l v left) (h : 0 < left) where
@@ -93,7 +93,7 @@ module _ {k l : List ℕ} {v left : ℕ} (w : Leading k l v left) (h : 0 < left)
   pub leading_on : (b : ℕ) (m : List ℕ) → l ≡ b ∷ m → b < 256 → Leading k m (v * 256 + b) (left - 1)
   leading_on b m e g =
       record {
-        goes-on = sym (lead_on (left - 1) v b l m e) ∙ ap (λ (n : ℕ). lead_from n v l) one ∙ w.goes_on;
+        goes-on = sym (lead_on (left - 1) v b l m e) ∙ ap (λ (n : ℕ). lead_from n v l) one ∙ w.goes-on;
         bytes = λ x. w.bytes (rw one at (bytes_on (left - 1) b l m e g x));
         small = omega (arith, room, widened_up (left - 1) (v * 256 + b + 1) ((v + 1) * 256) (omega arith));
       }
@@ -101,7 +101,7 @@ module _ {k l : List ℕ} {v left : ℕ} (w : Leading k l v left) (h : 0 < left)
   pub leading_off : (m : List ℕ) → l ≡ [] → m ≡ [] → Leading k m (v * 256) (left - 1)
   leading_off m e f =
       record {
-        goes-on = ap (lead_from (left - 1) (v * 256)) (f ∙ sym e) ∙ sym (lead_off (left - 1) v l e) ∙ ap (λ (n : ℕ). lead_from n v l) one ∙ w.goes_on;
+        goes-on = ap (lead_from (left - 1) (v * 256)) (f ∙ sym e) ∙ sym (lead_off (left - 1) v l e) ∙ ap (λ (n : ℕ). lead_from n v l) one ∙ w.goes-on;
         bytes = λ x. w.bytes (rw one at (bytes_off (left - 1) l e));
         small = omega (arith, room, widened_up (left - 1) (v * 256 + 1) ((v + 1) * 256) (omega arith));
       }

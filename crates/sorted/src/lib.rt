@@ -1,4 +1,6 @@
 // Header lines sorted by key, of equal keys the last kept, without a heap.   (the Rust's HashMap)
+#![tactic(auto)]
+
 ghost use Rattle.std.specs.Prelude.{◌≡◌, ◌+◌, ◌-◌, ◌≤◌, ◌<◌, max, min, ◌++◌, map, length, take, drop, replicate, true};
 ghost use Rattle.text.specs.Text.{key_at};
 ghost use Rattle.sorted.specs.inner.Heads.{is_plain, head_of, Four};
@@ -7,7 +9,7 @@ ghost use Rattle.sorted.specs.inner.Orders.{merge, Leads};
 ghost use Rattle.sorted.specs.inner.Packs.{Lead, Packable, Packs, packed, pack_place, lead_told, by_pack, step_of};
 
 // How one key stands to another.
-#[derive(Drop)]
+#[derive(Clone, Copy)]
 pub enum Order {
     Less,
     Equal,
@@ -15,7 +17,7 @@ pub enum Order {
 }
 
 // A step of a merge: how many it takes of each run, and what it puts.
-#[derive(Drop)]
+#[derive(Clone, Copy)]
 pub struct MergeStep {
     pub left: usize,
     pub right: usize,

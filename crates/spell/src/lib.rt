@@ -1,4 +1,6 @@
 // The spellings of kinds, endings, presets and sides: one table form, one search over it, and the way back.
+#![tactic(auto)]
+
 mod digits;
 mod kansuji;
 
@@ -16,7 +18,7 @@ pub use kansuji::{count, put_count};
 use text::Cursor;
 
 // What a table has at a place: its number and the place past it.
-#[derive(Drop)]
+#[derive(Clone, Copy)]
 pub enum Spelled {
     As(u8, Cursor),
     Not,

@@ -16,7 +16,7 @@ use walks::walk;
 
 // A variation that hangs nowhere: its number and ply, the line that it would hang on with its first and its last ply, and where its first move
 // line begins.
-#[derive(Drop)]
+#[derive(Clone, Copy)]
 pub struct Astray {
     pub variation: u64,
     pub ply: u64,
@@ -27,7 +27,7 @@ pub struct Astray {
 }
 
 // Why a text is refused; or the first byte not taken, the reason, and the place that the failing rule reached.
-#[derive(Drop)]
+#[derive(Clone, Copy)]
 pub enum StopAnswer {
     TextTooLong(u64),
     NotUtf8(u64),
@@ -37,7 +37,7 @@ pub enum StopAnswer {
 }
 
 // What ends at the place where reading ends: the blocks, a line of play or the slot with its comments, or a skip line.
-#[derive(Drop)]
+#[derive(Clone, Copy)]
 pub enum Seeking {
     AtHead,
     AfterComments,
@@ -45,14 +45,14 @@ pub enum Seeking {
 }
 
 // Where a line of play ends, and the place past the skip line that may stand behind it.
-#[derive(Drop)]
+#[derive(Clone, Copy)]
 pub struct Gone {
     pub next: Cursor,
     pub end: Cursor,
 }
 
 // A place for a reader: its line, and its character in that line, both counted from 1.
-#[derive(Drop)]
+#[derive(Clone, Copy)]
 pub struct Spot {
     pub line: u64,
     pub column: u64,

@@ -36,7 +36,7 @@ fn astray_of(rows: &[u8], k: usize, ply: u64, at: Cursor) -> Astray
 fn main_line(begin: Cursor, s: &[u8], rows: &mut [u8]) -> Gone
     requires { (length s.now ≤ 65535) × (begin.at ≤ length s.now) }
     ensures at_value { result.next.at ≡ past_main s.now (slot_at s.now begin.at).at }
-    ensures at_value_2 { result.end.at ≡ (entries_at s.now (slot_at s.now begin.at).at).at }
+    ensures at_value_too { result.end.at ≡ (entries_at s.now (slot_at s.now begin.at).at).at }
     ensures rows_after { rows.new ≡ row_put 0 (main_row s.now begin.at) rows.old }
 {
     let slot = plays::count_comments(plays::skipped(begin, s), s).next;

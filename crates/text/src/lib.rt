@@ -11,20 +11,20 @@ ghost use Rattle.text.specs.Text.{is_blank, is_text, is_digit, blanks_at, text_a
 
 pub use utf8::well_formed;
 
-#[derive(Drop)]
+#[derive(Clone, Copy)]
 pub struct Cursor {
     pub at: usize,
 }
 
 // A place past what was read, or that it is not there.
-#[derive(Drop)]
+#[derive(Clone, Copy)]
 pub enum Place {
     Past(Cursor),
     Absent,
 }
 
 // The value of one or more digits and the place past them, that no digit stands here, or that the value is above the largest allowed.
-#[derive(Drop)]
+#[derive(Clone, Copy)]
 pub enum Number {
     Value(u64, Cursor),
     NoDigit,

@@ -16,14 +16,15 @@ above c =
     not_past a.lines.now (8 * c.loop-p.j) a.s (omega (arith, c.start.ensures))
 
 -- what is found along the parents is the nearest, where these are right
-both : (lines : List ℕ) (k s : ℕ) {r : ℕ} → r ≡ followed lines s k → (r ≡ followed lines s k) × (Linked lines k → r ≡ near (start_at lines) s k)
-both lines k s e = (e, λ l. e ∙ followed-near l s)
+also_near : (lines : List ℕ) (k s : ℕ) {r : ℕ} → r ≡ followed lines s k → Linked lines k → r ≡ near (start_at lines) s k
+also_near lines k s e l = e ∙ followed-near l s
 
 pub returns-then-k-eq0 : goal.returns-then-k-eq0
 unfolding follow
 returns-then-k-eq0 c =
     let a = c.args in
-    both a.lines.now a.k a.s (sym (ap (λ (n : ℕ). follow a.lines.now a.s n (a.k - 1)) c.if-k-eq0.true))
+    let e = sym (ap (λ (n : ℕ). follow a.lines.now a.s n (a.k - 1)) c.if-k-eq0.true) in
+    record { by_parents = e; as_searched = also_near a.lines.now a.k a.s e }
 
 pub loop-p-init : goal.loop-p-init
 loop-p-init c =
@@ -40,7 +41,8 @@ overflow_add-j c = omega (arith, above c)
 pub returns-then-j-p : goal.returns-then-j-p
 returns-then-j-p c =
     let a = c.loop-p in
-    both _ _ _ (sym (a.invariant.1 ∙ follow_stuck _ _ a.j (omega (arith, c.start.ensures)) (omega (arith, c.get16-p.ensures.0))))
+    let e = sym (a.invariant.1 ∙ follow_stuck _ _ a.j (omega (arith, c.start.ensures)) (omega (arith, c.get16-p.ensures.0))) in
+    record { by_parents = e; as_searched = also_near _ _ _ e }
 
 pub loop-p-preserved : goal.loop-p-preserved
 loop-p-preserved c =
@@ -50,4 +52,5 @@ loop-p-preserved c =
 pub returns : goal.returns
 returns c =
     let a = c.loop-p in
-    both _ _ _ (sym (a.invariant.1 ∙ follow_here _ _ a.j (omega (arith, c.start.ensures))))
+    let e = sym (a.invariant.1 ∙ follow_here _ _ a.j (omega (arith, c.start.ensures))) in
+    record { by_parents = e; as_searched = also_near _ _ _ e }

@@ -5,4 +5,4 @@ use Rattle.jkf.proofs.Specials.{special_past}
 use Rattle.jkf.proofs.entries.special_of.Goals as goal
 
 pub returns-in_default : goal.returns-in_default
-returns-in_default c = sym (special_past c.args.n c.in_default.rest)
+returns-in_default c = sym (special_past c.args.n c.in_default.in_default-own.rest)

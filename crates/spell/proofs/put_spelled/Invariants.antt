@@ -1,0 +1,17 @@
+-- The number's spelling in the whole table is that in the rows that are left (`Left`).
+-- Assumes nothing.
+use Prim.Native.Nat.{◌-◌}
+use mathlib.Core.Path.{◌≡◌}
+use mathlib.Core.List.{List}
+use lib.ListN.{length}
+use Rattle.spell.specs.Tables.{Spelling}
+use Rattle.spell.specs.Spell.{spelled}
+use Rattle.spell.specs.inner.Codes.{Rows}
+use Rattle.spell.proofs.Search.{Left}
+use Rattle.spell.proofs.put_spelled.Given as goal
+
+abbrev pub invariant-loop-i : goal.invariant-loop-i
+invariant-loop-i l = (l.out ≡ l.initial.out) × ((es : List Spelling) → Rows l.w es l.table → Left (λ (es : List Spelling). spelled es l.n) l.w l.table es l.i)
+
+abbrev pub decreases-loop-i : goal.decreases-loop-i
+decreases-loop-i l = length l.table - l.i
