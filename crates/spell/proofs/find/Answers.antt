@@ -19,10 +19,10 @@ within c =
     left_within (c.loop-i.invariant p.0 p.1) c.loop-i-test.true
 
 stood : (c : After-stands) →
-    c.stands.result ≡ stands_at (take (get_or (T c) (I c) 0) (drop (I c + 2) (T c))) (S c) (A c)
+    c.stands.result ≡ stands_at (take (get_or c.args.table.now c.loop-i.i 0) (drop (c.loop-i.i + 2) c.args.table.now)) c.args.s.now c.args.c.at
 stood c =
-    let n : I c + 2 + c.wide-n.result - (I c + 2) ≡ get_or (T c) (I c) 0 = omega arith in
-    c.stands.ensures ∙ ap (λ (n : ℕ). stands_at (take n (drop (I c + 2) (T c))) (S c) (A c)) n
+    let n : c.loop-i.i + 2 + c.wide-n.result - (c.loop-i.i + 2) ≡ get_or c.args.table.now c.loop-i.i 0 = omega arith in
+    c.stands.ensures ∙ ap (λ (n : ℕ). stands_at (take n (drop (c.loop-i.i + 2) c.args.table.now)) c.args.s.now c.args.c.at) n
 
 pub loop-i-init : goal.loop-i-init
 loop-i-init c = λ es r. left_start _ r
@@ -47,11 +47,11 @@ bounds-table-i-then-stands c = omega (arith, within (goal.at.bounds-table-i-then
 
 pub overflow_add-result-then-stands : goal.overflow_add-result-then-stands
 overflow_add-result-then-stands c =
-    omega (arith, stands_fits (take (get_or (T (goal.at.overflow_add-result-then-stands c).After-shared_slice_known-in-loop-i-1) (I (goal.at.overflow_add-result-then-stands c).After-shared_slice_known-in-loop-i-1) 0) (drop (I (goal.at.overflow_add-result-then-stands c).After-shared_slice_known-in-loop-i-1 + 2) (T (goal.at.overflow_add-result-then-stands c).After-shared_slice_known-in-loop-i-1))) (S (goal.at.overflow_add-result-then-stands c).After-shared_slice_known-in-loop-i-1) (A (goal.at.overflow_add-result-then-stands c).After-shared_slice_known-in-loop-i-1) (sym (stood (goal.at.overflow_add-result-then-stands c).After-stands) ∙ c.if-stands.true), length-take (get_or (T (goal.at.overflow_add-result-then-stands c).After-shared_slice_known-in-loop-i-1) (I (goal.at.overflow_add-result-then-stands c).After-shared_slice_known-in-loop-i-1) 0) (drop (I (goal.at.overflow_add-result-then-stands c).After-shared_slice_known-in-loop-i-1 + 2) (T (goal.at.overflow_add-result-then-stands c).After-shared_slice_known-in-loop-i-1)), length-drop (I (goal.at.overflow_add-result-then-stands c).After-shared_slice_known-in-loop-i-1 + 2) (T (goal.at.overflow_add-result-then-stands c).After-shared_slice_known-in-loop-i-1), within (goal.at.overflow_add-result-then-stands c).After-shared_slice_known-in-loop-i-1)
+    omega (arith, stands_fits (take (get_or c.args.table.now c.loop-i.i 0) (drop (c.loop-i.i + 2) c.args.table.now)) c.args.s.now c.args.c.at (sym (stood (goal.at.overflow_add-result-then-stands c).After-stands) ∙ c.if-stands.true), length-take (get_or c.args.table.now c.loop-i.i 0) (drop (c.loop-i.i + 2) c.args.table.now), length-drop (c.loop-i.i + 2) c.args.table.now, within (goal.at.overflow_add-result-then-stands c).After-shared_slice_known-in-loop-i-1)
 
 pub returns-then-stands : goal.returns-then-stands
 returns-then-stands c =
-    λ es r. ap (λ (n : ℕ). As (get_or (T (goal.at.returns-then-stands c).After-shared_slice_known-in-loop-i-1) (I (goal.at.returns-then-stands c).After-shared_slice_known-in-loop-i-1 + 1) 0) (cursor (A (goal.at.returns-then-stands c).After-shared_slice_known-in-loop-i-1 + n))) c.wide-n.ensures.0 ∙ sym (find_here (S (goal.at.returns-then-stands c).After-shared_slice_known-in-loop-i-1) (A (goal.at.returns-then-stands c).After-shared_slice_known-in-loop-i-1) (c.loop-i.invariant es r) (inside (goal.at.returns-then-stands c).After-shared_slice_known-in-loop-i-1) (sym (stood (goal.at.returns-then-stands c).After-stands) ∙ c.if-stands.true))
+    λ es r. ap (λ (n : ℕ). As (get_or c.args.table.now (c.loop-i.i + 1) 0) (cursor (c.args.c.at + n))) c.wide-n.ensures.0 ∙ sym (find_here c.args.s.now c.args.c.at (c.loop-i.invariant es r) c.loop-i-test.true (sym (stood (goal.at.returns-then-stands c).After-stands) ∙ c.if-stands.true))
 
 pub overflow_add-i : goal.overflow_add-i
 overflow_add-i c = omega (arith, within (goal.at.overflow_add-i c).After-shared_slice_known-in-loop-i-1)
@@ -61,7 +61,7 @@ loop-i-smaller c = omega (arith, within (goal.at.loop-i-smaller c).After-shared_
 
 pub loop-i-preserved : goal.loop-i-preserved
 loop-i-preserved c =
-    λ es r. find_more (S (goal.at.loop-i-preserved c).After-shared_slice_known-in-loop-i-1) (A (goal.at.loop-i-preserved c).After-shared_slice_known-in-loop-i-1) (c.loop-i.invariant es r) (inside (goal.at.loop-i-preserved c).After-shared_slice_known-in-loop-i-1) (sym (stood (goal.at.loop-i-preserved c).After-stands) ∙ c.if-stands.false)
+    λ es r. find_more c.args.s.now c.args.c.at (c.loop-i.invariant es r) c.loop-i-test.true (sym (stood (goal.at.loop-i-preserved c).After-stands) ∙ c.if-stands.false)
 
 pub returns : goal.returns
 returns c = λ es r. sym (find_none c.args.s.now c.args.c.at (c.loop-i.invariant es r) c.loop-i-test.false)

@@ -42,11 +42,11 @@ slice_bounds-put_bytes-end c = omega (arith, within (goal.at.slice_bounds-put_by
 
 pub returns-then-table-i : goal.returns-then-table-i
 returns-then-table-i c =
-    let b : ℕ = I (goal.at.returns-then-table-i c).In-loop-i + 2 in
-    let n : b + c.wide.result - b ≡ get_or (T (goal.at.returns-then-table-i c).In-loop-i) (I (goal.at.returns-then-table-i c).In-loop-i) 0 = omega arith in
+    let b : ℕ = c.loop-i.i + 2 in
+    let n : b + c.wide.result - b ≡ get_or c.args.table.now c.loop-i.i 0 = omega arith in
     λ es r.
-    let e : take (b + c.wide.result - b) (drop b (T (goal.at.returns-then-table-i c).In-loop-i)) ≡ spelled es c.args.n =
-    ap (λ (m : ℕ). take m (drop b (T (goal.at.returns-then-table-i c).In-loop-i))) n ∙ sym (spelled_here c.args.n (c.loop-i.invariant.1 es r) (inside (goal.at.returns-then-table-i c).In-loop-i) c.if-table-i.true) in
+    let e : take (b + c.wide.result - b) (drop b c.args.table.now) ≡ spelled es c.args.n =
+    ap (λ (m : ℕ). take m (drop b c.args.table.now)) n ∙ sym (spelled_here c.args.n (c.loop-i.invariant.1 es r) c.loop-i-test.true c.if-table-i.true) in
     rw c.loop-i.invariant.0 at (as_text (ap (λ (t : List ℕ). fitting t c.loop-i.out) e) c.put_bytes.ensures)
 
 pub overflow_add-i-in-loop-i : goal.overflow_add-i-in-loop-i
@@ -57,7 +57,7 @@ loop-i-smaller c = omega (arith, within (goal.at.loop-i-smaller c).In-loop-i)
 
 pub loop-i-preserved : goal.loop-i-preserved
 loop-i-preserved c =
-    (c.loop-i.invariant.0, λ es r. spelled-more c.args.n (c.loop-i.invariant.1 es r) (inside (goal.at.loop-i-preserved c).In-loop-i) c.if-table-i.false)
+    (c.loop-i.invariant.0, λ es r. spelled-more c.args.n (c.loop-i.invariant.1 es r) c.loop-i-test.true c.if-table-i.false)
 
 pub returns : goal.returns
 returns c =
