@@ -1,4 +1,6 @@
 // The block: its rows both ways, whether one is sound, and its parts handed back.
+#![tactic(auto)]
+
 mod entries;
 mod entry_bytes;
 mod fields;

@@ -23,14 +23,14 @@ returns-then-x-y c =
 pub returns-in-Less : goal.returns-in-Less
 returns-in-Less c =
     let a = c.args in
-    (ap (λ (o : Order). step_of o a.x a.y) (sym (order (goal.at.returns-in-Less c).After-compare-keys _ c.in-Less.is)), omega arith, omega arith, omega arith)
+    (ap (λ (o : Order). step_of o a.x a.y) (sym (order (goal.at.returns-in-Less c).After-compare_keys _ c.in-Less.is)), omega arith, omega arith, omega arith)
 
 pub returns-in-Equal : goal.returns-in-Equal
 returns-in-Equal c =
     let a = c.args in
-    (ap (λ (o : Order). step_of o a.x a.y) (sym (order (goal.at.returns-in-Equal c).After-compare-keys _ c.in-Equal.is)), omega arith, omega arith, omega arith)
+    (ap (λ (o : Order). step_of o a.x a.y) (sym (order (goal.at.returns-in-Equal c).After-compare_keys _ c.in-Equal.is)), omega arith, omega arith, omega arith)
 
 pub returns-in-Greater : goal.returns-in-Greater
 returns-in-Greater c =
     let a = c.args in
-    (ap (λ (o : Order). step_of o a.x a.y) (sym (order (goal.at.returns-in-Greater c).After-compare-keys _ c.in-Greater.is)), omega arith, omega arith, omega arith)
+    (ap (λ (o : Order). step_of o a.x a.y) (sym (order (goal.at.returns-in-Greater c).After-compare_keys _ c.in-Greater.is)), omega arith, omega arith, omega arith)

@@ -1,7 +1,6 @@
-use Prim.Native.Nat.{ℕ, ◌-◌, ◌<◌}
+use Prim.Native.Nat.{◌-◌, ◌<◌}
 use native.Mathlib.Omega.{arith}
 use mathlib.Core.Path.{◌≡◌, sym, ◌∙◌}
-use mathlib.Core.List.{List}
 use Rattle.text.specs.Text.{key_at}
 use Rattle.sorted.specs.inner.Heads.{head_of}
 use Rattle.sorted.proofs.Keys.{key_more, head_less, head_greater, head-none, head_more}
@@ -12,19 +11,10 @@ use Rattle.sorted.proofs.compare_slowly.Goals.{Else-a-eq0}
 abbrev At : Type 0
 At = Else-a-eq0
 
-abbrev S : At → List ℕ
-S c = c.args.s.now
-
-abbrev I : At → ℕ
-I c = c.loop-p.i
-
-abbrev J : At → ℕ
-J c = c.loop-p.j
-
-same : (c : At) → head_of (key_at (S c) (I c)) ≡ head_of (key_at (S c) (J c))
+same : (c : At) → head_of (key_at c.args.s.now c.loop-p.i) ≡ head_of (key_at c.args.s.now c.loop-p.j)
 same c = omega arith
 
-some : (c : At) → 0 < head_of (key_at (S c) (I c))
+some : (c : At) → 0 < head_of (key_at c.args.s.now c.loop-p.i)
 some c = omega arith
 
 pub returns-then-a-b : goal.returns-then-a-b
@@ -37,13 +27,13 @@ pub returns-then-a-eq0 : goal.returns-then-a-eq0
 returns-then-a-eq0 c = sym (c.loop-p.invariant ∙ head-none _ _ (omega arith) (omega arith))
 
 pub overflow_add-i : goal.overflow_add-i
-overflow_add-i c = omega (arith, (key_more (S c) (I c) (some c)).in_text)
+overflow_add-i c = omega (arith, (key_more c.args.s.now c.loop-p.i (some c)).in_text)
 
 pub overflow_add-j : goal.overflow_add-j
-overflow_add-j c = omega (arith, (key_more (S c) (J c) (omega (arith, same c, some c))).in_text)
+overflow_add-j c = omega (arith, (key_more c.args.s.now c.loop-p.j (omega (arith, same c, some c))).in_text)
 
 pub loop-p-smaller : goal.loop-p-smaller
-loop-p-smaller c = omega (arith, (key_more (S c) (I c) (some c)).in_text)
+loop-p-smaller c = omega (arith, (key_more c.args.s.now c.loop-p.i (some c)).in_text)
 
 pub loop-p-preserved : goal.loop-p-preserved
-loop-p-preserved c = c.loop-p.invariant ∙ head_more (S c) (I c) (J c) (same c) (some c)
+loop-p-preserved c = c.loop-p.invariant ∙ head_more c.args.s.now c.loop-p.i c.loop-p.j (same c) (some c)

@@ -1,8 +1,7 @@
-use Prim.Native.Nat.{ℕ, ◌+◌, ◌-◌}
+use Prim.Native.Nat.{◌+◌, ◌-◌}
 use native.Mathlib.Nat.{le_refl}
 use native.Mathlib.Omega.{arith}
 use mathlib.Core.Path.{◌≡◌, ap, ◌∙◌}
-use mathlib.Core.List.{List}
 use lib.ListN.{length, get_or}
 use Rattle.text.specs.Text.{key_at}
 use Rattle.sorted.specs.inner.Heads.{head_of}
@@ -15,16 +14,10 @@ use Rattle.sorted.proofs.lead.Goals.{Else-h-eq0}
 abbrev At : Type 0
 At = Else-h-eq0
 
-abbrev S : At → List ℕ
-S c = c.args.s.now
+more : (c : At) → More c.args.s.now c.loop-left.i
+more c = key_more c.args.s.now c.loop-left.i (omega arith)
 
-abbrev I : At → ℕ
-I c = c.loop-left.i
-
-more : (c : At) → More (S c) (I c)
-more c = key_more (S c) (I c) (omega arith)
-
-byte : (c : At) → c.key_head-h.result ≡ get_or (S c) (I c) 0 + 1
+byte : (c : At) → c.key_head-h.result ≡ get_or c.args.s.now c.loop-left.i 0 + 1
 byte c = c.key_head-h.ensures.0 ∙ ap head_of (more c).parts
 
 pub loop-left-init : goal.loop-left-init
@@ -49,7 +42,7 @@ overflow_add-i c = omega (arith, (more c).in_text)
 
 pub loop-left-preserved : goal.loop-left-preserved
 loop-left-preserved c =
-    let e : get_or (S c) (I c) 0 ≡ c.key_head-h.result - 1 = omega (arith, byte c) in
+    let e : get_or c.args.s.now c.loop-left.i 0 ≡ c.key_head-h.result - 1 = omega (arith, byte c) in
     rw e at (leading_on c.loop-left.invariant (omega arith) _ _ (more c).parts (omega (arith, byte c)))
 
 pub returns : goal.returns

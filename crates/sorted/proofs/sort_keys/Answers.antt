@@ -7,8 +7,8 @@ use Rattle.sorted.proofs.sort_keys.Goals as goal
 
 pub returns-then-n-gt13107 : goal.returns-then-n-gt13107
 unfolding kept_count kept_buffer
-returns-then-n-gt13107 c = simp (lt-ltb _ _ c.if-n-gt13107.true) (refl, refl)
+returns-then-n-gt13107 c = simp (lt-ltb _ _ c.if-n-gt13107.true) record { value = refl; out_after = refl }
 
 pub returns-then-out-n : goal.returns-then-out-n
 unfolding kept_count kept_buffer
-returns-then-out-n c = simp (le-ltb _ _ c.if-n-gt13107.false, lt-ltb _ _ c.if-out-n.true) (refl, refl)
+returns-then-out-n c = simp (le-ltb _ _ c.if-n-gt13107.false, lt-ltb _ _ c.if-out-n.true) record { value = refl; out_after = refl }

@@ -14,7 +14,8 @@ clear_from-requires c = omega (arith, packs_in c.sort_places-r.ensures)
 
 pub returns : goal.returns
 returns c =
-    let a = c.args in
+    let w = (let a = c.args in
     let w = c.sort_places-r.ensures in
     sorted_is a.s.now a.places.now a.out.now _ _ _ (omega arith) (omega arith) (omega arith)
-    (unpacked_leads a.s.now a.places.now _ a.out.now _ _ w (omega (arith, packs_in w)) c.unpack.ensures) c.clear_from.ensures
+    (unpacked_leads a.s.now a.places.now _ a.out.now _ _ w (omega (arith, packs_in w)) c.unpack.ensures) c.clear_from.ensures) in
+    record { value = w.0; out_after = w.1 }

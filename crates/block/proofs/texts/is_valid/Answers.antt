@@ -1,0 +1,7 @@
+-- The count of well-formed bytes is compared as the definition compares it.
+-- Assumes nothing.
+use Rattle.block.proofs.texts.is_valid.Goals as goal
+
+-- TODO .well-formed-2.ensures
+pub returns : goal.returns
+returns c = rw c.well_formed-2.ensures
