@@ -1,5 +1,7 @@
 // A block being filled: how long it is, its front, and the ends at which its parts grow. Each part is put whole or, where it has no
 // room, not at all.
+#![tactic(auto)]
+
 mod hangs;
 mod opens;
 mod puts;

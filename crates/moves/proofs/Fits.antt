@@ -228,6 +228,7 @@ unfolding finished
 finished-fits c t (Moved m) h f (play_fits g) =
     play_fits (record { side = h; some = g.some; kind = g.kind; mark = g.mark; target = g.target; origin = g.origin; time = f })
 finished-fits c t (End x u) h f (end_fits g _) = end_fits g f
+finished-fits c t Rattle.jkf.specs.declared.Entry.TheVariants.Slot h f e = elim e [ ]
 
 -- a line's number, its entry and its end
 pub record LineFits (s : List ℕ) (at n : ℕ) (e : Entry) (c : Cursor) : Type 0 where

@@ -1,4 +1,6 @@
 // Reading move lines, comments and skip lines.   (the Rust's src/parser/kif.rs)
+#![tactic(auto)]
+
 mod clocks;
 mod lost;
 mod played;
