@@ -1,4 +1,6 @@
 // Writing a block as a text.   (the Rust's src/converter/)
+#![tactic(auto)]
+
 mod checks;
 mod keys;
 mod kif;

@@ -1,4 +1,6 @@
 // Reading what stands before the moves: information lines, hands, the board.   (the Rust's src/parser/kakinoki.rs)
+#![tactic(auto)]
+
 mod boards;
 mod hands;
 mod infos;

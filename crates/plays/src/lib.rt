@@ -1,4 +1,6 @@
 // A line of play of a text: move lines, each with its comments. Counted, and filled into a block.
+#![tactic(auto)]
+
 mod counts;
 mod fills;
 

@@ -1,4 +1,6 @@
 // The position after an entry: play from the start of a record along the path to the entry.   (02, request (i))
+#![tactic(auto)]
+
 mod paths;
 mod starts;
 mod steps;

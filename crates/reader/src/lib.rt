@@ -1,5 +1,7 @@
 // A reader that keeps the text beside its place.   (01, The forms we expect)
 // What has a local of the struct is proved by hand, so that is little: it takes the struct apart, and plain functions do the work.
+#![tactic(auto)]
+
 ghost use Rattle.std.specs.Prelude.{◌≡◌};
 ghost use Rattle.reader.specs.TextLines.{skip_at, text_line_at, place_past, reader_at};
 ghost use Rattle.reader.specs.LinesPassed.{first_at, passed_over};

@@ -1,4 +1,6 @@
 // What the programs print alike: 01's listing, filled into a lent buffer. Each function that fills answers how many bytes it filled.
+#![tactic(auto)]
+
 mod rows;
 
 ghost use Rattle.std.specs.Prelude.{◌≡◌, ◌+◌, ◌*◌, ◌≤◌, ◌<◌, length, take, drop, get_or};

@@ -1,0 +1,140 @@
+-- A line is written by itself and then the lines on it, by the sibling writer; that one writes the first of its lines with all that hangs from it,
+-- and then the others from where that ends, unless the line there hangs on another: then it hangs on one before, and nothing more hangs from line p.
+-- With n lines unwritten the measure is 2n for the line writer and 2n + 1 for the sibling writer.
+-- Assumes nothing.
+use Prim.Native.Nat.{ℕ, ◌+◌, ◌-◌, ◌<◌}
+use native.Mathlib.Omega.{arith}
+use mathlib.Core.Path.{sym, ap, ◌∙◌}
+use Rattle.jkf.specs.Trees.{not_before}
+use Rattle.block.specs.Decode.{run, start_of, entry_count, line_in}
+use Rattle.block.specs.Encode.{concat}
+use Rattle.block.proofs.Tabling.{concat-none}
+use Rattle.block.proofs.Hanging.{sound_branched}
+use Rattle.lent.proofs.Writes.{as_text, nothing, within, then}
+use Rattle.lent.proofs.Room.{room_after, room_as}
+use Rattle.converter.specs.Show.{variation_text}
+use Rattle.converter.specs.inner.Lines.{line_said}
+use Rattle.converter.proofs.Runs.{concat-first, concat-next, concat_both, concat-cut}
+use Rattle.converter.proofs.Branches.{before-none, before-first, before-most, line-most, under_step, under_next}
+use Rattle.converter.proofs.kif.+put_line_put_under.Goals as goal
+
+-- TODO .before.before.put-variation.ensures
+pub slice_bounds-put_under-count : goal.slice_bounds-put_under-count
+slice_bounds-put_under-count t c = within c.put-variation.ensures
+
+pub slice_bounds-put_under-start : goal.slice_bounds-put_under-start
+slice_bounds-put_under-start t c = put-line-sub-put-under t c
+
+-- TODO .before.before.before.put-variation.ensures
+pub put_under-r-requires : goal.put_under-r-requires
+put_under-r-requires t c =
+    let a = c.args in
+    let b = a.b.now in
+    let f = line_said a.mode b in
+    let p = c.requires in
+    let h = room_as (sym (concat-first variation_text f a.k a.n p.2)) p.4 in (
+      omega arith,
+      (
+        p.0,
+        omega arith,
+        omega arith,
+        λ z. omega (arith, ((sound_branched b p.0).each (a.k + 1) (omega arith) (omega arith)).before),
+        room_after (concat variation_text (run f (a.k + 1) (a.n - 1))) c.put-variation.ensures h,
+      ),
+    )
+
+-- TODO .before.before.before.before.Put-under.ensures.0; .before.before.before.before.Put-under.ensures.1; .before.before.before.before.Put-under.result.lines; .before.before.before.before.before.before.before.before.put-variation.ensures
+pub returns-then-n-eq0 : goal.returns-then-n-eq0
+returns-then-n-eq0 t c =
+    let a = c.args in
+    record { lines_value = ap (λ (m : ℕ). 1 + m) c.Put-under.ensures.0; wrote = as_text (sym (concat-next variation_text (line_said a.mode a.b.now) a.k c.Put-under.result.lines)) (then c.put-variation.ensures c.Put-under.ensures.1) }
+
+pub returns-then-n-eq0 : goal.returns-then-n-eq0
+returns-then-n-eq0 t c =
+    let a = c.args in
+    let b = a.b.now in
+    let f = line_said a.mode b in record { lines_value = sym (ap (λ (m : ℕ). not_before a.p (run (line_in b) a.k m)) c.if-n-eq0.true ∙ before-none (line_in b) a.p a.k); wrote = as_text (sym (concat-none variation_text f a.k)) (nothing _) }
+
+pub returns-then-parent_of-p : goal.returns-then-parent_of-p
+returns-then-parent_of-p t c =
+    let a = c.args in
+    let b = a.b.now in
+    let f = line_said a.mode b in
+    let p = c.requires in
+    let some : 0 < a.n = omega arith in
+    let low = p.3 some in
+    let is = c.parent_of.ensures.0 in record { lines_value = sym (before-first (line_in b) a.p a.k a.n (omega arith)); wrote = as_text (sym (concat-none variation_text f a.k)) (nothing _) }
+
+pub put_line-f-requires : goal.put_line-f-requires
+put_line-f-requires t c =
+    let a = c.args in
+    let b = a.b.now in
+    let f = line_said a.mode b in
+    let p = c.requires in
+    (omega arith, (p.0, p.1, omega arith, p.2, p.4))
+
+pub slice_bounds-put_under-count : goal.slice_bounds-put_under-count
+slice_bounds-put_under-count t c = within c.put_line-f.ensures.wrote
+
+pub slice_bounds-put_under-start : goal.slice_bounds-put_under-start
+slice_bounds-put_under-start t c = put-under-sub-put-under t c
+
+pub overflow_add-k : goal.overflow_add-k
+overflow_add-k t c =
+    let a = c.args in
+    let b = a.b.now in
+    let p = c.requires in
+    let some : 0 < a.n = omega (arith, c.if-n-eq0.false) in
+    let w = line-most (line_in b) a.k a.n some c.put_line-f.ensures.lines_value in
+    record { fits = omega arith }
+
+pub overflow_sub-n : goal.overflow_sub-n
+overflow_sub-n t c =
+    let a = c.args in
+    let b = a.b.now in
+    let p = c.requires in
+    let some : 0 < a.n = omega (arith, c.if-n-eq0.false) in
+    let w = line-most (line_in b) a.k a.n some c.put_line-f.ensures.lines_value in
+    omega arith
+
+pub put_under-r-requires : goal.put_under-r-requires
+put_under-r-requires t c =
+    let a = c.args in
+    let b = a.b.now in
+    let f = line_said a.mode b in
+    let p = c.requires in
+    let some : 0 < a.n = omega arith in
+    let w = line-most (line_in b) a.k a.n some c.put_line-f.ensures.lines_value in
+    let on = c.parent_of.ensures.0 in
+    let h = room_as (sym (concat-cut variation_text f a.k c.put_line-f.result.lines a.n w)) p.4 in (
+      omega arith,
+      (
+        p.0,
+        omega arith,
+        omega arith,
+        under_next (line_in b) (start_of b) (entry_count b) (sound_branched b p.0) a.k a.n c.put_line-f.result.lines p.1 some p.2 c.put_line-f.ensures.lines_value a.p (omega arith),
+        room_after (concat variation_text (run f (a.k + c.put_line-f.result.lines) (a.n - c.put_line-f.result.lines))) c.put_line-f.ensures.wrote h,
+      ),
+    )
+
+-- TODO .before.before.before.before.before.Put-under.ensures.0
+pub overflow_add-result-2 : goal.overflow_add-result-2
+overflow_add-result-2 t c =
+    let a = c.args in
+    let b = a.b.now in
+    let p = c.requires in
+    let some : 0 < a.n = omega (arith, c.if-n-eq0.false) in
+    let w = line-most (line_in b) a.k a.n some c.put_line-f.ensures.lines_value in
+    let r = c.put_line-f.result.lines in
+    let u = c.Put-under.ensures.0 in
+    record { fits = omega (arith, before-most (line_in b) a.p (a.n - r) (a.k + r)) }
+
+-- TODO .before.before.before.before.before.Put-under.ensures.0; .before.before.before.before.before.Put-under.ensures.1; .before.before.before.before.before.Put-under.result.lines
+pub returns : goal.returns
+returns t c =
+    let a = c.args in
+    let b = a.b.now in
+    let f = line_said a.mode b in
+    let p = c.requires in
+    let some : 0 < a.n = omega (arith, c.if-n-eq0.false) in
+    let on = c.parent_of.ensures.0 in record { lines_value = ap (λ (m : ℕ). c.put_line-f.result.lines + m) c.Put-under.ensures.0 ∙ sym (under_step (line_in b) (start_of b) (entry_count b) (sound_branched b p.0) a.k a.n c.put_line-f.result.lines p.1 some p.2 c.put_line-f.ensures.lines_value a.p (omega (arith, c.if-parent_of-p.false))); wrote = as_text (sym (concat_both variation_text f a.k c.put_line-f.result.lines c.Put-under.result.lines)) (then c.put_line-f.ensures.wrote c.Put-under.ensures.1) }

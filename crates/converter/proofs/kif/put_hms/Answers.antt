@@ -1,0 +1,45 @@
+-- Three figures one after another, each with its room.
+-- Assumes nothing.
+use Rattle.lent.proofs.Writes.{then, sum_fits, within}
+use Rattle.lent.proofs.Room.{room_after}
+use Rattle.converter.specs.Entries.{figure_text, clock_text}
+use Rattle.converter.proofs.Worded.{hms_room}
+use Rattle.converter.proofs.kif.put_hms.Goals as goal
+
+pub put_figure-n-requires : goal.put_figure-n-requires
+put_figure-n-requires c =
+    let a = c.args in
+    (hms_room a.fill a.after a.h a.m a.s c.requires).0
+
+pub slice_bounds-put_figure-count : goal.slice_bounds-put_figure-count
+slice_bounds-put_figure-count c = within c.put_figure-n.ensures
+
+pub slice_bounds-put_figure-start : goal.slice_bounds-put_figure-start
+slice_bounds-put_figure-start c = slice_bounds-put_figure-count c
+
+pub put_figure-requires : goal.put_figure-requires
+put_figure-requires c =
+    let a = c.args in
+    room_after (figure_text 48 58 a.m) c.put_figure-n.ensures (hms_room a.fill a.after a.h a.m a.s c.requires).1
+
+pub overflow_add-e : goal.overflow_add-e
+overflow_add-e c = sum_fits (then c.put_figure-n.ensures c.put_figure.ensures) c.well_formed.0.0
+
+pub slice_bounds-put_figure-count-2 : goal.slice_bounds-put_figure-count-2
+slice_bounds-put_figure-count-2 c = within (then c.put_figure-n.ensures c.put_figure.ensures)
+
+pub slice_bounds-put_figure-start-2 : goal.slice_bounds-put_figure-start-2
+slice_bounds-put_figure-start-2 c = slice_bounds-put_figure-count-2 c
+
+pub put_figure-requires-2 : goal.put_figure-requires-2
+unfolding clock_text
+put_figure-requires-2 c =
+    let a = c.args in
+    room_after (figure_text 48 a.after a.s) (then c.put_figure-n.ensures c.put_figure.ensures) c.requires
+
+pub returns : goal.returns
+unfolding clock_text
+returns c = then (then c.put_figure-n.ensures c.put_figure.ensures) c.put_figure-2.ensures
+
+pub overflow_add-result : goal.overflow_add-result
+overflow_add-result c = sum_fits (returns c) c.well_formed.0.0

@@ -1,0 +1,12 @@
+-- The pieces from the start make what the pieces from here on make, and a step that goes on goes past its place.
+-- Assumes nothing.
+use Prim.Native.Nat.{◌-◌}
+use lib.ListN.{length}
+use Rattle.kakinoki.proofs.Pieces.{Holding}
+use Rattle.kakinoki.proofs.hands.pieces.Given as goal
+
+abbrev pub invariant-loop-kind : goal.invariant-loop-kind
+invariant-loop-kind l = Holding l.s l.initial.next.at l.next.at l.counts
+
+abbrev pub decreases-loop-kind : goal.decreases-loop-kind
+decreases-loop-kind l = length l.s - l.next.at

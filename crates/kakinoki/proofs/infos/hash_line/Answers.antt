@@ -1,0 +1,12 @@
+-- The answers of the steps, handed on as the definition hands them on.
+-- Assumes nothing.
+use Rattle.kakinoki.specs.Informations.{hash_line_at}
+use Rattle.kakinoki.proofs.infos.hash_line.Goals as goal
+
+pub returns-in_default : goal.returns-in_default
+unfolding hash_line_at
+returns-in_default c = rw (← c.tag.ensures, c.in_default.is)
+
+pub returns : goal.returns
+unfolding hash_line_at
+returns c = rw (← c.tag.ensures, c.in-Past.is, ← c.line_end.ensures)

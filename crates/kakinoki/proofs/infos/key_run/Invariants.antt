@@ -1,0 +1,13 @@
+-- Where the key ends from the start is where it ends from here: a byte of the range is one byte more of it.
+-- Assumes nothing.
+use Prim.Native.Nat.{◌+◌, ◌-◌}
+use mathlib.Core.Path.{◌≡◌}
+use lib.ListN.{length}
+use Rattle.text.specs.Text.{key_at}
+use Rattle.kakinoki.proofs.infos.key_run.Given as goal
+
+abbrev pub invariant-loop-at : goal.invariant-loop-at
+invariant-loop-at l = l.from + length (key_at l.s l.from) ≡ l.at + length (key_at l.s l.at)
+
+abbrev pub decreases-loop-at : goal.decreases-loop-at
+decreases-loop-at l = length l.s - l.at
