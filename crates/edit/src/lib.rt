@@ -1,4 +1,6 @@
 // Putting a variation into a block, cutting one out with all that hangs from it, and restating a block as version 2.
+#![tactic(auto)]
+
 mod checks;
 mod copies;
 mod lines;

@@ -43,11 +43,11 @@ put_under-r-requires t c =
       ),
     )
 
--- TODO .before.before.before.before.Put-under.ensures.0; .before.before.before.before.Put-under.ensures.1; .before.before.before.before.Put-under.result.lines; .before.before.before.before.before.before.before.before.put-variation.ensures
+-- TODO .before.before.before.before.before.before.before.before.put-variation.ensures
 pub returns-then-n-eq0 : goal.returns-then-n-eq0
 returns-then-n-eq0 t c =
     let a = c.args in
-    record { lines_value = ap (λ (m : ℕ). 1 + m) c.Put-under.ensures.0; wrote = as_text (sym (concat-next variation_text (line_said a.mode a.b.now) a.k c.Put-under.result.lines)) (then c.put-variation.ensures c.Put-under.ensures.1) }
+    record { lines_value = ap (λ (m : ℕ). 1 + m) c.put_under-r.ensures.lines_value; wrote = as_text (sym (concat-next variation_text (line_said a.mode a.b.now) a.k c.put_under-r.result.lines)) (then c.put-variation.ensures c.put_under-r.ensures.wrote) }
 
 pub returns-then-n-eq0 : goal.returns-then-n-eq0
 returns-then-n-eq0 t c =
@@ -117,7 +117,6 @@ put_under-r-requires t c =
       ),
     )
 
--- TODO .before.before.before.before.before.Put-under.ensures.0
 pub overflow_add-result-2 : goal.overflow_add-result-2
 overflow_add-result-2 t c =
     let a = c.args in
@@ -126,10 +125,9 @@ overflow_add-result-2 t c =
     let some : 0 < a.n = omega (arith, c.if-n-eq0.false) in
     let w = line-most (line_in b) a.k a.n some c.put_line-f.ensures.lines_value in
     let r = c.put_line-f.result.lines in
-    let u = c.Put-under.ensures.0 in
+    let u = c.put_under-r.ensures.lines_value in
     record { fits = omega (arith, before-most (line_in b) a.p (a.n - r) (a.k + r)) }
 
--- TODO .before.before.before.before.before.Put-under.ensures.0; .before.before.before.before.before.Put-under.ensures.1; .before.before.before.before.before.Put-under.result.lines
 pub returns : goal.returns
 returns t c =
     let a = c.args in
@@ -137,4 +135,4 @@ returns t c =
     let f = line_said a.mode b in
     let p = c.requires in
     let some : 0 < a.n = omega (arith, c.if-n-eq0.false) in
-    let on = c.parent_of.ensures.0 in record { lines_value = ap (λ (m : ℕ). c.put_line-f.result.lines + m) c.Put-under.ensures.0 ∙ sym (under_step (line_in b) (start_of b) (entry_count b) (sound_branched b p.0) a.k a.n c.put_line-f.result.lines p.1 some p.2 c.put_line-f.ensures.lines_value a.p (omega (arith, c.if-parent_of-p.false))); wrote = as_text (sym (concat_both variation_text f a.k c.put_line-f.result.lines c.Put-under.result.lines)) (then c.put_line-f.ensures.wrote c.Put-under.ensures.1) }
+    let on = c.parent_of.ensures.0 in record { lines_value = ap (λ (m : ℕ). c.put_line-f.result.lines + m) c.put_under-r.ensures.lines_value ∙ sym (under_step (line_in b) (start_of b) (entry_count b) (sound_branched b p.0) a.k a.n c.put_line-f.result.lines p.1 some p.2 c.put_line-f.ensures.lines_value a.p (omega (arith, c.if-parent_of-p.false))); wrote = as_text (sym (concat_both variation_text f a.k c.put_line-f.result.lines c.put_under-r.result.lines)) (then c.put_line-f.ensures.wrote c.put_under-r.ensures.wrote) }

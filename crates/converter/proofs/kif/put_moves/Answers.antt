@@ -54,7 +54,6 @@ put_under-requires c =
     let g = sound_branched b p.0.sound in
     (p.0.sound, omega arith, omega (arith, p.0.some, p.0.most), λ z. omega (arith, (g.each 1 (omega arith) (omega (arith, p.0.most))).before), room_after v w r)
 
--- TODO .before.before.before.Put-under.ensures.0; .before.before.before.Put-under.ensures.1
 pub returns : goal.returns
 returns c =
     let a = c.args in
@@ -64,8 +63,8 @@ returns c =
     let v = concat variation_text (run (line_said a.mode b) 1 (a.lines - 1)) in
     let e = lines-text a.mode b p.0 in
     let h = room-front number_line t (room-front (number_line ++ t) v (room_as e p.1)) in
-    let all = ap (λ (m : ℕ). concat variation_text (run (line_said a.mode b) 1 m)) (c.Put-under.ensures.0 ∙ before-all (line_in b) (a.lines - 1) 1) in
-    as_text e (then (then (wrote_all {t = number_line} h c.put_bytes-n.ensures) c.put_main.ensures) (as_text all c.Put-under.ensures.1))
+    let all = ap (λ (m : ℕ). concat variation_text (run (line_said a.mode b) 1 m)) (c.put_under.ensures.lines_value ∙ before-all (line_in b) (a.lines - 1) 1) in
+    as_text e (then (then (wrote_all {t = number_line} h c.put_bytes-n.ensures) c.put_main.ensures) (as_text all c.put_under.ensures.wrote))
 
 pub overflow_add-result : goal.overflow_add-result
 overflow_add-result c = sum_fits (returns c) c.well_formed.0.0

@@ -4,7 +4,6 @@ use mathlib.Core.Path.{sym}
 use borrow.Author.Tests.{eq-eqb, ne_eqb}
 use Rattle.kakinoki.specs.Informations.{tell}
 use Rattle.kakinoki.proofs.Tags.{tell_else}
-use borrow.Enum.Refused.{opened}
 use Rattle.kakinoki.proofs.infos.tell.Goals as goal
 
 pub returns-in-Preset : goal.returns-in-Preset
@@ -24,4 +23,4 @@ unfolding tell
 returns-else-side-eq0 c = λ h. rw (c.in-Hands.is, ne_eqb _ _ c.if-side-eq0.false)
 
 pub returns-in_default : goal.returns-in_default
-returns-in_default c = λ h. sym (tell_else c.args.told c.args.info c.args.counts h (opened c.in_default.in_default-own.keys4))
+returns-in_default c = λ h. sym (tell_else c.args.told c.args.info c.args.counts h c.in_default.in_default-own.keys4)

@@ -5,4 +5,4 @@ use Rattle.kakinoki.proofs.Sevens.{append_sevens}
 use Rattle.kakinoki.proofs.starts.both_hands.Goals as goal
 
 pub returns : goal.returns
-returns c = append_sevens c.args.t1 c.args.t2 (search rules) (search rules)
+returns c = append_sevens c.args.a c.args.b (search rules) (search rules)

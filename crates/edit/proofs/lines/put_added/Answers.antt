@@ -1,0 +1,21 @@
+-- Nothing is put, or the line of the text.
+-- Assumes nothing.
+use mathlib.Core.Path.{sym, ◌∙◌}
+use Rattle.edit.specs.Edit.{variation_of, line_on}
+use Rattle.edit.proofs.Hung.{one-put, none-put}
+use Rattle.edit.proofs.lines.put_added.Goals as goal
+
+pub put_variation-requires : goal.put_variation-requires
+put_variation-requires c = let h = rw c.in-Variation.is at c.requires in h.0
+
+pub returns-in-Nothing : goal.returns-in-Nothing
+returns-in-Nothing c =
+    let w = (let a = c.args in rw c.in-Nothing.is (none-put a.w a.out.now)) in
+    record { value = w.0; out_after = w.1 }
+
+pub returns-in-Variation : goal.returns-in-Variation
+returns-in-Variation c =
+    let w = (let a = c.args in
+    let one = one-put (line_on c.in-Variation.k (variation_of a.t.now)) a.w a.out.now in
+    rw c.in-Variation.is (c.put_variation.ensures.value ∙ sym one.0, c.put_variation.ensures.out_after ∙ sym one.1)) in
+    record { value = w.0; out_after = w.1 }
