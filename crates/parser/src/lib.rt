@@ -1,4 +1,6 @@
 // Reading a text into a block.   (the Rust's parse)
+#![tactic(auto)]
+
 mod counts;
 mod fills;
 mod headers;

@@ -1,4 +1,6 @@
 // Where reading stopped, and why.   (02, request (ii))
+#![tactic(auto)]
+
 mod spots;
 mod tries;
 mod walks;

@@ -11,23 +11,18 @@ use Rattle.block.specs.Encode.{concat}
 use Rattle.block.proofs.Tabling.{concat-none}
 use Rattle.block.proofs.Hanging.{sound_branched}
 use Rattle.lent.proofs.Writes.{as_text, nothing, within, then}
-use Rattle.lent.proofs.Room.{room_after, room_as}
+use Rattle.lent.proofs.Room.{room_after, room_as, room-front}
 use Rattle.converter.specs.Show.{variation_text}
 use Rattle.converter.specs.inner.Lines.{line_said}
 use Rattle.converter.proofs.Runs.{concat-first, concat-next, concat_both, concat-cut}
 use Rattle.converter.proofs.Branches.{before-none, before-first, before-most, line-most, under_step, under_next}
 use Rattle.converter.proofs.kif.+put_line_put_under.Goals as goal
 
--- TODO .before.before.put-variation.ensures
-pub slice_bounds-put_under-count : goal.slice_bounds-put_under-count
-slice_bounds-put_under-count t c = within c.put-variation.ensures
+pub put_line-slice_bounds-put_under-count : goal.put_line-slice_bounds-put_under-count
+put_line-slice_bounds-put_under-count t c = within c.put_variation-m.ensures
 
-pub slice_bounds-put_under-start : goal.slice_bounds-put_under-start
-slice_bounds-put_under-start t c = put-line-sub-put-under t c
-
--- TODO .before.before.before.put-variation.ensures
-pub put_under-r-requires : goal.put_under-r-requires
-put_under-r-requires t c =
+pub put_line-put_under-r-requires : goal.put_line-put_under-r-requires
+put_line-put_under-r-requires t c =
     let a = c.args in
     let b = a.b.now in
     let f = line_said a.mode b in
@@ -39,24 +34,23 @@ put_under-r-requires t c =
         omega arith,
         omega arith,
         λ z. omega (arith, ((sound_branched b p.0).each (a.k + 1) (omega arith) (omega arith)).before),
-        room_after (concat variation_text (run f (a.k + 1) (a.n - 1))) c.put-variation.ensures h,
+        room_after (concat variation_text (run f (a.k + 1) (a.n - 1))) c.put_variation-m.ensures h,
       ),
     )
 
--- TODO .before.before.before.before.before.before.before.before.put-variation.ensures
-pub returns-then-n-eq0 : goal.returns-then-n-eq0
-returns-then-n-eq0 t c =
+pub put_line-returns : goal.put_line-returns
+put_line-returns t c =
     let a = c.args in
-    record { lines_value = ap (λ (m : ℕ). 1 + m) c.put_under-r.ensures.lines_value; wrote = as_text (sym (concat-next variation_text (line_said a.mode a.b.now) a.k c.put_under-r.result.lines)) (then c.put-variation.ensures c.put_under-r.ensures.wrote) }
+    record { lines_value = ap (λ (m : ℕ). 1 + m) c.put_under-r.ensures.lines_value; wrote = as_text (sym (concat-next variation_text (line_said a.mode a.b.now) a.k c.put_under-r.result.lines)) (then c.put_variation-m.ensures c.put_under-r.ensures.wrote) }
 
-pub returns-then-n-eq0 : goal.returns-then-n-eq0
-returns-then-n-eq0 t c =
+pub put_under-returns-then-n-eq0 : goal.put_under-returns-then-n-eq0
+put_under-returns-then-n-eq0 t c =
     let a = c.args in
     let b = a.b.now in
     let f = line_said a.mode b in record { lines_value = sym (ap (λ (m : ℕ). not_before a.p (run (line_in b) a.k m)) c.if-n-eq0.true ∙ before-none (line_in b) a.p a.k); wrote = as_text (sym (concat-none variation_text f a.k)) (nothing _) }
 
-pub returns-then-parent_of-p : goal.returns-then-parent_of-p
-returns-then-parent_of-p t c =
+pub put_under-returns-then-parent_of-p : goal.put_under-returns-then-parent_of-p
+put_under-returns-then-parent_of-p t c =
     let a = c.args in
     let b = a.b.now in
     let f = line_said a.mode b in
@@ -65,22 +59,19 @@ returns-then-parent_of-p t c =
     let low = p.3 some in
     let is = c.parent_of.ensures.0 in record { lines_value = sym (before-first (line_in b) a.p a.k a.n (omega arith)); wrote = as_text (sym (concat-none variation_text f a.k)) (nothing _) }
 
-pub put_line-f-requires : goal.put_line-f-requires
-put_line-f-requires t c =
+pub put_under-put_line-f-requires : goal.put_under-put_line-f-requires
+put_under-put_line-f-requires t c =
     let a = c.args in
     let b = a.b.now in
     let f = line_said a.mode b in
     let p = c.requires in
     (omega arith, (p.0, p.1, omega arith, p.2, p.4))
 
-pub slice_bounds-put_under-count : goal.slice_bounds-put_under-count
-slice_bounds-put_under-count t c = within c.put_line-f.ensures.wrote
+pub put_under-slice_bounds-put_under-count : goal.put_under-slice_bounds-put_under-count
+put_under-slice_bounds-put_under-count t c = within c.put_line-f.ensures.wrote
 
-pub slice_bounds-put_under-start : goal.slice_bounds-put_under-start
-slice_bounds-put_under-start t c = put-under-sub-put-under t c
-
-pub overflow_add-k : goal.overflow_add-k
-overflow_add-k t c =
+pub put_under-overflow_add-k : goal.put_under-overflow_add-k
+put_under-overflow_add-k t c =
     let a = c.args in
     let b = a.b.now in
     let p = c.requires in
@@ -88,8 +79,8 @@ overflow_add-k t c =
     let w = line-most (line_in b) a.k a.n some c.put_line-f.ensures.lines_value in
     record { fits = omega arith }
 
-pub overflow_sub-n : goal.overflow_sub-n
-overflow_sub-n t c =
+pub put_under-overflow_sub-n : goal.put_under-overflow_sub-n
+put_under-overflow_sub-n t c =
     let a = c.args in
     let b = a.b.now in
     let p = c.requires in
@@ -97,8 +88,8 @@ overflow_sub-n t c =
     let w = line-most (line_in b) a.k a.n some c.put_line-f.ensures.lines_value in
     omega arith
 
-pub put_under-r-requires : goal.put_under-r-requires
-put_under-r-requires t c =
+pub put_under-put_under-r-requires : goal.put_under-put_under-r-requires
+put_under-put_under-r-requires t c =
     let a = c.args in
     let b = a.b.now in
     let f = line_said a.mode b in
@@ -117,8 +108,8 @@ put_under-r-requires t c =
       ),
     )
 
-pub overflow_add-result-2 : goal.overflow_add-result-2
-overflow_add-result-2 t c =
+pub put_under-overflow_add-result-2 : goal.put_under-overflow_add-result-2
+put_under-overflow_add-result-2 t c =
     let a = c.args in
     let b = a.b.now in
     let p = c.requires in
@@ -128,11 +119,26 @@ overflow_add-result-2 t c =
     let u = c.put_under-r.ensures.lines_value in
     record { fits = omega (arith, before-most (line_in b) a.p (a.n - r) (a.k + r)) }
 
-pub returns : goal.returns
-returns t c =
+pub put_under-returns : goal.put_under-returns
+put_under-returns t c =
     let a = c.args in
     let b = a.b.now in
     let f = line_said a.mode b in
     let p = c.requires in
     let some : 0 < a.n = omega (arith, c.if-n-eq0.false) in
     let on = c.parent_of.ensures.0 in record { lines_value = ap (λ (m : ℕ). c.put_line-f.result.lines + m) c.put_under-r.ensures.lines_value ∙ sym (under_step (line_in b) (start_of b) (entry_count b) (sound_branched b p.0) a.k a.n c.put_line-f.result.lines p.1 some p.2 c.put_line-f.ensures.lines_value a.p (omega (arith, c.if-parent_of-p.false))); wrote = as_text (sym (concat_both variation_text f a.k c.put_line-f.result.lines c.put_under-r.result.lines)) (then c.put_line-f.ensures.wrote c.put_under-r.ensures.wrote) }
+
+pub put_line-put_variation-m-requires : goal.put_line-put_variation-m-requires
+put_line-put_variation-m-requires t c =
+    let a = c.args in
+    let f = line_said a.mode a.b.now in
+    let p = c.requires in
+    let h = room_as (sym (concat-first variation_text f a.k a.n p.2)) p.4 in
+    (p.0, omega arith, room-front (variation_text (f a.k)) (concat variation_text (run f (a.k + 1) (a.n - 1))) h)
+
+pub put_line-overflow_add-result-2 : goal.put_line-overflow_add-result-2
+put_line-overflow_add-result-2 t c =
+    let a = c.args in
+    let u = c.put_under-r.ensures.lines_value in
+    let some = c.requires.2 in
+    record { fits = omega (arith, before-most (line_in a.b.now) a.k (a.n - 1) (a.k + 1), c.ranges.n) }

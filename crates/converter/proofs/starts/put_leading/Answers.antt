@@ -1,7 +1,6 @@
 use Prim.Native.Nat.{◌-◌}
 use native.Mathlib.Omega.{arith}
 use mathlib.Core.Path.{◌≡◌, sym, ap}
-use mathlib.Core.Logic.{⊎_elim}
 use lib.ListN.{get_or}
 use Rattle.lent.proofs.Writes.{then, as_text, nothing, within, sum_fits}
 use Rattle.block.specs.Decode.{header_in}
@@ -10,6 +9,7 @@ use Rattle.converter.specs.Headers.{header_line}
 use Rattle.converter.proofs.Heading.{line-in, leads, lead_none, lead_some, lead_room, wrote_as}
 use Rattle.lent.proofs.Room.{room_after, room_as}
 use Rattle.converter.proofs.starts.put_leading.Goals as goal
+use Rattle.converter.proofs.starts.put_leading.Goals.{then-place-gt0, else-place-gt0}
 
 pub loop-n-init : goal.loop-n-init
 loop-n-init c = (omega arith, as_text (sym (concat-none _ _ 1)) (nothing _))
@@ -41,10 +41,10 @@ loop-n-preserved c =
     let p = c.requires.0 in
     let k = get_or c.args.places.now l.n 0 - 1 in (
       omega arith,
-      ⊎_elim
-          (λ w. wrote_as (lead_some p l.n (omega arith) w.0.taken) w.7 w.8 (then l.invariant.1 (as_text (line-in c.args.b.now k c.texts_of-texts.ensures w.2.ensures w.3.ensures) w.4.ensures)))
-          (λ w. wrote_as (lead_none p l.n (omega arith) (omega (arith, w.0.left))) w.1 w.2 l.invariant.1)
-          c.if-place-gt0.branch,
+      elim c.if-place-gt0.branch [
+      then-place-gt0 w ↦ wrote_as (lead_some p l.n (omega arith) w.if-place-gt0.true) w.out-is w.at-is (then l.invariant.1 (as_text (line-in c.args.b.now k c.texts_of-texts.ensures w.key_in.ensures w.value_in.ensures) w.put_header-at.ensures))
+      | else-place-gt0 w ↦ wrote_as (lead_none p l.n (omega arith) (omega (arith, w.if-place-gt0.false))) w.out-is w.at-is l.invariant.1
+      ],
     )
 
 pub returns : goal.returns

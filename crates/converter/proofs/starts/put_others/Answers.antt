@@ -1,13 +1,13 @@
 use Prim.Native.Nat.{ℕ, ◌-◌}
 use native.Mathlib.Omega.{arith}
 use mathlib.Core.Path.{◌≡◌, sym, ap, ◌∙◌}
-use mathlib.Core.Logic.{⊎_elim}
 use Rattle.lent.proofs.Writes.{then, nothing, as_text, within, sum_fits}
 use Rattle.block.specs.Decode.{run, header_in, headers_in, key_of}
 use Rattle.converter.specs.Headers.{leading_number, lines_of, header_line}
 use Rattle.converter.proofs.Heading.{number_in, line-in, lines_none, lines_more, lines_same, lines-room, wrote_as}
 use Rattle.lent.proofs.Room.{room_after, room_as}
 use Rattle.converter.proofs.starts.put_others.Goals as goal
+use Rattle.converter.proofs.starts.put_others.Goals.{then-leading_number-eq0, else-leading_number-eq0}
 use Rattle.converter.proofs.starts.put_others.Goals.{After-leading_number}
 
 -- the number of entry k's key
@@ -39,10 +39,10 @@ loop-k-preserved c =
     let b = c.args.b.now in
     let e = number (goal.at.loop-k-preserved c).After-leading_number in (
       omega arith,
-      ⊎_elim
-          (λ w. wrote_as (lines_more b 0 l.k (e ∙ w.0.taken)) w.6 w.7 (then l.invariant.1 (as_text (line-in b l.k c.texts_of-texts.ensures c.key_in-key.ensures w.2.ensures) w.3.ensures)))
-          (λ w. wrote_as (lines_same b 0 l.k (λ q. w.0.left (sym e ∙ q))) w.1 w.2 l.invariant.1)
-          c.if-leading_number-eq0.branch,
+      elim c.if-leading_number-eq0.branch [
+      then-leading_number-eq0 w ↦ wrote_as (lines_more b 0 l.k (e ∙ w.if-leading_number-eq0.true)) w.out-is w.at-is (then l.invariant.1 (as_text (line-in b l.k c.texts_of-texts.ensures c.key_in-key.ensures w.value_in.ensures) w.put_header-at.ensures))
+      | else-leading_number-eq0 w ↦ wrote_as (lines_same b 0 l.k (λ q. w.if-leading_number-eq0.false (sym e ∙ q))) w.out-is w.at-is l.invariant.1
+      ],
     )
 
 pub returns : goal.returns

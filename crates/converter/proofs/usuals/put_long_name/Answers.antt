@@ -2,10 +2,10 @@
 -- Assumes nothing.
 use Rattle.lent.proofs.Writes.{low_byte}
 use mathlib.Core.Path.{◌∙◌}
-use mathlib.Core.Logic.{⊎_elim}
 use Rattle.lent.proofs.Room.{bytes_of}
 use Rattle.converter.proofs.Usually.{first_kind, second-kind, second-promoted, long-text}
 use Rattle.converter.proofs.usuals.put_long_name.Goals as goal
+use Rattle.converter.proofs.usuals.put_long_name.Goals.{then-row-gt9, else-row-gt9}
 
 pub overflow_cast-k : goal.overflow_cast-k
 overflow_cast-k c = low_byte _
@@ -29,5 +29,5 @@ pub returns : goal.returns
 returns c =
     let row = c.args.row.now in
     let u = c.requires.0 in
-    let second = ⊎_elim (λ w. second-kind row u w.0.taken (w.3 ∙ w.2.ensures)) (λ w. second-promoted row u w.0.left w.1) c.if-row-gt9.branch in
-    bytes_of (long-text row u c.kind_code-k.result c.if-row-gt9.l c.requires.1 (first_kind row u c.kind_code-k.ensures) second) c.requires.2 c.put_bytes.ensures
+    bytes_of (long-text row u c.kind_code-k.result c.if-row-gt9.l c.requires.1 (first_kind row u c.kind_code-k.ensures)
+    (elim c.if-row-gt9.branch [ then-row-gt9 w ↦ second-kind row u w.if-row-gt9.true (w.l-is ∙ w.kind_code-l.ensures) | else-row-gt9 w ↦ second-promoted row u w.if-row-gt9.false w.l-is ])) c.requires.2 c.put_bytes.ensures

@@ -2,11 +2,11 @@
 -- Assumes nothing.
 use Rattle.lent.proofs.Writes.{low_byte}
 use native.Mathlib.Omega.{arith}
-use mathlib.Core.Logic.{⊎_elim}
 use mathlib.Core.Path.{◌∙◌}
 use Rattle.lent.proofs.Room.{bytes_of}
 use Rattle.converter.proofs.Usually.{file-same, file_square, rank_same, rank_square, start-text}
 use Rattle.converter.proofs.usuals.put_start.Goals as goal
+use Rattle.converter.proofs.usuals.put_start.Goals.{then-row-eq23, else-row-eq23, then-row-eq23-2, else-row-eq23-2}
 
 pub overflow_add-file : goal.overflow_add-file
 overflow_add-file c = omega (arith, (c.requires.0.target c.if-row-eq23.false).file)
@@ -33,6 +33,6 @@ pub returns : goal.returns
 returns c =
     let row = c.args.row.now in
     let u = c.requires.0 in
-    let f = ⊎_elim (λ w. file-same row u w.0.taken w.1) (λ w. file_square row u w.0.left w.2) c.if-row-eq23.branch in
-    let r = ⊎_elim (λ w. rank_same row u w.0.taken w.1) (λ w. rank_square row u w.0.left (w.3 ∙ w.2.ensures)) c.if-row-eq23-2.branch in
-    bytes_of (start-text row u c.if-row-eq23.file c.if-row-eq23-2.rank c.requires.1 c.spaced.ensures c.spaced-2.ensures f r) c.requires.2 c.put_bytes.ensures
+    bytes_of (start-text row u c.if-row-eq23.file c.if-row-eq23-2.rank c.requires.1 c.spaced.ensures c.spaced-2.ensures
+    (elim c.if-row-eq23.branch [ then-row-eq23 w ↦ file-same row u w.if-row-eq23.true w.file-is | else-row-eq23 w ↦ file_square row u w.if-row-eq23.false w.file-is ])
+    (elim c.if-row-eq23-2.branch [ then-row-eq23-2 w ↦ rank_same row u w.if-row-eq23-2.true w.rank-is | else-row-eq23-2 w ↦ rank_square row u w.if-row-eq23-2.false (w.rank-is ∙ w.numeral_code-rank.ensures) ])) c.requires.2 c.put_bytes.ensures

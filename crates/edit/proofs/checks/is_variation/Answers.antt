@@ -14,9 +14,8 @@ pub returns-then-end-t : goal.returns-then-end-t
 returns-then-end-t c = let p = c.requires in
     sym (part_numbered c.args.t.now (λ e. c.if-end-t.true (p.1 ∙ e)))
 
--- TODO .well-formed-2.ensures
 pub returns : goal.returns
 returns c =
     let p = c.requires in
-    rw c.well-formed-2.ensures
+    rw c.well_formed-2.ensures
     (sym (all-numbered c.args.t.now c.if-t-gt65535.false (λ e. c.if-entries-eq0.false (p.0 ∙ e)) (sym p.1 ∙ c.if-end-t.false)))

@@ -35,5 +35,6 @@ loop-k-preserved c =
 
 pub returns : goal.returns
 returns c =
-    let w = (let a = c.args in rw (map-run (line_in a.b.now) (reparented (shifted a.x.p a.x.q a.x.added)) a.i a.count) (run_done (copied a.x a.b.now) a.i a.count c.loop-k.invariant c.loop-k-test.false)) in
-    record { value = w.0; out_after = w.1 }
+    let a = c.args in
+    let w = run_done (copied a.x a.b.now) a.i a.count c.loop-k.invariant c.loop-k-test.false in
+    rw (map-run (line_in a.b.now) (reparented (shifted a.x.p a.x.q a.x.added)) a.i a.count) (record { value = w.0; out_after = w.1 })

@@ -10,12 +10,11 @@ put_variation-requires c = let h = rw c.in-Variation.is at c.requires in h.0
 
 pub returns-in-Nothing : goal.returns-in-Nothing
 returns-in-Nothing c =
-    let w = (let a = c.args in rw c.in-Nothing.is (none-put a.w a.out.now)) in
-    record { value = w.0; out_after = w.1 }
+    let w = none-put c.args.w c.args.out.now in
+    rw c.in-Nothing.is (record { value = w.0; out_after = w.1 })
 
 pub returns-in-Variation : goal.returns-in-Variation
 returns-in-Variation c =
-    let w = (let a = c.args in
+    let a = c.args in
     let one = one-put (line_on c.in-Variation.k (variation_of a.t.now)) a.w a.out.now in
-    rw c.in-Variation.is (c.put_variation.ensures.value ∙ sym one.0, c.put_variation.ensures.out_after ∙ sym one.1)) in
-    record { value = w.0; out_after = w.1 }
+    rw c.in-Variation.is (record { value = c.put_variation.ensures.value ∙ sym one.0; out_after = c.put_variation.ensures.out_after ∙ sym one.1 })

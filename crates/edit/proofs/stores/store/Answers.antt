@@ -9,7 +9,7 @@ use Rattle.edit.proofs.stores.store.Goals as goal
 pub measure-sizes-requires : goal.measure-sizes-requires
 measure-sizes-requires c =
     let n = added_small c.args.t.now c.args.a c.requires.3 (c.sizes_added.ensures.1 c.args.t.now c.requires.3) in
-    ((c.requires.0, c.requires.1, c.requires.2), (c.sizes_added.ensures.0, n.0, n.1, n.2))
+    record { sound = (c.requires.0, c.requires.1, c.requires.2); lines_bound = (c.sizes_added.ensures.0, n.0, n.1, n.2) }
 
 pub put_lines-requires : goal.put_lines-requires
 put_lines-requires c = c.requires

@@ -1,0 +1,19 @@
+-- A fault of what stands before the moves is answered; else the moves begin within the text, as the walk asks, and its answer is handed on.
+-- Assumes nothing.
+use Prim.Native.Nat.{ℕ, ◌≤◌}
+use mathlib.Core.Path.{sym, subst}
+use lib.ListN.{length, length-replicate}
+use Rattle.kakinoki.specs.declared.Start.{Start}
+use Rattle.kakinoki.proofs.Bounds.{moves-within}
+use Rattle.stops.proofs.stop_text.Goals as goal
+
+pub walk-requires : goal.walk-requires
+walk-requires c =
+    let s = c.args.s.now in
+    (c.requires, subst (λ (x : Start). x.next.at ≤ length s) (sym c.parse_without_moves-start.ensures.value) (moves-within s), length-replicate {A = ℕ} 65536 0)
+
+pub returns-in-At : goal.returns-in-At
+returns-in-At c = rw (← c.parse_without_moves-start.ensures.value, c.in-At.is)
+
+pub returns-in-NoFault : goal.returns-in-NoFault
+returns-in-NoFault c = rw (← c.parse_without_moves-start.ensures.value, c.in-NoFault.is) c.walk.ensures
