@@ -1,4 +1,6 @@
 // Nothing is read past the end of a text, and nothing is written where there is no room: leaves of `text` and `spell`, tried and proved.
+#![tactic(auto)]
+
 ghost use Rattle.std.specs.Prelude.{◌≡◌, true, false, ◌≤◌, length, eqb};
 ghost use Rattle.text.specs.Text.{on_place, on_number};
 ghost use Rattle.spell.specs.Spell.{on_spelled};

@@ -1,4 +1,6 @@
 // The C surface: the library's calls under fixed names. A slice is a pointer and a length, a lent number a pointer.
+#![tactic(auto)]
+
 ghost use Rattle.std.specs.Prelude.{◌≡◌, [], ◌∷◌};
 ghost use Rattle.block.specs.Decode.{headers_in, comments_in, key_offset, key_length, value_offset, value_length, comment_offset, comment_length};
 ghost use Rattle.block.specs.Sound.{soundb};

@@ -14,12 +14,12 @@ module _ {A : Type 0} {P : A → Type 0} where
   pub all_take : {l : List A} (n : ℕ) → All P l → All P (take n l)
   all_take zero h = none
   all_take (suc n) none = none
-  all_take (suc n) (next p h) = next p (all_take n h)
+  all_take (suc n) (next {x = x} {l = l} p h) = next p (all_take {l = l} n h)
 
   pub all_drop : {l : List A} (n : ℕ) → All P l → All P (drop n l)
   all_drop zero h = h
   all_drop (suc n) none = none
-  all_drop (suc n) (next p h) = all_drop n h
+  all_drop (suc n) (next {x = x} {l = l} p h) = all_drop {l = l} n h
 
   -- what follows from it
   pub all_so : {Q : A → Type 0} → ((x : A) → P x → Q x) → {l : List A} → All P l → All Q l

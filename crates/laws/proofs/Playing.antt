@@ -108,6 +108,7 @@ entries_fit s = entries-all s (λ (e : Noted). EntryFits e.what) (λ at n e c q.
 
 -- an entry that was read, after the slot
 pub later-kind : (k : ℕ) (e : Entry) → EntryFits e → claim (kind_test (suc k) e)
+later-kind k Slot x' = elim x' [ ]
 later-kind k (Moved m) (play_fits f) = (omega arith, (f.side, (f.some, (f.kind, f.mark))))
 later-kind k (End x t) (end_fits _ _) = omega arith
 

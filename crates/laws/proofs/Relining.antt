@@ -91,6 +91,7 @@ kind-same j k (Moved m) y z h = (omega arith, h.1)
 kind-same j k (End x t) y z h = omega arith
 
 kinds : (es : List Noted) → Led First Later es → claim (each (length es) (λ k. kind_test k (noted_of es k).what))
+kinds [] x'' k l = elim x'' [ ]
 kinds (x ∷ es) (leads p h) zero l = subst (λ (e : Entry). claim (kind_test 0 e)) (sym p.1) refl
 kinds (x ∷ es) (leads p h) (suc k) l =
     let w = all-at (record { what = Slot; comments = [] }) h k (omega arith) in

@@ -1,4 +1,6 @@
 // Both searches for the line that a variation hangs on, under fixed names for C: `oracle/bench` times them side by side.
+#![tactic(auto)]
+
 ghost use Rattle.std.specs.Prelude.{◌≡◌};
 ghost use Rattle.jkf.specs.Attaching.{near};
 ghost use Rattle.jkf.specs.Following.{start_at, Linked, followed};

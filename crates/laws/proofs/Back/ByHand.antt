@@ -170,6 +170,7 @@ module _ (mode : Mode) where
 
   plays_sayable : (ls : List Line) → Standing ls → All (λ l. All (λ e. EntryByHand e.what) l.entries) ls → All (λ l. All (λ e. All OneLine e.comments) l.entries) ls
       → All (λ l. All (Writable mode) l.entries) ls → PlaysSayable (plays_in ls)
+  plays_sayable [] x4 _ _ _ = elim x4 [ ]
   plays_sayable (l ∷ ls) (leads m ss) (next h hs) (next c cs) (next w ws) = leads (main_sayable m h c w) (sides_sayable ls ss hs cs ws)
 
 -- no key holds ：

@@ -226,6 +226,7 @@ all_fitted (l ∷ ls) n g (next k ks) (leads s ss) (next c cs) = go l.entries re
         none-shown x xs (omega (arith, g.origin))
 
     go : (es : List Noted) → l.entries ≡ es → Led SlotSayable NotedSayable es → Colored l.start es → LinesFit (l ∷ shown ls)
+    go [] e x11 c = elim x11 [ ]
     go (x ∷ es) e (leads t ts) c =
         let e' : l.entries ≡ noted Slot x.comments ∷ es = e ∙ ap (λ (y : Noted). y ∷ es) (slot_is x t.slot) in
         let q : l ≡ record { start = 0; parent = 0; entries = noted Slot x.comments ∷ es } = main_is l g.origin g.root e' in

@@ -43,6 +43,7 @@ module _ {P Q : Play → Type 0} where
   led_moved f (leads p h) = leads p (all_moved f h)
 
   led_unmap : (ls : List Line) → Led P Q (plays_in ls) → Led (λ l. P (bare l)) (λ l. Q (bare l)) ls
+  led_unmap mathlib.Core.List.[] x' = elim x' [ ]
   led_unmap (l ∷ ls) (leads p h) = leads p (all_unmap bare ls h)
 
   pub cut_led : (k m : ℕ) (ls : List Line) → 0 < k → Led P Q (plays_in ls) → Led P Q (plays_in (without_lines k m ls))

@@ -256,11 +256,13 @@ bare (End x t) = End x Untimed
 
 play-reads : {mode : Mode} → LosesNothing mode → (e : Entry) → EntryFits e → Reads what_at (λ c. Is (bare e) (cursor c)) (play_text (said_entry mode e)) Any
 unfolding play_text said_entry
+play-reads {mode = mode} n Slot x' = elim x' [ ]
 play-reads n (Moved m) (play_fits f) = move-reads n m f
 play-reads n (End x t) (end_fits h f) = ending-reads x h
 
 play_off : (mode : Mode) (e : Entry) → EntryFits e → (r : List ℕ) → Off is_blank (play_text (said_entry mode e) ++ r)
 unfolding play_text move_text said_entry said_move
+play_off mode Slot x' r = elim x' [ ]
 play_off mode (Moved m) (play_fits f) r = simp append_assoc (target_off m.to f.target _)
 play_off mode (End x t) (end_fits h f) r = ending_off x h r
 

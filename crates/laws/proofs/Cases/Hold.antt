@@ -12,7 +12,7 @@ use Rattle.laws.proofs.Cases.Opened.{opened}
 
 -- a row and those after it
 infixr 4 ◌&◌
-◌&◌ : {o : List ℕ} {c : Case} {cs : List Case} → Computed o c → All (Computed o) cs → All (Computed o) (c ∷ cs)
+◌&◌ : {A : Type 0} {P : A → Type 0} {x : A} {l : List A} → P x → All P l → All P (x ∷ l)
 p & ps = next p ps
 
 -- row by row, in the order of the table: the readings, then the edits and the others

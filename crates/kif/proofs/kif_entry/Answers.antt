@@ -1,0 +1,9 @@
+-- The answer of `entry`, and its figures.
+-- Assumes nothing.
+use mathlib.Core.Path.{ap, ◌∙◌}
+use Rattle.jkf.specs.Answers.{figures}
+use Rattle.kif.proofs.Telling.{told}
+use Rattle.kif.proofs.kif_entry.Goals as goal
+
+pub returns : goal.returns
+returns c = told (c.figures_of-f.ensures ∙ ap figures c.entry.ensures)
