@@ -4,7 +4,6 @@
 #   program  the program
 # and has functions
 #   ready      makes sure that the program is there
-#   tools      prints the folder of the emulator for a processor that is not x86-64
 #   word_NAME  of a word that the program does not know: sets in `run` and `words` what is to be run, or ends
 
 # ---- what is said
@@ -167,15 +166,6 @@ sort_words() {
 
 # ---- running
 
-# How the program is started: it is for x86-64, and on another processor the kit has an emulator beside its compiler, as rt runs programs.
-run_program() {
-  local from
-  run=("$program")
-  [ "$HOSTTYPE" != x86_64 ] || return 0
-  from=$(tools)
-  run=("$from/bin/qemu-x86_64" "$from/lib/ld-linux-x86-64.so.2" --library-path "$from/lib" "$program")
-}
-
 # Runs it and sets status, and is_refused where it gave no whole answer. A program has no exit status of its own: the marks of what it says on
 # standard error tell it.
 answer() {
@@ -293,7 +283,7 @@ obey() {
     "word_$word"
   else
     ready
-    run_program
+    run=("$program")
   fi
   place='' status=0 is_refused=''
   if [ -n "$is_in_place" ]; then

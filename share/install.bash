@@ -37,15 +37,6 @@ put() {
   print "$place"
 }
 
-# The emulator for a processor that is not x86-64, and the loader and the C library under which it runs the program.
-put_emulator() {
-  local from each
-  [ "$HOSTTYPE" != x86_64 ] || return 0
-  from=$(tools)
-  put 755 "$from/bin/qemu-x86_64" libexec/kifu/bin/qemu-x86_64
-  for each in ld-linux-x86-64.so.2 libc.so.6; do put 755 "$from/lib/$each" "libexec/kifu/lib/$each"; done
-}
-
 # kifu install PREFIX
 word_install() {
   local prefix top
@@ -57,7 +48,6 @@ word_install() {
   make libkif.a
   put 755 "$share/installed" bin/kifu
   put 755 "$kept/program" libexec/kifu/program
-  put_emulator
   for each in front.bash help.txt VERSION; do put 644 "$share/$each" "share/kifu/$each"; done
   put 644 "$kept/libkif.a" lib/libkif.a
   put 644 "$root/include/kif.h" include/kif.h
