@@ -26,7 +26,6 @@ use Rattle.jkf.specs.declared.Time.TheVariants.{Untimed, Timed}
 use Rattle.jkf.specs.declared.Move.{Move}
 use Rattle.jkf.specs.declared.Target.TheVariants.{Same, Square}
 use Rattle.jkf.specs.declared.Origin.TheVariants.{Unknown, From}
-use Rattle.jkf.specs.declared.Entry.{Entry}
 use Rattle.jkf.specs.declared.Entry.TheVariants.{Moved}
 use Rattle.spell.specs.Words.{same_word, promotes, declines}
 use Rattle.converter.specs.Entries.{target_text, promote_text, origin_text, move_text, move_width, clock_text, time_text, play_text, width_of, entry_line, time_padding, within}
@@ -35,7 +34,7 @@ use Rattle.converter.specs.declared.Mode.TheVariants.{Plain, Whole, Shared}
 use Rattle.converter.specs.Said.{as_drop, said_mark, said_origin, said_time, said_move, said_entry}
 use Rattle.converter.specs.inner.Usuals.{UsualRow, SaidSo, promoted_text, is_long, spaced, start_text, name_text, clocks_text, usual_line}
 use Rattle.converter.proofs.Saying.{mark-promotes, usual_time}
-use Rattle.lent.proofs.Room.{room-front, room_as}
+use Rattle.lent.proofs.Room.{room-front}
 use Rattle.converter.proofs.Lengthy.{padded-wide, figure_two, place_three, kind-plain, kind-long, same_length, square_length, from-length, ms_parts, hms_parts}
 
 -- ---- numbers

@@ -17,7 +17,6 @@ use Rattle.spell.specs.Tables.{move_kinds}
 use Rattle.spell.specs.Spell.{spelled}
 use Rattle.jkf.specs.Entries.{special_of, time_of}
 use Rattle.jkf.proofs.Specials.{special_past}
-use Rattle.jkf.specs.declared.Clock.{Clock}
 use Rattle.jkf.specs.declared.Clock.TheVariants.{Hms, Ms}
 use Rattle.jkf.specs.declared.Origin.{Origin}
 use Rattle.jkf.specs.declared.Origin.TheVariants.{Unknown, From}

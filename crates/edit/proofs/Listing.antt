@@ -26,7 +26,7 @@ use Rattle.jkf.proofs.Branching.{Branched}
 use Rattle.jkf.proofs.OneTwo.{branched_as}
 use Rattle.jkf.proofs.Reaching.{Reaches}
 use Rattle.block.specs.Formed.{line_of}
-use Rattle.edit.specs.Edit.{plays_in, is_ply_of, above, place_of, with_play, reparented, renumbered, lines_with, line_on, lowered, without_lines}
+use Rattle.edit.specs.Edit.{plays_in, is_ply_of, place_of, with_play, reparented, renumbered, lines_with, line_on, lowered, without_lines}
 use Rattle.edit.proofs.Alike.{hang_single, says_hang, hang-same}
 use Rattle.edit.proofs.Leading.{above_passes, before_passes, behind}
 use Rattle.edit.proofs.Renumbering.{Put, put_part, renumbered-low, Cut, cut_part, lowered-low}

@@ -1,6 +1,6 @@
 -- A block being filled: its length, its front, and what one part more makes of it.              (01, The block; Numbers of refusal: 4, 5)
 -- Assumes nothing: these are definitions.
-use Rattle.std.specs.Prelude.{ℕ, ◌+◌, ◌*◌, ◌-◌, ◌/◌, List, [], ◌∷◌, ◌++◌, Bool, false, length, take, drop, eqb, leb, ltb}
+use Rattle.std.specs.Prelude.{ℕ, ◌+◌, ◌*◌, ◌-◌, ◌/◌, List, [], ◌∷◌, ◌++◌, Bool, false, length, drop, eqb, leb, ltb}
 use Rattle.lists.specs.Pick.{pick}
 use Rattle.lent.specs.Bytes.{fitting}
 use Rattle.lent.specs.Stored.{put}

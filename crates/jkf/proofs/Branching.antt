@@ -4,20 +4,20 @@
 --     no_gap               all that hangs from a line follows it without a gap, from the test of each line
 --     tree_is              sound as version 2 is exactly 02's words
 -- Assumes nothing.
-use Prim.Native.Nat.{ℕ, zero, suc, ◌+◌, ◌-◌, ◌≤◌, ◌<◌}
+use Prim.Native.Nat.{ℕ, zero, suc, ◌-◌, ◌≤◌, ◌<◌}
 use native.Mathlib.Omega.{arith}
 use native.Mathlib.Decide.{dec_lt}
 use mathlib.Core.Logic.{◌↔◌}
 use mathlib.Core.Path.{◌≡◌, refl, sym, ap, ◌∙◌, subst}
-use mathlib.Core.Bool.{Bool, true, false, false≢true}
+use mathlib.Core.Bool.{Bool, true, false}
 use lib.Dec.{eqb, leb, ltb}
 use borrow.Author.Tests.{eqb-true, eqb-false, eq-eqb, ne_eqb, leb-true, le-leb, ltb-true, lt-ltb}
 use Rattle.lists.specs.Pick.{pick}
-use Rattle.lists.specs.Test.{Test, ◌equals◌, ◌and◌, flag, claim}
+use Rattle.lists.specs.Test.{◌equals◌, ◌and◌, flag, claim}
 use Rattle.lists.proofs.Laws.{pick_both}
 use Rattle.lists.proofs.Tests.{says, answers}
-use Rattle.jkf.specs.Trees.{has_ply, leads_to, chosen, searched, hang_test, HangAs, HangsFrom, itself, through, Tree}
-use Rattle.jkf.proofs.Chains.{from_then, Falls, from_low, leads_says, leads-from}
+use Rattle.jkf.specs.Trees.{chosen, HangAs, HangsFrom, itself, through, Tree}
+use Rattle.jkf.proofs.Chains.{from_then, Falls, leads_says, leads-from}
 
 pub record Chosen (start count parent : ℕ → ℕ) (k : ℕ) : Type 0 where
   pub before : parent k < k

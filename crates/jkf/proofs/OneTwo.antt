@@ -6,23 +6,23 @@
 --     branched-as      whatever its version, what is asked of version 2 holds of lines that hang
 --     still-found      of lines sound as version 2 the attaching rule finds a parent for each: reading their text never meets refusal 6
 -- Assumes nothing.
-use Prim.Native.Nat.{ℕ, zero, suc, ◌+◌, ◌-◌, ◌≤◌, ◌<◌}
+use Prim.Native.Nat.{ℕ, zero, suc, ◌-◌, ◌≤◌, ◌<◌}
 use native.Mathlib.Omega.{arith}
 use native.Mathlib.Decide.{dec_lt}
 use mathlib.Core.Logic.{◌↔◌}
-use mathlib.Core.Path.{◌≡◌, refl, sym, ap, ◌∙◌, subst}
+use mathlib.Core.Path.{◌≡◌, sym, ap, ◌∙◌}
 use mathlib.Core.Bool.{Bool, true, false, false≢true}
 use lib.Dec.{eqb}
 use borrow.Author.Tests.{eqb-true, eq-eqb}
-use Rattle.lists.specs.Test.{Test, ◌equals◌, ◌and◌, flag, claim}
+use Rattle.lists.specs.Test.{◌equals◌, ◌and◌, flag, claim}
 use Rattle.lists.proofs.Tests.{says, answers}
-use Rattle.jkf.specs.Attaching.{near, hangs, on_hang}
+use Rattle.jkf.specs.Attaching.{near, on_hang}
 use Rattle.jkf.specs.declared.Hang.{Hang}
 use Rattle.jkf.proofs.Nears.{near_before, near-low, near_last, near_miss, near_is, Hangs, hangs_says, hangs-on}
 use Rattle.lists.specs.Pick.{pick}
 use Rattle.jkf.specs.Trees.{searched, chosen, HangAs, HangsFrom, itself, through, NoTwo}
 use Rattle.jkf.specs.inner.Climbing.{NoEqual}
-use Rattle.jkf.proofs.Chains.{from_then, Falls, from_low, on_way, from_start}
+use Rattle.jkf.proofs.Chains.{Falls, from_low, on_way, from_start}
 use Rattle.jkf.proofs.Branching.{Chosen, Branched, test_later, test_by, branched_falls, starts_fall, branched_says, says_branched, no_gap}
 
 -- version 1: each line hangs on the line that is found for it

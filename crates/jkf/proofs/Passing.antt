@@ -5,11 +5,11 @@
 --     climbed-right        version 2: the sibling before hangs there too, and does not start below
 --     climbed-single       version 1: it starts above
 -- Assumes nothing.
-use Prim.Native.Nat.{ℕ, zero, suc, ◌+◌, ◌-◌, ◌≤◌, ◌<◌}
+use Prim.Native.Nat.{ℕ, ◌+◌, ◌-◌, ◌≤◌, ◌<◌}
 use native.Mathlib.Omega.{arith}
 use native.Mathlib.Decide.{dec_lt}
 use mathlib.Core.Logic.{◌↔◌}
-use mathlib.Core.Path.{◌≡◌, refl, sym, ap, ◌∙◌, subst}
+use mathlib.Core.Path.{◌≡◌, sym, ap, ◌∙◌}
 use Rattle.jkf.specs.Trees.{HangsFrom, itself, through}
 use Rattle.jkf.specs.inner.Climbing.{NoEqual}
 use Rattle.jkf.proofs.Chains.{from_then, Falls, from_low, from_both}

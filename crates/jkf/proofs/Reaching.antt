@@ -7,10 +7,10 @@ use Prim.Native.Nat.{ℕ, zero, suc, ◌+◌, ◌-◌, ◌≤◌, ◌<◌}
 use native.Mathlib.Omega.{arith}
 use native.Mathlib.Decide.{dec_lt}
 use mathlib.Core.Logic.{◌↔◌}
-use mathlib.Core.Path.{◌≡◌, refl, sym, ap, ◌∙◌, subst}
+use mathlib.Core.Path.{◌≡◌}
 use Rattle.jkf.specs.Trees.{HangsFrom, itself, through}
-use Rattle.jkf.proofs.Chains.{from_then, Falls, from_low, from_both}
-use Rattle.jkf.proofs.Branching.{Chosen, Branched, branched_falls, no_gap}
+use Rattle.jkf.proofs.Chains.{Falls, from_low, from_both}
+use Rattle.jkf.proofs.Branching.{Branched, branched_falls, no_gap}
 
 -- of n lines, r from line k on: the later ones hang on lines not before line k, and the next does not
 pub record Reaches (parent : ℕ → ℕ) (n k r : ℕ) : Type 0 where

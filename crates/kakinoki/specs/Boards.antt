@@ -1,6 +1,6 @@
 -- The diagram.                                                                                        (01, Reading rules: board)
 -- Assumes nothing: these are definitions.
-use Rattle.std.specs.Prelude.{ℕ, zero, suc, ◌+◌, ◌*◌, ◌-◌, List, [], ◌∷◌, ◌++◌, Bool, true, false, replicate, set}
+use Rattle.std.specs.Prelude.{ℕ, zero, suc, ◌+◌, ◌*◌, List, [], ◌∷◌, Bool, true, false, replicate, set}
 use Rattle.lists.specs.Pick.{pick}
 use Rattle.text.specs.Text.{cursor, on_place, tag_at, break_at}
 use Rattle.text.specs.declared.Cursor.{Cursor}

@@ -3,9 +3,9 @@
 use Prim.Native.Nat.{ℕ, zero, suc, ◌+◌, ◌-◌, ◌≤◌, ◌<◌}
 use native.Mathlib.Omega.{arith}
 use mathlib.Core.Path.{◌≡◌, refl, sym, ap, ◌∙◌, subst}
-use mathlib.Core.List.{List, [], ◌∷◌, ◌++◌, append_assoc, append-nil}
-use lib.ListN.{take-append-drop, length-set, get_or, length, take, drop, set, length-append, length-drop, drop_of_length-le}
-use lib.Seq.{set-append_left, get_or-take, get_or-drop, drop_at, length-take-le, take-append_seam, drop-drop, sets, sets-eq, length-sets, set_comm}
+use mathlib.Core.List.{List, [], ◌∷◌, ◌++◌, append_assoc}
+use lib.ListN.{get_or, length, take, drop, set, length-append, length-drop, drop_of_length-le}
+use lib.Seq.{get_or-take, get_or-drop, drop_at, length-take-le, take-append_seam, drop-drop, sets, sets-eq, length-sets, set_comm}
 use borrow.Rule.Slice.PartMut.{mid_of, put_mid}
 use Rattle.lent.specs.Bytes.{Wrote, fitting}
 use Rattle.lent.proofs.Writes.{fitting-all, fitting_empty, rest, back}

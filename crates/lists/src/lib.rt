@@ -1,1 +1,3 @@
+#![tactic(auto)]
+
 // Laws on lists, tests and repetition that several crates cite. There is no code here.

@@ -18,7 +18,7 @@ use Rattle.text.proofs.Laws.{span-stop, span_go, stands_on, stands_done, stands_
 use Rattle.text.proofs.Readings.{one-digit, two-digits, digit_in}
 use Rattle.jkf.specs.declared.Clock.TheVariants.{Hms, Ms}
 use Rattle.jkf.specs.declared.Time.TheVariants.{Timed}
-use Rattle.moves.specs.Moves.{timing, colon, figure_at, hms_at, ms_at, clock_at, spaced_at, clocks_at, time_at}
+use Rattle.moves.specs.Moves.{timing, figure_at, hms_at, ms_at, clock_at, spaced_at, clocks_at, time_at}
 use Rattle.moves.specs.inner.Usuals.{Two, two_digits, UsualNow, UsualTotal, Usual}
 use Rattle.moves.specs.declared.Clocked.TheVariants.{Shows, NoClock}
 

@@ -42,7 +42,6 @@ use Rattle.moves.specs.declared.What.TheVariants.{Is}
 use Rattle.moves.specs.declared.MoveLine.{MoveLine}
 use Rattle.moves.specs.declared.Timing.{Timing}
 use Rattle.moves.proofs.Figures.{figure_fits}
-use Rattle.moves.proofs.Smalls.{each}
 use Rattle.moves.proofs.Answers.{OnAim, to, no_aim, OnSource, out, no_source, too_large_source, OnClocked, shows, no_clock, OnWhat, is, nothing, OnMoveLine, numbered, no_line, by_aim, by_source, by_clocked, by_what}
 
 -- ---- an answer that is fit and goes on from its place

@@ -20,7 +20,7 @@ use Rattle.text.specs.declared.Number.TheVariants.{Value, NoDigit, TooLarge}
 use Rattle.text.proofs.Answers.{by_place}
 use Rattle.text.specs.contracts.Number.{the_type}
 use Rattle.moves.specs.Moves.{colon, figure_at, time_at}
-use Rattle.moves.specs.Lost.{is_large, is_timed, hms_over, ms_over, forms_over, lost_at, played_lost}
+use Rattle.moves.specs.Lost.{is_large, hms_over, ms_over, forms_over, lost_at, played_lost}
 use Rattle.moves.specs.inner.Usuals.{Usual, UsualMove}
 use Rattle.moves.proofs.Clocking.{usual_time}
 use Rattle.moves.proofs.Usually.{usual_what}

@@ -9,7 +9,7 @@ use borrow.Author.Tests.{eqb-true, ltb-true, leb-true, ne_eqb, le-leb, lt-leb}
 use Rattle.lists.specs.Pick.{pick}
 use Rattle.lists.proofs.Laws.{range, range_at, pick_both}
 use Rattle.block.specs.Sound.{is_cell}
-use Rattle.positions.specs.Steps.{class, promoted, piece_of, for_white}
+use Rattle.positions.specs.Steps.{class, promoted, piece_of}
 
 -- a promoted kind is held as the kind that it came from, and is a kind
 abbrev tests : ℕ → Bool

@@ -1,6 +1,6 @@
 -- Games worked out: 平手, ７六歩 ３四歩 ２二角成 同銀 ４五角打, with the hands and cells after each; and each reason to stop.
 -- Assumes nothing: these are definitions.
-use Rattle.std.specs.Prelude.{ℕ, ◌+◌, ◌*◌, ◌-◌, ◌≡◌, List, [], ◌∷◌, get_or, replicate}
+use Rattle.std.specs.Prelude.{ℕ, ◌+◌, ◌*◌, ◌-◌, ◌≡◌, [], ◌∷◌, get_or, replicate}
 use Rattle.jkf.specs.declared.Target.{Target}
 use Rattle.jkf.specs.declared.Target.TheVariants.{Same, Square}
 use Rattle.jkf.specs.declared.Origin.{Origin}
@@ -8,7 +8,6 @@ use Rattle.jkf.specs.declared.Origin.TheVariants.{Unknown, From}
 use Rattle.jkf.specs.declared.Time.TheVariants.{Untimed}
 use Rattle.jkf.specs.declared.Move.{Move}
 use Rattle.jkf.specs.declared.Position.{Position}
-use Rattle.positions.specs.declared.Hindrance.{Hindrance}
 use Rattle.positions.specs.declared.Hindrance.TheVariants.{NoneBefore, OffBoard, NotThere, NoPromotion, OwnPiece, King, HandFull, NotInHand, OntoPiece}
 use Rattle.positions.specs.declared.Verdict.{Verdict}
 use Rattle.positions.specs.declared.Verdict.TheVariants.{Goes, Stops}

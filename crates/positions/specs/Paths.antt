@@ -1,13 +1,12 @@
 -- The start of a record, the path to an entry and the play along it.                                  (02, request (i))
 -- Assumes nothing: these are definitions.
-use Rattle.std.specs.Prelude.{ℕ, zero, suc, ◌+◌, ◌-◌, List, [], ◌∷◌, ◌++◌, Bool, true, false, length, drop, replicate, eqb, ltb}
+use Rattle.std.specs.Prelude.{ℕ, zero, suc, ◌+◌, ◌-◌, List, [], ◌∷◌, ◌++◌, Bool, true, length, drop, replicate, eqb, ltb}
 use Rattle.lists.specs.Pick.{pick}
 use Rattle.block.specs.EntryBytes.{entry_in}
 use Rattle.jkf.specs.Answers.{figures, Outcome, refuse}
 use Rattle.block.specs.PositionBytes.{position_bytes, position_in}
 use Rattle.jkf.specs.declared.Entry.{Entry}
 use Rattle.jkf.specs.declared.Entry.TheVariants.{Slot, Moved, End}
-use Rattle.jkf.specs.declared.Move.{Move}
 use Rattle.jkf.specs.declared.Position.{Position}
 use Rattle.block.specs.Decode.{run, lines_in, move_place, start_of, first_entry, entry_count, parent_of}
 use Rattle.block.specs.Sound.{soundb}

@@ -1,6 +1,6 @@
 -- One step of play on a position. A place is 9 * (file - 1) + (rank - 1), as the cells lie.            (02, request (i))
 -- Assumes nothing: these are definitions.
-use Rattle.std.specs.Prelude.{ℕ, ◌+◌, ◌*◌, ◌-◌, ◌%◌, List, [], ◌∷◌, Bool, true, false, get_or, set, eqb, leb, ltb}
+use Rattle.std.specs.Prelude.{ℕ, ◌+◌, ◌*◌, ◌-◌, ◌%◌, List, [], ◌∷◌, Bool, false, get_or, set, eqb, leb, ltb}
 use Rattle.lists.specs.Pick.{pick}
 use Rattle.jkf.specs.declared.Target.{Target}
 use Rattle.jkf.specs.declared.Target.TheVariants.{Same, Square}

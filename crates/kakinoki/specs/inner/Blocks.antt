@@ -3,7 +3,7 @@
 use Rattle.std.specs.Prelude.{ℕ, List, length}
 use Rattle.text.specs.Text.{cursor}
 use Rattle.kakinoki.specs.declared.InformationBlock.{InformationBlock}
-use Rattle.kakinoki.specs.Informations.{information, informations_at, fault_at, told, untold, tell_all, header_places_at}
+use Rattle.kakinoki.specs.Informations.{informations_at, fault_at, untold, tell_all, header_places_at}
 
 unfoldable pub block_at : List ℕ → ℕ → InformationBlock
 block_at s at =

@@ -1,7 +1,7 @@
 -- One step of the count of lines, and its bound.
 -- Assumes nothing: these are definitions.
 use Rattle.std.specs.Prelude.{ℕ, ◌≤◌, List}
-use Rattle.lists.specs.Repeat.{more, on_step}
+use Rattle.lists.specs.Repeat.{on_step}
 use Rattle.reader.specs.declared.PassedLines.{PassedLines}
 use Rattle.reader.specs.declared.Advance.{Advance}
 use Rattle.reader.specs.declared.Advance.TheVariants.{Further, NoFurther}

@@ -1,4 +1,3 @@
-use Prim.Native.Nat.{◌-◌}
 use native.Mathlib.Omega.{arith}
 use Rattle.text.proofs.Passing.{run_none, run_on}
 use Rattle.text.proofs.plain_text.Goals as goal

@@ -7,7 +7,7 @@ use Rattle.block.specs.Sound.{sum}
 use Rattle.block.proofs.fields.sum_of.Given as goal
 
 abbrev pub invariant-loop-k : goal.invariant-loop-k
-invariant-loop-k l = 
+invariant-loop-k l =
     (l.k ≤ l.n) × (l.at ≡ l.place + l.w * l.k) × (l.at ≤ l.place + 20 * l.k) × (l.total ≡ sum (λ j. le16 l.b (l.place + l.w * j)) l.k) × (l.total ≤ 65535 * l.k)
 
 abbrev pub decreases-loop-k : goal.decreases-loop-k

@@ -1,7 +1,6 @@
-use Prim.Native.Nat.{ℕ, ◌-◌}
+use Prim.Native.Nat.{ℕ}
 use native.Mathlib.Omega.{arith}
 use mathlib.Core.Path.{◌≡◌, sym, ◌∙◌}
-use mathlib.Core.Bool.{true}
 use lib.ListN.{length, get_or}
 use Rattle.lists.specs.Test.{holds, flag}
 use Rattle.lists.proofs.Tests.{all_none, all_more, all_not}

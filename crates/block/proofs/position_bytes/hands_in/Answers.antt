@@ -1,4 +1,3 @@
-use Prim.Native.Nat.{◌-◌}
 use borrow.Author.Rules.{rules}
 use Rattle.block.proofs.ByteArrays.{held_none, held_more, held_all}
 use Rattle.block.proofs.position_bytes.hands_in.Goals as goal

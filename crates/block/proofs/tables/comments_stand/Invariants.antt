@@ -8,7 +8,7 @@ use Rattle.block.proofs.Spans.{comment_stands}
 use Rattle.block.proofs.tables.comments_stand.Given as goal
 
 abbrev pub invariant-loop-k : goal.invariant-loop-k
-invariant-loop-k l = 
+invariant-loop-k l =
     (l.k ≤ l.n) × (l.at ≤ 8600000000 + 65535 * l.k) × Passed (comment_stands l.b l.t) (comment_length l.b) (header_bytes l.b (headers_in l.b)) l.k l.at
 
 abbrev pub decreases-loop-k : goal.decreases-loop-k

@@ -4,7 +4,6 @@ use Rattle.block.proofs.TablePasses.{passed_start, passed_more, passed_not, pass
 use mathlib.Core.Path.{sym, ◌∙◌}
 use native.Mathlib.Omega.{arith}
 use native.Mathlib.Nat.{zero-add}
-use Prim.Native.Nat.{◌-◌}
 use Rattle.block.proofs.tables.headers_stand.Goals as goal
 
 pub loop-k-init : goal.loop-k-init

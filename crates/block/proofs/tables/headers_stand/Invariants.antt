@@ -7,9 +7,9 @@ use Prim.Native.Nat.{◌+◌, ◌*◌, ◌-◌, ◌≤◌}
 use Rattle.block.proofs.tables.headers_stand.Given as goal
 
 abbrev pub invariant-loop-k : goal.invariant-loop-k
-invariant-loop-k l = 
+invariant-loop-k l =
     (l.k ≤ l.n) × (l.at ≤ 131070 * l.k) × Passed (header_stands l.b l.t) (λ j. key_length l.b j + value_length l.b j) 0 l.k l.at
 
 abbrev pub decreases-loop-k : goal.decreases-loop-k
-decreases-loop-k l = 
+decreases-loop-k l =
     l.n - l.k

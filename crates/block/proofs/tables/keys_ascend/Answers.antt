@@ -5,10 +5,9 @@ use Rattle.block.specs.Decode.{headers_in, key_of}
 use Rattle.lists.proofs.Tests.{all_none, all_more, all_not}
 use Rattle.lists.specs.Test.{flag}
 use lib.ListN.{drop}
-use mathlib.Core.Bool.{true}
 use mathlib.Core.Path.{◌≡◌, sym, ap, ◌∙◌}
 use native.Mathlib.Omega.{arith}
-use Prim.Native.Nat.{ℕ, ◌+◌, ◌-◌}
+use Prim.Native.Nat.{ℕ, ◌+◌}
 use Rattle.block.proofs.tables.keys_ascend.Goals as goal
 use Rattle.block.proofs.tables.keys_ascend.Goals.{After-is_before}
 

@@ -42,8 +42,8 @@ loop-n-preserved c =
     let k = get_or c.args.places.now l.n 0 - 1 in (
       omega arith,
       elim c.if-place-gt0.branch [
-      then-place-gt0 w ↦ wrote_as (lead_some p l.n (omega arith) w.if-place-gt0.true) w.out-is w.at-is (then l.invariant.1 (as_text (line-in c.args.b.now k c.texts_of-texts.ensures w.key_in.ensures w.value_in.ensures) w.put_header-at.ensures))
-      | else-place-gt0 w ↦ wrote_as (lead_none p l.n (omega arith) (omega (arith, w.if-place-gt0.false))) w.out-is w.at-is l.invariant.1
+        | then-place-gt0 w ↦ wrote_as (lead_some p l.n (omega arith) w.if-place-gt0.true) w.out-is w.at-is (then l.invariant.1 (as_text (line-in c.args.b.now k c.texts_of-texts.ensures w.key_in.ensures w.value_in.ensures) w.put_header-at.ensures))
+        | else-place-gt0 w ↦ wrote_as (lead_none p l.n (omega arith) (omega (arith, w.if-place-gt0.false))) w.out-is w.at-is l.invariant.1
       ],
     )
 

@@ -1,4 +1,4 @@
-use Prim.Native.Nat.{ℕ, ◌-◌}
+use Prim.Native.Nat.{ℕ}
 use native.Mathlib.Omega.{arith}
 use mathlib.Core.Path.{◌≡◌, sym, ap, ◌∙◌}
 use Rattle.lent.proofs.Writes.{then, nothing, as_text, within, sum_fits}
@@ -40,8 +40,8 @@ loop-k-preserved c =
     let e = number (goal.at.loop-k-preserved c).After-leading_number in (
       omega arith,
       elim c.if-leading_number-eq0.branch [
-      then-leading_number-eq0 w ↦ wrote_as (lines_more b 0 l.k (e ∙ w.if-leading_number-eq0.true)) w.out-is w.at-is (then l.invariant.1 (as_text (line-in b l.k c.texts_of-texts.ensures c.key_in-key.ensures w.value_in.ensures) w.put_header-at.ensures))
-      | else-leading_number-eq0 w ↦ wrote_as (lines_same b 0 l.k (λ q. w.if-leading_number-eq0.false (sym e ∙ q))) w.out-is w.at-is l.invariant.1
+        | then-leading_number-eq0 w ↦ wrote_as (lines_more b 0 l.k (e ∙ w.if-leading_number-eq0.true)) w.out-is w.at-is (then l.invariant.1 (as_text (line-in b l.k c.texts_of-texts.ensures c.key_in-key.ensures w.value_in.ensures) w.put_header-at.ensures))
+        | else-leading_number-eq0 w ↦ wrote_as (lines_same b 0 l.k (λ q. w.if-leading_number-eq0.false (sym e ∙ q))) w.out-is w.at-is l.invariant.1
       ],
     )
 

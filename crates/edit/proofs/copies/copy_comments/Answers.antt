@@ -1,4 +1,3 @@
-use Prim.Native.Nat.{◌-◌}
 use Rattle.block.specs.Decode.{comment_of}
 use Rattle.filling.proofs.Growing.{comment-size}
 use Rattle.edit.proofs.Copied.{run-start, run_step, run_done}

@@ -8,7 +8,7 @@ use Rattle.block.specs.Decode.{run, noted_in}
 use Rattle.edit.proofs.copies.count_entries.Given as goal
 
 abbrev pub invariant-loop-i : goal.invariant-loop-i
-invariant-loop-i l = 
+invariant-loop-i l =
     (l.i ≤ l.count) × (l.comments ≡ length (comments_of (run (noted_in l.b) l.k l.i))) × (l.bytes ≡ length (comment_text (comments_of (run (noted_in l.b) l.k l.i))))
     × (l.comments ≤ 65535 * l.i) × (l.bytes ≤ 4294967295 * l.i)
 

@@ -1,6 +1,6 @@
 -- The search from line j on finds what the search from the last line on finds: from a line that starts above s both go on at its parent.
 -- Assumes nothing.
-use Prim.Native.Nat.{suc, ◌-◌, ◌<◌}
+use Prim.Native.Nat.{suc, ◌<◌}
 use mathlib.Core.Path.{◌≡◌}
 use Rattle.jkf.specs.Following.{follow, followed}
 use Rattle.jkf.proofs.attaching.nearest.Given as goal

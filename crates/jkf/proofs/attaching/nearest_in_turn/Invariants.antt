@@ -1,6 +1,5 @@
 -- Every line that was passed starts above s, so the nearest is before it; the first that does not is the nearest.
 -- Assumes nothing.
-use Prim.Native.Nat.{◌-◌}
 use mathlib.Core.Path.{◌≡◌}
 use Rattle.jkf.specs.Attaching.{near}
 use Rattle.jkf.specs.Following.{start_at}

@@ -18,8 +18,8 @@ unfolding put
 stored c =
     let a = c.args in
     elim c.if-n-places.branch [
-    then-n-places w ↦ w.places-is
-    | else-n-places w ↦ w.places-is ∙ sym (set_out a.places.now a.n _ w.if-n-places.false)
+      | then-n-places w ↦ w.places-is
+      | else-n-places w ↦ w.places-is ∙ sym (set_out a.places.now a.n _ w.if-n-places.false)
     ]
 
 pub returns-after-n-places : goal.returns-after-n-places

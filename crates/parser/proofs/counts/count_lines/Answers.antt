@@ -2,7 +2,6 @@ use Rattle.parser.proofs.Sizing.{Sizing, sizing_start, counted_done, counted_bou
 use borrow.Author.Rules.{rules}
 use mathlib.Core.Path.{sym, subst}
 use native.Mathlib.Omega.{arith}
-use Prim.Native.Nat.{◌-◌}
 use Rattle.parser.proofs.counts.count_lines.Goals as goal
 
 pub count_main-all-requires : goal.count_main-all-requires

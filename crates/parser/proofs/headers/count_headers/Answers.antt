@@ -1,5 +1,4 @@
 use Rattle.parser.proofs.Headed.{place-line, summing_start, summing_more, summing_done}
-use Prim.Native.Nat.{◌-◌}
 use native.Mathlib.Omega.{arith}
 use Rattle.parser.proofs.headers.count_headers.Goals as goal
 

@@ -1,4 +1,3 @@
-use Prim.Native.Nat.{◌-◌}
 use Rattle.parser.proofs.Headed.{heading_start, heading_step, heading_done, place-line}
 use Rattle.parser.proofs.headers.fill_headers.Goals as goal
 

@@ -4,7 +4,6 @@ use Rattle.moves.proofs.Shortcuts.{no_comment}
 use borrow.Author.Rules.{rules}
 use mathlib.Core.Path.{refl, sym, ◌∙◌}
 use native.Mathlib.Omega.{arith}
-use Prim.Native.Nat.{◌-◌}
 use Rattle.plays.proofs.counts.count_comments.Goals as goal
 
 pub loop-next-init : goal.loop-next-init

@@ -5,7 +5,7 @@ use Rattle.plays.proofs.Counting.{extending_start, extending_on, extending_room,
 use Rattle.plays.proofs.Sequences.{run_more, run_none, run_stray, run_room}
 use mathlib.Core.Path.{◌≡◌, refl, sym, ◌∙◌}
 use native.Mathlib.Omega.{arith}
-use Prim.Native.Nat.{◌+◌, ◌-◌}
+use Prim.Native.Nat.{◌+◌}
 use Rattle.moves.proofs.Shortcuts.{line_back, line-none}
 use Rattle.plays.proofs.counts.count_run.Goals as goal
 

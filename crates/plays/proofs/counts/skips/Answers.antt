@@ -2,7 +2,6 @@ use Rattle.plays.proofs.Items.{skips-more, skips-none}
 use Rattle.moves.proofs.Goings.{skip_goes}
 use mathlib.Core.Path.{sym, ◌∙◌}
 use native.Mathlib.Omega.{arith}
-use Prim.Native.Nat.{◌-◌}
 use Rattle.plays.proofs.counts.skips.Goals as goal
 
 pub returns-in_default : goal.returns-in_default

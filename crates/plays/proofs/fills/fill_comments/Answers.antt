@@ -3,7 +3,6 @@ use Rattle.moves.proofs.Goings.{remark_goes}
 use Rattle.moves.proofs.Shortcuts.{no_comment}
 use mathlib.Core.Path.{sym, ◌∙◌}
 use native.Mathlib.Omega.{arith}
-use Prim.Native.Nat.{◌-◌}
 use Rattle.plays.proofs.fills.fill_comments.Goals as goal
 
 pub loop-walk-init : goal.loop-walk-init
