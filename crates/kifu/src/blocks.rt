@@ -2,11 +2,11 @@
 ghost use Rattle.std.specs.Prelude.{◌<◌, ◌≤◌};
 
 use crate::edits::Edited;
-use crate::notes::NOTE;
+use crate::notes::{NOTE, Stream};
 use crate::words::{BLOCK_CUT, BLOCK_LIST, BLOCK_PUT, BLOCK_TREE, TEXT};
 use crate::{edits, files, notes, print_text, refusals, told, trees};
 use jkf::Figures;
-use libc::STDOUT_FILENO;
+use std::io;
 
 // 1 for a line k where one before it hangs on its entry.
 fn equal(b: &[u8], k: u16) -> u64
@@ -38,7 +38,7 @@ fn count_equals(b: &[u8], lines: u64) -> u64
 }
 
 // Says how many lines of a text will nest when it is read again, of all but those that were left out: in version 1 none.
-pub(crate) fn tell_nested(name: &[u8], b: &[u8], left_out: u64) {
+pub(crate) fn tell_nested(rt: &HostRuntime, name: &[u8], b: &[u8], left_out: u64) {
     if block::version_in(b) == 1 {
         return;
     }
@@ -47,6 +47,7 @@ pub(crate) fn tell_nested(name: &[u8], b: &[u8], left_out: u64) {
         return;
     }
     notes::tell_some(
+        rt,
         NOTE,
         name,
         b"variations of a move that has another one before them; read again from this text, they hang inside it: %",
@@ -56,11 +57,12 @@ pub(crate) fn tell_nested(name: &[u8], b: &[u8], left_out: u64) {
 }
 
 // Whether a block is sound; or says that it is not.
-fn is_sound(name: &[u8], b: &[u8]) -> bool {
+fn is_sound(rt: &HostRuntime, name: &[u8], b: &[u8]) -> bool {
     if block::sound(b) {
         return true;
     }
     refusals::tell(
+        rt,
         name,
         Figures {
             number: 7,
@@ -72,18 +74,19 @@ fn is_sound(name: &[u8], b: &[u8]) -> bool {
 }
 
 // Prints the length, the version and the lines of a block: its listing with another first line.
-fn print_lines(b: &[u8], out: &mut [u8]) -> bool {
+fn print_lines(rt: &HostRuntime, b: &[u8], out: &mut [u8]) -> io::Result<()> {
     let mut head = [0u8; 128];
     let first = shown::put_read(&mut head, 0, b.len() as u64);
     let n = shown::put_listing(out, 0, b);
     notes::say(
-        STDOUT_FILENO,
+        rt,
+        Stream::Output,
         b"block % version %\n",
         b.len() as u64,
         block::version_in(b) as u64,
         0,
-    );
-    io::write_all(STDOUT_FILENO, lent::rest(lent::front(&out[0..], n), first))
+    )?;
+    rt.write_all(lent::rest(lent::front(&out[0..], n), first))
 }
 
 // Which name is that of the new file.
@@ -96,31 +99,40 @@ fn place_of_out(word: usize) -> usize {
 }
 
 // Prints how long the new block is, and the number of the new line or how many lines were cut.
-fn print_done(word: usize, n: u64, second: u64) -> bool {
+fn print_done(rt: &HostRuntime, word: usize, n: u64, second: u64) -> io::Result<()> {
     match word {
-        BLOCK_PUT => notes::say(STDOUT_FILENO, b"block % line %\n", n, second, 0),
-        BLOCK_CUT => notes::say(STDOUT_FILENO, b"block % removed %\n", n, second, 0),
-        _ => notes::say(STDOUT_FILENO, b"block %\n", n, 0, 0),
+        BLOCK_PUT => notes::say(rt, Stream::Output, b"block % line %\n", n, second, 0),
+        BLOCK_CUT => notes::say(rt, Stream::Output, b"block % removed %\n", n, second, 0),
+        _ => notes::say(rt, Stream::Output, b"block %\n", n, 0, 0),
     }
 }
 
 // Writes an edited block into a new file, which goes again where that cannot be told.
-fn keep_edited(word: usize, line: u64, name: &[u8], b: &[u8], room: &mut [u8], made: &mut [u8]) {
-    let Edited::Block(n, second, times) = edits::make(word, line, name, b, room, made) else {
+fn keep_edited(
+    rt: &HostRuntime,
+    word: usize,
+    line: u64,
+    name: &[u8],
+    b: &[u8],
+    room: &mut [u8],
+    made: &mut [u8],
+) {
+    let Edited::Block(n, second, times) = edits::make(rt, word, line, name, b, room, made) else {
         return;
     };
-    if !files::keep(place_of_out(word), lent::front(&made[0..], n)) {
+    if !files::keep(rt, place_of_out(word), lent::front(&made[0..], n)) {
         return;
     }
-    if told(print_done(word, n as u64, second)) {
-        edits::tell_variation(times);
+    if told(rt, print_done(rt, word, n as u64, second)) {
+        edits::tell_variation(rt, times);
         return;
     }
-    files::remove(place_of_out(word));
+    files::remove(rt, place_of_out(word));
 }
 
 // The text that is put in is read before anything is printed, so both use one buffer.
 pub(crate) fn answer(
+    rt: &HostRuntime,
     word: usize,
     line: u64,
     name: &[u8],
@@ -130,18 +142,18 @@ pub(crate) fn answer(
 ) {
     match word {
         TEXT => {
-            print_text(name, b, out);
+            print_text(rt, name, b, out);
         }
         BLOCK_LIST => {
-            if is_sound(name, b) {
-                told(print_lines(b, out));
+            if is_sound(rt, name, b) {
+                told(rt, print_lines(rt, b, out));
             }
         }
         BLOCK_TREE => {
-            if is_sound(name, b) {
-                told(trees::print(b));
+            if is_sound(rt, name, b) {
+                told(rt, trees::print(rt, b));
             }
         }
-        _ => keep_edited(word, line, name, b, out, made),
+        _ => keep_edited(rt, word, line, name, b, out, made),
     }
 }

@@ -1,9 +1,8 @@
 // Edits of a block, into a buffer that is as long as a block can be.
-use crate::notes::REFUSED;
+use crate::notes::{REFUSED, put_error, say_error};
 use crate::times::Times;
 use crate::{files, notes, refusals, times, wheres, words};
 use jkf::Figures;
-use libc::STDERR_FILENO;
 use moves::{Failed, MoveLine};
 use text::Cursor;
 
@@ -15,55 +14,56 @@ pub enum Edited {
 }
 
 // The moves of a line, on which a variation can be put: the first and the last.
-fn say_moves(b: &[u8], line: u16) -> bool {
+fn say_moves(rt: &HostRuntime, b: &[u8], line: u16) {
     let start = block::start_of(b, line) as u64;
     let first = if start == 0 { 1 } else { start };
     let past = start + block::entry_count(b, line) as u64;
-    notes::say(
-        STDERR_FILENO,
+    say_error(
+        rt,
         b"; its moves are % to %",
         first,
         notes::above(past, 1),
         0,
-    )
+    );
 }
 
 // What an edit of a block came to; where it is refused, why.
-fn made(name: &[u8], b: &[u8], f: Figures, t: Times) -> Edited {
+fn made(rt: &HostRuntime, name: &[u8], b: &[u8], f: Figures, t: Times) -> Edited {
     if f.number == 0 {
         return Edited::Block(f.first as usize, f.second, t);
     }
     if f.number != 12 {
-        refusals::tell(name, f);
+        refusals::tell(rt, name, f);
         return Edited::Refused;
     }
-    notes::head(REFUSED, name);
-    notes::say(
-        STDERR_FILENO,
+    notes::head(rt, REFUSED, name);
+    say_error(
+        rt,
         b"line of play % has no move % to put a variation at",
         f.first,
         f.second,
         0,
     );
     if f.first < 65536 {
-        say_moves(b, f.first as u16);
+        say_moves(rt, b, f.first as u16);
     }
-    refusals::end(12);
+    refusals::end(rt, 12);
     Edited::Refused
 }
 
 // Without a line, and without all that hangs from it.
-fn cut(name: &[u8], b: &[u8], line: u64, out: &mut [u8]) -> Edited {
+fn cut(rt: &HostRuntime, name: &[u8], b: &[u8], line: u64, out: &mut [u8]) -> Edited {
     if line == 0 {
-        notes::head(REFUSED, name);
-        io::write_all(
-            STDERR_FILENO,
+        notes::head(rt, REFUSED, name);
+        put_error(
+            rt,
             b"line of play 0 is the main line, which stays; a variation has a number from 1 on",
         );
-        refusals::end(10);
+        refusals::end(rt, 10);
         return Edited::Refused;
     }
     made(
+        rt,
         name,
         b,
         jkf::figures_of(edit::cut(b, line, out)),
@@ -72,44 +72,39 @@ fn cut(name: &[u8], b: &[u8], line: u64, out: &mut [u8]) -> Edited {
 }
 
 // As version 2; where it is that already, it is said so.
-fn restate(name: &[u8], b: &[u8], out: &mut [u8]) -> Edited {
+fn restate(rt: &HostRuntime, name: &[u8], b: &[u8], out: &mut [u8]) -> Edited {
     let f = jkf::figures_of(edit::restate(b, out));
     if f.number == 7 && block::sound(b) {
-        notes::head(REFUSED, name);
-        io::write_all(STDERR_FILENO, b"the block is of version 2 already");
-        refusals::end(7);
+        notes::head(rt, REFUSED, name);
+        put_error(rt, b"the block is of version 2 already");
+        refusals::end(rt, 7);
         return Edited::Refused;
     }
-    made(name, b, f, times::none())
+    made(rt, name, b, f, times::none())
 }
 
 // The number that was expected where so many entries follow a first one; the last number of 64 bits has none after it.
-fn say_expected(first: u64, count: u64) -> bool {
+fn say_expected(rt: &HostRuntime, first: u64, count: u64) {
     if u64::MAX - first < count {
-        return io::write_all(STDERR_FILENO, b", and no number is above the one before it");
+        put_error(rt, b", and no number is above the one before it");
+        return;
     }
-    notes::say(STDERR_FILENO, b", where % is expected", first + count, 0, 0)
+    say_error(rt, b", where % is expected", first + count, 0, 0);
 }
 
 // Says at which line of a text its numbers do not go up by one; and whether they do not.
-fn tell_stray(name: &[u8], text: &[u8]) -> bool {
+fn tell_stray(rt: &HostRuntime, name: &[u8], text: &[u8]) -> bool {
     let start = Cursor { at: 0 };
     let first = plays::ply(start, text);
     let x = plays::count_sequence(start, text, first);
     let MoveLine::Numbered(number, _, _) = moves::move_line(x.next, text) else {
         return false;
     };
-    notes::head(REFUSED, name);
+    notes::head(rt, REFUSED, name);
     let line = stops::line_column(text, x.next.at).line;
-    notes::say(
-        STDERR_FILENO,
-        b"line %: the move is numbered %",
-        line,
-        number,
-        0,
-    );
-    say_expected(first, x.entries as u64);
-    refusals::end(11);
+    say_error(rt, b"line %: the move is numbered %", line, number, 0);
+    say_expected(rt, first, x.entries as u64);
+    refusals::end(rt, 11);
     true
 }
 
@@ -128,64 +123,65 @@ fn fails(end: Cursor, text: &[u8]) -> Failed {
 }
 
 // Says where a text is no line of play any more, and why; and whether there is such a place.
-fn tell_reason(name: &[u8], text: &[u8]) -> bool {
+fn tell_reason(rt: &HostRuntime, name: &[u8], text: &[u8]) -> bool {
     let end = plays::count_moves(Cursor { at: 0 }, text).next;
     let Failed::At(at, reason) = fails(end, text) else {
         return false;
     };
-    let fd = notes::head(REFUSED, name);
-    wheres::say_reached(fd, text, end.at, reason, at);
+    let to = notes::head(rt, REFUSED, name);
+    let _ = wheres::say_reached(rt, to, text, end.at, reason, at);
     if end.at == 0 {
-        io::write_all(
-            fd,
+        put_error(
+            rt,
             b"; the file of a variation begins with its first move, and neither \xe5\xa4\x89\xe5\x8c\x96, \xe6\x89\x8b\xe6\x95\xb0 nor a header line stands in it",
         );
     } else {
-        io::write_all(
-            fd,
+        put_error(
+            rt,
             b"; behind the first move of a variation stand only moves and comments, and neither an empty line nor \xe3\x81\xbe\xe3\x81\xa7",
         );
     }
-    refusals::end(11);
+    refusals::end(rt, 11);
     true
 }
 
 // Says that a text is empty, too long or not UTF-8; and whether it is.
-fn tell_unread(name: &[u8], text: &[u8]) -> bool {
+fn tell_unread(rt: &HostRuntime, name: &[u8], text: &[u8]) -> bool {
     if text.len() == 0 {
-        notes::head(REFUSED, name);
-        io::write_all(STDERR_FILENO, b"the file is empty, and has no variation");
-        refusals::end(11);
+        notes::head(rt, REFUSED, name);
+        put_error(rt, b"the file is empty, and has no variation");
+        refusals::end(rt, 11);
         return true;
     }
     if 65535 < text.len() {
-        refusals::tell_at(name, text, 1, text.len() as u64, 11);
+        refusals::tell_at(rt, name, text, 1, text.len() as u64, 11);
         return true;
     }
     let n = text::well_formed(text);
     if text.len() <= n {
         return false;
     }
-    refusals::tell_at(name, text, 2, n as u64, 11);
+    refusals::tell_at(rt, name, text, 2, n as u64, 11);
     true
 }
 
 // Why a text is not one variation.
-fn tell_text(name: &[u8], text: &[u8], f: Figures) {
-    if tell_unread(name, text) {
+fn tell_text(rt: &HostRuntime, name: &[u8], text: &[u8], f: Figures) {
+    if tell_unread(rt, name, text) {
         return;
     }
-    if tell_stray(name, text) {
+    if tell_stray(rt, name, text) {
         return;
     }
-    if tell_reason(name, text) {
+    if tell_reason(rt, name, text) {
         return;
     }
-    refusals::tell(name, f);
+    refusals::tell(rt, name, f);
 }
 
 // With the variation of a text. Refusal 11 is about that text's file, all others about the block's.
 fn put_text(
+    rt: &HostRuntime,
     name: &[u8],
     b: &[u8],
     line: u64,
@@ -195,26 +191,34 @@ fn put_text(
 ) -> Edited {
     let f = jkf::figures_of(edit::put_in(b, line, text, out));
     if f.number == 11 {
-        tell_text(variation, text, f);
+        tell_text(rt, variation, text, f);
         return Edited::Refused;
     }
-    made(name, b, f, times::of_variation(text))
+    made(rt, name, b, f, times::of_variation(text))
 }
 
 // With that of the file that the third name is of, read into a buffer with room for more than a text may have, so that a longer one is refused
 // and not cut.
-fn put(name: &[u8], b: &[u8], line: u64, room: &mut [u8], out: &mut [u8]) -> Edited {
-    let mut variation = io::buffer();
-    let n = words::name(3, &mut variation);
-    let files::Got::Bytes(from, to) = files::fill(&variation[..n], true, room) else {
+fn put(
+    rt: &HostRuntime,
+    name: &[u8],
+    b: &[u8],
+    line: u64,
+    room: &mut [u8],
+    out: &mut [u8],
+) -> Edited {
+    let mut variation = [0u8; 4096];
+    let n = words::name(rt, 3, &mut variation);
+    let files::Got::Bytes(from, to) = files::fill(rt, &variation[..n], true, room) else {
         return Edited::Refused;
     };
     let text = lent::rest(lent::front(&room[0..], to), from);
-    put_text(name, b, line, &variation[..n], text, out)
+    put_text(rt, name, b, line, &variation[..n], text, out)
 }
 
 // The edit that is asked for; a variation's text is read into the room.
 pub(crate) fn make(
+    rt: &HostRuntime,
     word: usize,
     line: u64,
     name: &[u8],
@@ -223,18 +227,18 @@ pub(crate) fn make(
     out: &mut [u8],
 ) -> Edited {
     match word {
-        words::PUT | words::BLOCK_PUT => put(name, b, line, room, out),
-        words::CUT | words::BLOCK_CUT => cut(name, b, line, out),
-        _ => restate(name, b, out),
+        words::PUT | words::BLOCK_PUT => put(rt, name, b, line, room, out),
+        words::CUT | words::BLOCK_CUT => cut(rt, name, b, line, out),
+        _ => restate(rt, name, b, out),
     }
 }
 
 // Says how many times of that file were lost, where some were.
-pub(crate) fn tell_variation(t: Times) {
+pub(crate) fn tell_variation(rt: &HostRuntime, t: Times) {
     if t.lost == 0 {
         return;
     }
-    let mut variation = io::buffer();
-    let n = words::name(3, &mut variation);
-    times::tell(notes::NOTE, &variation[..n], t);
+    let mut variation = [0u8; 4096];
+    let n = words::name(rt, 3, &mut variation);
+    times::tell(rt, notes::NOTE, &variation[..n], t);
 }

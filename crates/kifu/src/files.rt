@@ -1,7 +1,12 @@
 // Files by their names; `-` is standard input.
 use crate::notes::{NOTE, REFUSED, tell};
-use crate::{quotes, words};
-use libc::{STDERR_FILENO, STDIN_FILENO};
+use crate::{notes, quotes, words};
+use std::fs::File;
+use std::io::{Cursor, Read, Write};
+use std::{fs, io};
+
+// What the system answers where there is no such file.
+const ENOENT: i32 = 2;
 
 // Where the bytes that were read begin and end in their buffer, or that reading failed.
 #[derive(Drop)]
@@ -10,65 +15,88 @@ pub enum Got {
     Failed,
 }
 
-// Says why the last call on a file failed: what is written before it leaves errno alone.
-fn fail(name: &[u8]) {
-    io::write_all(STDERR_FILENO, b"kifu: refused: ");
-    quotes::say_name(name);
-    os::fail(b"");
+// Says why a call on a file failed.
+fn fail(rt: &HostRuntime, name: &[u8], why: io::Error) {
+    notes::put_error(rt, b"kifu: refused: ");
+    quotes::say_name(rt, name);
+    notes::end_failed(rt, why);
 }
 
-// Whether a file can still be read: at its end a read answers 0, and -1 only where it fails, as of a folder.
-fn reads_on(fd: i32) -> bool {
+// A name as the library takes it: there is no file for it by one that is not UTF-8.
+fn path_of(name: &[u8]) -> io::Result<&str> {
+    match std::str::from_utf8(name) {
+        Ok(path) => Ok(path),
+        Err(_) => Err(io::Error::from_raw_os_error(ENOENT)),
+    }
+}
+
+// That a file can still be read: at its end a read answers 0, and it fails only where the file does.
+fn reads_on<R: Read>(file: &mut R) -> io::Result<()> {
     let mut more = [0u8; 1];
-    libc::read(fd, &mut more) >= 0
+    file.read(&mut more)?;
+    Ok(())
+}
+
+// Fills a buffer with the front of a file, and answers how many bytes it has.
+fn fill_from<R: Read>(file: &mut R, buf: &mut [u8]) -> io::Result<usize> {
+    let most = buf.len() as u64;
+    let n = io::copy(&mut file.by_ref().take(most), &mut Cursor::new(buf))?;
+    reads_on(file)?;
+    Ok(n as usize)
 }
 
 // Opens a file for reading.
-fn open(name: &[u8]) -> i32 {
+fn open(rt: &HostRuntime, name: &[u8]) -> io::Result<File> {
+    File::open(rt, path_of(name)?)
+}
+
+// Fills a buffer with the front of the file with a name.
+fn fill_by_name(rt: &HostRuntime, name: &[u8], buf: &mut [u8]) -> io::Result<usize> {
     if check::same(name, b"-") {
-        return STDIN_FILENO;
+        return fill_from(&mut rt.stdin(), buf);
     }
-    os::open_read(name)
+    fill_from(&mut open(rt, name)?, buf)
 }
 
 // Fills a buffer with the front of a file, which is to be a text or any; or says why it cannot.
-pub(crate) fn fill(name: &[u8], is_text: bool, buf: &mut [u8]) -> Got {
-    let fd = open(name);
-    if fd < 0 {
-        fail(name);
-        return Got::Failed;
-    }
-    let n = io::read_full(fd, buf);
-    if !reads_on(fd) {
-        fail(name);
-        return Got::Failed;
-    }
-    libc::close(fd);
+pub(crate) fn fill(rt: &HostRuntime, name: &[u8], is_text: bool, buf: &mut [u8]) -> Got {
+    let n = match fill_by_name(rt, name, buf) {
+        Ok(n) => n,
+        Err(why) => {
+            fail(rt, name, why);
+            return Got::Failed;
+        }
+    };
     if is_text {
-        return text_of(name, lent::front(&buf[0..], n));
+        return text_of(rt, name, lent::front(&buf[0..], n));
     }
     Got::Bytes(0, n)
 }
 
 // What stands at the start of a file that is no text, or that is one: 0 is nothing, 1 a block, 2 a BOM, and 3 a BOM that is to be passed. A file that is
 // too long is left to the reader, which refuses it.
-fn odd_start(s: &[u8]) -> usize {
+fn odd_start(rt: &HostRuntime, s: &[u8]) -> usize {
     if text::stands(s, 0, b"KB\x01\0") || text::stands(s, 0, b"KB\x02\0") {
         return 1;
     }
     if 65535 < s.len() || !text::stands(s, 0, b"\xef\xbb\xbf") {
         return 0;
     }
-    if words::has(words::SKIP_BOM) { 3 } else { 2 }
+    if words::has(rt, words::SKIP_BOM) {
+        3
+    } else {
+        2
+    }
 }
 
 // The part of a file that is a text.
-fn text_of(name: &[u8], s: &[u8]) -> Got {
-    let odd = odd_start(s);
+fn text_of(rt: &HostRuntime, name: &[u8], s: &[u8]) -> Got {
+    let odd = odd_start(rt, s);
     if odd == 0 {
         return Got::Bytes(0, s.len());
     }
     tell(
+        rt,
         if odd == 3 { NOTE } else { REFUSED },
         name,
         words::row(
@@ -88,35 +116,45 @@ fn text_of(name: &[u8], s: &[u8]) -> Got {
 }
 
 // Writes bytes into the new file that name k is of, or says why it cannot.
-pub(crate) fn keep(k: usize, bytes: &[u8]) -> bool {
-    let mut name = io::buffer();
-    let n = words::name(k, &mut name);
-    make(&name[..n], bytes)
+pub(crate) fn keep(rt: &HostRuntime, k: usize, bytes: &[u8]) -> bool {
+    let mut name = [0u8; 4096];
+    let n = words::name(rt, k, &mut name);
+    make(rt, &name[..n], bytes)
 }
 
 // Takes away the file that was made under name k.
-pub(crate) fn remove(k: usize) {
-    let mut name = io::buffer();
-    let n = words::name(k, &mut name);
-    os::unlink(&name[..n]);
+pub(crate) fn remove(rt: &HostRuntime, k: usize) {
+    let mut name = [0u8; 4096];
+    let n = words::name(rt, k, &mut name);
+    if let Ok(path) = path_of(&name[..n]) {
+        let _ = fs::remove_file(rt, path);
+    }
+}
+
+// Writes all of a file. The library tells no failure of closing it, so the disk is asked for before.
+fn write_through(mut file: File, bytes: &[u8]) -> io::Result<()> {
+    file.write_all(bytes)?;
+    file.sync_all()
+}
+
+// Writes a new file, all of it, or takes away what it made.
+fn write_new(rt: &HostRuntime, name: &[u8], bytes: &[u8]) -> io::Result<()> {
+    let path = path_of(name)?;
+    let file = File::options().write(true).create_new(true).open(rt, path)?;
+    let written = write_through(file, bytes);
+    if written.is_err() {
+        let _ = fs::remove_file(rt, path);
+    }
+    written
 }
 
 // Writes a new file, all of it, and answers true; or says why it cannot, and takes away what it made. A file that stands there is left alone.
-fn make(name: &[u8], bytes: &[u8]) -> bool {
-    let fd = os::create(name);
-    if fd < 0 {
-        fail(name);
-        return false;
+fn make(rt: &HostRuntime, name: &[u8], bytes: &[u8]) -> bool {
+    match write_new(rt, name, bytes) {
+        Ok(()) => true,
+        Err(why) => {
+            fail(rt, name, why);
+            false
+        }
     }
-    if !io::write_all(fd, bytes) {
-        fail(name);
-        os::unlink(name);
-        return false;
-    }
-    if libc::close(fd) < 0 {
-        fail(name);
-        os::unlink(name);
-        return false;
-    }
-    true
 }

@@ -66,9 +66,10 @@ fn written(b: &[u8], left_out: u64) -> usize
 }
 
 // Says what was lost where so many lines were left out.
-pub(crate) fn tell(name: &[u8], b: &[u8], left_out: u64) {
+pub(crate) fn tell(rt: &HostRuntime, name: &[u8], b: &[u8], left_out: u64) {
     let l = count_lost(b, written(b, left_out));
     notes::tell_some(
+        rt,
         NOTE,
         name,
         b"lines left out, from the first that starts at ply 0 on: %",
@@ -76,6 +77,7 @@ pub(crate) fn tell(name: &[u8], b: &[u8], left_out: u64) {
         0,
     );
     notes::tell_some(
+        rt,
         NOTE,
         name,
         b"marks \xe4\xb8\x8d\xe6\x88\x90 that are not written: %",
@@ -83,6 +85,7 @@ pub(crate) fn tell(name: &[u8], b: &[u8], left_out: u64) {
         0,
     );
     notes::tell_some(
+        rt,
         NOTE,
         name,
         b"hours of a move's own time that are not written: %",

@@ -1,6 +1,8 @@
 // The command-line tool: reads the file that it is given, and prints or writes what its words ask for.
 // A program has no exit status of its own. So each line on standard error begins with `kifu: refused`, `kifu: unread`, `kifu: usage` or `kifu: note`,
 // and the launcher turns them into the status.
+#![tactic(auto)]
+
 mod blocks;
 mod edits;
 mod files;
@@ -17,36 +19,39 @@ mod trees;
 mod wheres;
 mod words;
 
-use libc::STDOUT_FILENO;
+use std::io;
 use words::Numbered;
 
 // Says so where standard output did not take all, and hands that on.
-pub(crate) fn told(is_written: bool) -> bool {
-    if !is_written {
-        os::fail(b"kifu: refused: standard output");
-    }
-    is_written
+pub(crate) fn told(rt: &HostRuntime, written: io::Result<()>) -> bool {
+    let Err(why) = written else {
+        return true;
+    };
+    notes::put_error(rt, b"kifu: refused: standard output");
+    notes::end_failed(rt, why);
+    false
 }
 
 // Prints a block as a text, and says what is lost by that, if it may lose something.
-pub(crate) fn print_text(name: &[u8], b: &[u8], out: &mut [u8]) -> bool {
-    let f = jkf::figures_of(converter::write_as(b, words::mode(), out));
+pub(crate) fn print_text(rt: &HostRuntime, name: &[u8], b: &[u8], out: &mut [u8]) -> bool {
+    let f = jkf::figures_of(converter::write_as(b, words::mode(rt), out));
     if f.number != 0 {
-        refusals::tell(name, f);
+        refusals::tell(rt, name, f);
         return false;
     }
-    if !told(io::write_all(STDOUT_FILENO, lent::front(&out[0..], f.first as usize))) {
+    if !told(rt, rt.write_all(lent::front(&out[0..], f.first as usize))) {
         return false;
     }
-    if words::has(words::PLAIN) {
-        losses::tell(name, b, f.second);
+    if words::has(rt, words::PLAIN) {
+        losses::tell(rt, name, b, f.second);
     }
-    blocks::tell_nested(name, b, f.second);
+    blocks::tell_nested(rt, name, b, f.second);
     true
 }
 
 // What is asked of the bytes of a file.
 fn answer(
+    rt: &HostRuntime,
     word: usize,
     line: u64,
     entry: u64,
@@ -56,27 +61,28 @@ fn answer(
     made: &mut [u8],
 ) {
     if words::TEXT <= word {
-        blocks::answer(word, line, name, bytes, out, made);
+        blocks::answer(rt, word, line, name, bytes, out, made);
         return;
     }
     if word == words::WHERE {
-        texts::print_where(name, bytes);
+        texts::print_where(rt, name, bytes);
         return;
     }
-    texts::read(word, line, entry, name, bytes, out, made);
+    texts::read(rt, word, line, entry, name, bytes, out, made);
 }
 
 // What is asked of the file with a name: of one byte more than a text or a block may have, so that a longer one is refused and not cut. What is
 // printed has room: of a block's bytes 20 of an entry come to at most 55 of text, and all others to less at that rate, but for the position, at most
 // 2,048; the longest listing has 112,133. A block that is made has room too, as long as a block can be.
-fn obey(word: usize, line: u64, entry: u64, name: &[u8]) {
-    let mut input = io::large_buffer();
-    let files::Got::Bytes(from, to) = files::fill(name, word < words::TEXT, &mut input) else {
+fn obey(rt: &HostRuntime, word: usize, line: u64, entry: u64, name: &[u8]) {
+    let mut input = [0u8; 65536];
+    let files::Got::Bytes(from, to) = files::fill(rt, name, word < words::TEXT, &mut input) else {
         return;
     };
     let mut out = [0u8; 182000];
     let mut made = [0u8; 65535];
     answer(
+        rt,
         word,
         line,
         entry,
@@ -88,34 +94,34 @@ fn obey(word: usize, line: u64, entry: u64, name: &[u8]) {
 }
 
 // With the file that the first name is of.
-fn on_file(word: usize, line: u64, entry: u64) {
-    let mut name = io::buffer();
-    let n = words::name(1, &mut name);
-    obey(word, line, entry, &name[..n]);
+fn on_file(rt: &HostRuntime, word: usize, line: u64, entry: u64) {
+    let mut name = [0u8; 4096];
+    let n = words::name(rt, 1, &mut name);
+    obey(rt, word, line, entry, &name[..n]);
 }
 
 // With the entry that the third name numbers.
-fn on_entry(word: usize, line: u64) {
-    let Numbered::As(entry) = words::number(3, b"ENTRY") else {
+fn on_entry(rt: &HostRuntime, word: usize, line: u64) {
+    let Numbered::As(entry) = words::number(rt, 3, b"ENTRY") else {
         return;
     };
-    on_file(word, line, entry);
+    on_file(rt, word, line, entry);
 }
 
 // With the line that the second name numbers.
-fn on_line(word: usize) {
-    let Numbered::As(line) = words::number(2, b"LINE") else {
+fn on_line(rt: &HostRuntime, word: usize) {
+    let Numbered::As(line) = words::number(rt, 2, b"LINE") else {
         return;
     };
     if word == words::SHOW {
-        on_entry(word, line);
+        on_entry(rt, word, line);
         return;
     }
-    on_file(word, line, 0);
+    on_file(rt, word, line, 0);
 }
 
 // What the first word asks for, where the others are such as it takes. The rows stand in the order of the words' numbers.
-fn start(first: &[u8]) {
+fn start(rt: &HostRuntime, first: &[u8]) {
     let uses = b"list FILE [--skip-bom]\n\
                  tidy FILE [--plain] [--partial] [--skip-bom]\n\
                  block FILE OUT [--partial] [--skip-bom]\n\
@@ -131,20 +137,20 @@ fn start(first: &[u8]) {
                  block-put BLOCK LINE VARIATION OUT [--skip-bom]\n\
                  block-cut BLOCK LINE OUT\n\
                  block-tree BLOCK\n";
-    let word = words::word_of(uses, first);
-    if words::NO_WORD <= word || !words::is_used(uses, word) {
+    let word = words::word_of(rt, uses, first);
+    if words::NO_WORD <= word || !words::is_used(rt, uses, word) {
         return;
     }
     if words::takes(word, words::LINE) {
-        on_line(word);
+        on_line(rt, word);
     } else {
-        on_file(word, 0, 0);
+        on_file(rt, word, 0, 0);
     }
 }
 
 // The first word says what is asked for.
-fn main() {
-    let mut first = io::buffer();
-    let n = os::arg(1, &mut first);
-    start(&first[..n]);
+fn main(rt: HostRuntime) {
+    let mut first = [0u8; 4096];
+    let n = words::arg(&rt, 1, &mut first);
+    start(&rt, &first[..n]);
 }

@@ -1,6 +1,7 @@
 // Lines that a person reads: how they begin, and words with figures in them.
 use crate::quotes;
-use libc::{STDERR_FILENO, STDOUT_FILENO};
+use std::io;
+use std::io::{Cursor, Write};
 
 // A line of the answer, on standard output; or one on standard error, which begins with the mark of its kind, that the launcher goes by.
 pub(crate) const ANSWER: u8 = 0;
@@ -10,6 +11,13 @@ pub(crate) const NOTE: u8 = 1;
 pub(crate) const REFUSED: u8 = 2;
 
 pub(crate) const UNREAD: u8 = 3;
+
+// Where words go.
+#[derive(Clone, Copy)]
+pub enum Stream {
+    Output,
+    Errors,
+}
 
 // How far a figure is above another; 0 where it is not.
 pub(crate) fn above(x: u64, y: u64) -> u64 {
@@ -33,8 +41,31 @@ fn mark(t: &[u8]) -> usize {
     i
 }
 
-// Words with a figure in the place of each mark, of which there are three at most; and whether they were written.
-pub(crate) fn say(fd: i32, t: &[u8], x: u64, y: u64, z: u64) -> bool {
+// Writes bytes, all of them.
+pub(crate) fn put(rt: &HostRuntime, to: Stream, t: &[u8]) -> io::Result<()> {
+    match to {
+        Stream::Output => rt.write_all(t),
+        Stream::Errors => rt.stderr().write_all(t),
+    }
+}
+
+// Writes a figure.
+fn put_figure(rt: &HostRuntime, to: Stream, x: u64) -> io::Result<()> {
+    match to {
+        Stream::Output => rt.print(x),
+        Stream::Errors => rt.eprint(x),
+    }
+}
+
+// Words with a figure in the place of each mark, of which there are three at most.
+pub(crate) fn say(
+    rt: &HostRuntime,
+    to: Stream,
+    t: &[u8],
+    x: u64,
+    y: u64,
+    z: u64,
+) -> io::Result<()> {
     let mut rest = t;
     let mut a = x;
     let mut b = y;
@@ -42,25 +73,57 @@ pub(crate) fn say(fd: i32, t: &[u8], x: u64, y: u64, z: u64) -> bool {
     while k < 3 {
         let at = mark(rest);
         if rest.len() <= at {
-            return io::write_all(fd, rest);
+            return put(rt, to, rest);
         }
-        io::write_all(fd, lent::front(rest, at));
-        io::print_decimal(fd, a);
+        put(rt, to, lent::front(rest, at))?;
+        put_figure(rt, to, a)?;
         a = b;
         b = z;
         rest = lent::rest(lent::rest(rest, at), 1);
         k += 1;
     }
-    io::write_all(fd, rest)
+    put(rt, to, rest)
+}
+
+// Writes bytes on standard error: where that fails, nobody is left to be told.
+pub(crate) fn put_error(rt: &HostRuntime, t: &[u8]) {
+    let _ = put(rt, Stream::Errors, t);
+}
+
+// Words with figures there.
+pub(crate) fn say_error(rt: &HostRuntime, t: &[u8], x: u64, y: u64, z: u64) {
+    let _ = say(rt, Stream::Errors, t, x, y, z);
+}
+
+// Where the number begins that the library puts behind the system's words for a failure; else the end.
+fn number_at(t: &[u8]) -> usize {
+    for i in 0..t.len() {
+        if text::stands(t, i, b" (os error ") {
+            return i;
+        }
+    }
+    t.len()
+}
+
+// The end of a line about a call that failed: why it did.
+pub(crate) fn end_failed(rt: &HostRuntime, why: io::Error) {
+    let mut out = [0u8; 128];
+    let mut cursor = Cursor::new(&mut out[..]);
+    let _ = write!(cursor, "{why}");
+    let n = cursor.position() as usize;
+    let t = lent::front(&out, n);
+    put_error(rt, b": ");
+    put_error(rt, lent::front(t, number_at(t)));
+    put_error(rt, b"\n");
 }
 
 // The head of a line of a kind on a file; and where the line goes.
-pub(crate) fn head(kind: u8, name: &[u8]) -> i32 {
+pub(crate) fn head(rt: &HostRuntime, kind: u8, name: &[u8]) -> Stream {
     if kind == ANSWER {
-        return STDOUT_FILENO;
+        return Stream::Output;
     }
-    io::write_all(
-        STDERR_FILENO,
+    put_error(
+        rt,
         shown::table_text(
             b"                \
               \x0ckifu: note:    \
@@ -69,22 +132,22 @@ pub(crate) fn head(kind: u8, name: &[u8]) -> i32 {
             16 * (kind as usize),
         ),
     );
-    quotes::say_name(name);
-    io::write_all(STDERR_FILENO, b": ");
-    STDERR_FILENO
+    quotes::say_name(rt, name);
+    put_error(rt, b": ");
+    Stream::Errors
 }
 
 // A line of a kind on a file.
-pub(crate) fn tell(kind: u8, name: &[u8], t: &[u8], x: u64, y: u64) -> bool {
-    let fd = head(kind, name);
-    say(fd, t, x, y, 0);
-    io::write_all(fd, b"\n")
+pub(crate) fn tell(rt: &HostRuntime, kind: u8, name: &[u8], t: &[u8], x: u64, y: u64) {
+    let to = head(rt, kind, name);
+    let _ = say(rt, to, t, x, y, 0);
+    let _ = put(rt, to, b"\n");
 }
 
 // Such a line where there are some of what it tells of.
-pub(crate) fn tell_some(kind: u8, name: &[u8], t: &[u8], n: u64, y: u64) {
+pub(crate) fn tell_some(rt: &HostRuntime, kind: u8, name: &[u8], t: &[u8], n: u64, y: u64) {
     if n == 0 {
         return;
     }
-    tell(kind, name, t, n, y);
+    tell(rt, kind, name, t, n, y);
 }

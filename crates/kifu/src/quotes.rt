@@ -1,5 +1,5 @@
 // Names and words as they are told: one with control characters, or that is not UTF-8, stands as the shell reads it, $'a\x0ab'; an empty one is ''.
-use libc::STDERR_FILENO;
+use crate::notes::put_error;
 
 // Whether the byte at a place stands as it is, in a text or in what is none. The control characters past ASCII are those from C2 80 to C2 9F.
 fn is_shown(w: &[u8], at: usize, is_text: bool) -> bool {
@@ -29,44 +29,47 @@ fn first_hidden(w: &[u8], is_text: bool) -> usize {
 }
 
 // A byte between the quotes.
-fn say_byte(w: &[u8], at: usize, is_text: bool) -> bool {
+fn say_byte(rt: &HostRuntime, w: &[u8], at: usize, is_text: bool) {
     let b = lent::peek(w, at);
     if b != b'\'' && b != b'\\' {
         if is_shown(w, at, is_text) {
-            return io::write_all(STDERR_FILENO, &[b]);
+            put_error(rt, &[b]);
+            return;
         }
     }
-    io::write_all(STDERR_FILENO, b"\\x");
-    io::print_hex(STDERR_FILENO, b as u64, 2)
+    let _ = eprint!(rt; "\\x{b:02x}");
 }
 
 // All of them.
-fn say_bytes(w: &[u8], is_text: bool) {
+fn say_bytes(rt: &HostRuntime, w: &[u8], is_text: bool) {
     let mut i = 0;
     while i < w.len() {
-        say_byte(w, i, is_text);
+        say_byte(rt, w, i, is_text);
         i += 1;
     }
 }
 
 // A word.
-pub(crate) fn say_word(w: &[u8]) -> bool {
+pub(crate) fn say_word(rt: &HostRuntime, w: &[u8]) {
     let is_text = text::well_formed(w) == w.len();
     if w.len() == 0 {
-        return io::write_all(STDERR_FILENO, b"''");
+        put_error(rt, b"''");
+        return;
     }
     if w.len() <= first_hidden(w, is_text) {
-        return io::write_all(STDERR_FILENO, w);
+        put_error(rt, w);
+        return;
     }
-    io::write_all(STDERR_FILENO, b"$'");
-    say_bytes(w, is_text);
-    io::write_all(STDERR_FILENO, b"'")
+    put_error(rt, b"$'");
+    say_bytes(rt, w, is_text);
+    put_error(rt, b"'");
 }
 
 // The name of a file that is read.
-pub(crate) fn say_name(name: &[u8]) -> bool {
+pub(crate) fn say_name(rt: &HostRuntime, name: &[u8]) {
     if check::same(name, b"-") {
-        return io::write_all(STDERR_FILENO, b"standard input");
+        put_error(rt, b"standard input");
+        return;
     }
-    say_word(name)
+    say_word(rt, name);
 }

@@ -1,7 +1,9 @@
 // The words of each reason why a line cannot be read.   (02, request (ii))
+use crate::notes::{Stream, put};
 use crate::{notes, words};
 use moves::Reason;
 use spell::Spelled;
+use std::io;
 use text::Cursor;
 
 // A line without a number, and what it may be.
@@ -87,10 +89,18 @@ fn row_of(s: &[u8], taken: usize, reason: Reason, at: usize) -> usize {
 }
 
 // The words of a reason; those of the last rows have a number of lines and the first of them.
-pub(crate) fn say(fd: i32, s: &[u8], taken: usize, reason: Reason, at: usize) -> bool {
+pub(crate) fn say(
+    rt: &HostRuntime,
+    to: Stream,
+    s: &[u8],
+    taken: usize,
+    reason: Reason,
+    at: usize,
+) -> io::Result<()> {
     let row = row_of(s, taken, reason, at);
     notes::say(
-        fd,
+        rt,
+        to,
         words::row(
             b"no number: a move line begins with its number\n\
               no number: a move line begins with its number; this may be KI2\n\
@@ -114,9 +124,9 @@ pub(crate) fn say(fd: i32, s: &[u8], taken: usize, reason: Reason, at: usize) ->
         lines_from(s, taken),
         stops::line_column(s, taken).line,
         0,
-    );
+    )?;
     if s.len() <= at && row < 11 {
-        return io::write_all(fd, b"; the text ends here");
+        return put(rt, to, b"; the text ends here");
     }
-    true
+    Ok(())
 }

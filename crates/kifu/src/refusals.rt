@@ -1,28 +1,24 @@
 // The sentence of each refusal, with its figures.   (01, Numbers of refusal)
-use crate::notes::REFUSED;
+use crate::notes::{REFUSED, put_error, say_error};
 use crate::passes::Walk;
 use crate::{notes, passes, words};
 use jkf::Figures;
-use libc::STDERR_FILENO;
 use stops::{Astray, StopAnswer};
 use text::{Cursor, Place};
 
 // The end of a refusal: its number.
-pub(crate) fn end(number: u64) {
-    notes::say(STDERR_FILENO, b" (refusal %)\n", number, 0, 0);
+pub(crate) fn end(rt: &HostRuntime, number: u64) {
+    say_error(rt, b" (refusal %)\n", number, 0, 0);
 }
 
 // A count that cannot be written, of a side and of a kind, in the order of the hands.
-fn say_hand(side: u64, kind: u64) -> bool {
+fn say_hand(rt: &HostRuntime, side: u64, kind: u64) {
     let color = if side == 0 { 0 } else { 6 };
     let at = if kind < 6 { 8 * (kind as usize) } else { 48 };
-    io::write_all(
-        STDERR_FILENO,
-        shown::table_text(b"\x05Black\x05White", color),
-    );
-    io::write_all(STDERR_FILENO, b" has more than 99 ");
-    io::write_all(
-        STDERR_FILENO,
+    put_error(rt, shown::table_text(b"\x05Black\x05White", color));
+    put_error(rt, b" has more than 99 ");
+    put_error(
+        rt,
         shown::table_text(
             b"\x05pawns  \
               \x06lances \
@@ -34,7 +30,7 @@ fn say_hand(side: u64, kind: u64) -> bool {
             at,
         ),
     );
-    io::write_all(STDERR_FILENO, b" in hand, which no text can say")
+    put_error(rt, b" in hand, which no text can say");
 }
 
 // The row of a refusal in the table of sentences.
@@ -43,12 +39,13 @@ fn row_of(number: u64) -> usize {
 }
 
 // The sentences: those of 6, 8 and from 15 to 17 are made elsewhere, and that of 20 is the last.
-fn say_refusal(number: u64, x: u64, y: u64) -> bool {
+fn say_refusal(rt: &HostRuntime, number: u64, x: u64, y: u64) {
     if number == 8 {
-        return say_hand(x, y);
+        say_hand(rt, x, y);
+        return;
     }
-    notes::say(
-        STDERR_FILENO,
+    say_error(
+        rt,
         words::row(
             b"\n\
               the file has more than 65535 bytes, which are the most that can be read\n\
@@ -70,24 +67,32 @@ fn say_refusal(number: u64, x: u64, y: u64) -> bool {
         x,
         y,
         0,
-    )
+    );
 }
 
 // Says in a line why a file was refused, in the words of one refusal and with the number of another.
-fn tell_as(name: &[u8], f: Figures, number: u64) {
-    notes::head(REFUSED, name);
-    say_refusal(f.number, f.first, f.second);
-    end(number);
+fn tell_as(rt: &HostRuntime, name: &[u8], f: Figures, number: u64) {
+    notes::head(rt, REFUSED, name);
+    say_refusal(rt, f.number, f.first, f.second);
+    end(rt, number);
 }
 
 // Says in a line why a file was refused.
-pub(crate) fn tell(name: &[u8], f: Figures) {
-    tell_as(name, f, f.number);
+pub(crate) fn tell(rt: &HostRuntime, name: &[u8], f: Figures) {
+    tell_as(rt, name, f, f.number);
 }
 
 // Says in a line why a text was refused, by a place in it: its line, and the byte; in the words of one refusal and with the number of another.
-pub(crate) fn tell_at(name: &[u8], text: &[u8], words: u64, at: u64, number: u64) {
+pub(crate) fn tell_at(
+    rt: &HostRuntime,
+    name: &[u8],
+    text: &[u8],
+    words: u64,
+    at: u64,
+    number: u64,
+) {
     tell_as(
+        rt,
         name,
         Figures {
             number: words,
@@ -123,25 +128,25 @@ fn empty_line(text: &[u8], at: usize) -> u64 {
 }
 
 // Says in a line that moves hang nowhere: behind 変化 or, which is the usual cause, behind a line that was not understood.
-fn tell_astray(name: &[u8], text: &[u8], a: Astray) {
+fn tell_astray(rt: &HostRuntime, name: &[u8], text: &[u8], a: Astray) {
     let w = passes::walked(text, passes::before_moves(text).next, a.at as usize);
     let line = stops::line_column(text, a.at as usize).line;
-    let fd = notes::head(REFUSED, name);
+    notes::head(rt, REFUSED, name);
     if w.is_led && 0 < a.last {
-        notes::say(
-            fd,
+        say_error(
+            rt,
             b"the variation in line % begins at move %, but line of play %, on which it would hang, ",
             line,
             a.ply,
             a.parent,
         );
-        notes::say(fd, b"has moves % to % only", a.first, a.last, 0);
-        end(6);
+        say_error(rt, b"has moves % to % only", a.first, a.last, 0);
+        end(rt, 6);
         return;
     }
     let at = strange_line(text, w);
-    notes::say(
-        fd,
+    say_error(
+        rt,
         notes::agreeing(
             empty_line(text, at),
             b"take out line %, which is empty: ",
@@ -151,32 +156,32 @@ fn tell_astray(name: &[u8], text: &[u8], a: Astray) {
         0,
         0,
     );
-    notes::say(
-        fd,
+    say_error(
+        rt,
         b"by it the moves from line % on are taken for a variation that begins at move %, and hang nowhere",
         line,
         a.ply,
         0,
     );
-    end(6);
+    end(rt, 6);
 }
 
 // Says why reading stopped with a refusal.
-pub(crate) fn tell_stop(name: &[u8], text: &[u8], stop: StopAnswer) {
+pub(crate) fn tell_stop(rt: &HostRuntime, name: &[u8], text: &[u8], stop: StopAnswer) {
     match stop {
-        StopAnswer::TextTooLong(n) => tell_at(name, text, 1, n, 1),
-        StopAnswer::NotUtf8(n) => tell_at(name, text, 2, n, 2),
-        StopAnswer::HandLine(at) => tell_at(name, text, 3, at, 3),
-        StopAnswer::NoEntry(a) => tell_astray(name, text, a),
+        StopAnswer::TextTooLong(n) => tell_at(rt, name, text, 1, n, 1),
+        StopAnswer::NotUtf8(n) => tell_at(rt, name, text, 2, n, 2),
+        StopAnswer::HandLine(at) => tell_at(rt, name, text, 3, at, 3),
+        StopAnswer::NoEntry(a) => tell_astray(rt, name, text, a),
         StopAnswer::Stopped(_, _, _) => (),
     }
 }
 
 // Says why reading into a block was refused. That the block would be too long is all that `stop`, which fills none, cannot tell.
-pub(crate) fn tell_text(name: &[u8], text: &[u8], f: Figures) {
+pub(crate) fn tell_text(rt: &HostRuntime, name: &[u8], text: &[u8], f: Figures) {
     if f.number == 4 {
-        tell(name, f);
+        tell(rt, name, f);
         return;
     }
-    tell_stop(name, text, stops::stop(text));
+    tell_stop(rt, name, text, stops::stop(text));
 }

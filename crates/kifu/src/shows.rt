@@ -1,10 +1,10 @@
 // The position after an entry: the move that led to it and the diagram, or why there is none.   (02, request (i))
-use crate::notes::REFUSED;
+use crate::notes::{REFUSED, Stream, put, put_error, say_error};
 use crate::{notes, refusals};
 use converter::{Mode, Obstacle};
 use jkf::{Entry, Figures, Move, Origin, Position, Time};
-use libc::{STDERR_FILENO, STDOUT_FILENO};
 use positions::{After, Hindrance, Trail, Verdict};
+use std::io;
 use text::Cursor;
 
 // A number as a block has it, where none is above 65535.
@@ -24,39 +24,38 @@ fn put_line(out: &mut [u8], b: &[u8], line: u16, entry: u16, e: Entry) -> usize 
 }
 
 // The move that led to a position; nothing has landed where none did.
-fn print_led(b: &[u8], trail: Trail) -> bool {
+fn print_led(rt: &HostRuntime, b: &[u8], trail: Trail) -> io::Result<()> {
     if trail.last == 81 {
-        return io::write_all(STDOUT_FILENO, b"the start\n");
+        return rt.write_all(b"the start\n");
     }
     let line = short(trail.line);
     let entry = short(trail.entry);
     let mut out = [0u8; 128];
     let n = put_line(&mut out, b, line, entry, entry_at(b, line, entry));
     notes::say(
-        STDOUT_FILENO,
+        rt,
+        Stream::Output,
         b"line %, entry %: ",
         line as u64,
         entry as u64,
         0,
-    );
-    io::write_all(STDOUT_FILENO, lent::front(&out, n))
+    )?;
+    rt.write_all(lent::front(&out, n))
 }
 
 // A position, as a text has it.
-fn print_diagram(p: Position) -> bool {
+fn print_diagram(rt: &HostRuntime, p: Position) -> io::Result<()> {
     let mut out = [0u8; 2048];
     let n = converter::put_position_text(&mut out, p);
-    io::write_all(STDOUT_FILENO, lent::front(&out, n))
+    rt.write_all(lent::front(&out, n))
 }
 
 // The move that led to a position, and the position.
-pub(crate) fn print(b: &[u8], after: After) -> bool {
+pub(crate) fn print(rt: &HostRuntime, b: &[u8], after: After) -> io::Result<()> {
     let trail = after.trail;
-    if !print_led(b, trail) {
-        return false;
-    }
+    print_led(rt, b, trail)?;
     let position = after.position;
-    print_diagram(position)
+    print_diagram(rt, position)
 }
 
 // Where the words of a hindrance begin in their table.
@@ -75,9 +74,9 @@ fn words_of(h: Hindrance) -> usize {
 }
 
 // Why a move stops the play: rows of 56 bytes.
-fn say_hindrance(h: Hindrance) -> bool {
-    io::write_all(
-        STDERR_FILENO,
+fn say_hindrance(rt: &HostRuntime, h: Hindrance) {
+    put_error(
+        rt,
         shown::table_text(
             b"\x21\xe5\x90\x8c stands with no move before it                      \
               \x1aits place is off the board                             \
@@ -90,7 +89,7 @@ fn say_hindrance(h: Hindrance) -> bool {
               \x22a piece stands where it is dropped                     ",
             words_of(h),
         ),
-    )
+    );
 }
 
 // An entry without its time.
@@ -111,59 +110,67 @@ fn untimed(e: Entry) -> Entry {
 }
 
 // A line without the blanks before it and the break behind it.
-fn say_bare(fd: i32, t: &[u8]) -> bool {
+fn say_bare(rt: &HostRuntime, to: Stream, t: &[u8]) -> io::Result<()> {
     let at = Cursor { at: 0 }.blanks(t).at;
     if t.len() <= at {
-        return true;
+        return Ok(());
     }
-    io::write_all(fd, &t[at..t.len() - 1])
+    put(rt, to, &t[at..t.len() - 1])
 }
 
 // The number and the move of an entry.
-pub(crate) fn say_move(fd: i32, b: &[u8], line: u16, entry: u16) -> bool {
+pub(crate) fn say_move(
+    rt: &HostRuntime,
+    to: Stream,
+    b: &[u8],
+    line: u16,
+    entry: u16,
+) -> io::Result<()> {
     let mut out = [0u8; 128];
     let n = put_line(&mut out, b, line, entry, untimed(entry_at(b, line, entry)));
-    say_bare(fd, lent::front(&out, n))
+    say_bare(rt, to, lent::front(&out, n))
 }
 
 // What stands on a cell: rows of the kinds, with 16 added for White.
-fn say_cell(cell: u8) -> bool {
+fn say_cell(rt: &HostRuntime, cell: u8) {
     if cell == 0 {
-        return io::write_all(STDERR_FILENO, b"; nothing stands there");
+        put_error(rt, b"; nothing stands there");
+        return;
     }
     let mut out = [0u8; 8];
     let n = spell::put_kind(&mut out, cell % 16);
-    io::write_all(STDERR_FILENO, b"; there stands ");
-    io::write_all(STDERR_FILENO, lent::front(&out, n));
+    put_error(rt, b"; there stands ");
+    put_error(rt, lent::front(&out, n));
     if cell < 16 {
-        return io::write_all(STDERR_FILENO, b" of Black");
+        put_error(rt, b" of Black");
+        return;
     }
-    io::write_all(STDERR_FILENO, b" of White")
+    put_error(rt, b" of White");
 }
 
 // What stands on a square after an entry, which is one that play comes past.
-fn say_square(b: &[u8], line: u64, entry: u64, x: u8, y: u8) -> bool {
+fn say_square(rt: &HostRuntime, b: &[u8], line: u64, entry: u64, x: u8, y: u8) {
     let after = positions::position_after(b, line, entry);
     let position = after.position;
     let cells = position.cells;
     let at = 9 * (x as usize) + y as usize;
     if at < 10 {
-        return true;
+        return;
     }
     if 90 < at {
-        return true;
+        return;
     }
-    say_cell(cells[at - 10])
+    say_cell(rt, cells[at - 10]);
 }
 
 // What stands where a move comes from, if it is not the first of its line.
-fn say_there(b: &[u8], line: u16, entry: u16) -> bool {
+fn say_there(rt: &HostRuntime, b: &[u8], line: u16, entry: u16) {
     let Entry::Moved(m) = entry_at(b, line, entry) else {
-        return true;
+        return;
     };
     let from = m.from;
     let Origin::From(x, y) = from else {
-        return true;
+        return;
     };
     if entry == 0 {
         let parent = block::parent_of(b, line);
@@ -172,58 +179,59 @@ fn say_there(b: &[u8], line: u16, entry: u16) -> bool {
             block::start_of(b, short(parent)) as u64,
         );
         if hung == 0 {
-            return true;
+            return;
         }
-        return say_square(b, parent as u64, hung - 1, x, y);
+        say_square(rt, b, parent as u64, hung - 1, x, y);
+        return;
     }
-    say_square(b, line as u64, entry as u64 - 1, x, y)
+    say_square(rt, b, line as u64, entry as u64 - 1, x, y);
 }
 
 // Says in a line at which move play stops, and why.
-fn tell_stop(name: &[u8], b: &[u8], trail: Trail, h: Hindrance) {
-    notes::head(REFUSED, name);
-    notes::say(
-        STDERR_FILENO,
+fn tell_stop(rt: &HostRuntime, name: &[u8], b: &[u8], trail: Trail, h: Hindrance) {
+    notes::head(rt, REFUSED, name);
+    say_error(
+        rt,
         b"play stops at line of play %, entry % (",
         trail.line as u64,
         trail.entry as u64,
         0,
     );
-    say_move(STDERR_FILENO, b, short(trail.line), short(trail.entry));
-    io::write_all(STDERR_FILENO, b"): ");
-    say_hindrance(h);
+    let _ = say_move(rt, Stream::Errors, b, short(trail.line), short(trail.entry));
+    put_error(rt, b"): ");
+    say_hindrance(rt, h);
     if let Hindrance::NotThere = h {
-        say_there(b, short(trail.line), short(trail.entry));
+        say_there(rt, b, short(trail.line), short(trail.entry));
     }
-    refusals::end(17);
+    refusals::end(rt, 17);
 }
 
 // Says that the handicap with a number has no diagram to play from.
-fn tell_start(name: &[u8], preset: u64) {
+fn tell_start(rt: &HostRuntime, name: &[u8], preset: u64) {
     let mut out = [0u8; 16];
     let n = spell::put_preset(&mut out, if preset < 17 { preset as u8 } else { 0 });
-    notes::head(REFUSED, name);
-    io::write_all(STDERR_FILENO, b"the handicap is ");
-    io::write_all(STDERR_FILENO, lent::front(&out, n));
-    io::write_all(
-        STDERR_FILENO,
+    notes::head(rt, REFUSED, name);
+    put_error(rt, b"the handicap is ");
+    put_error(rt, lent::front(&out, n));
+    put_error(
+        rt,
         b", and the file has no diagram; a game is played only from \xe5\xb9\xb3\xe6\x89\x8b or from a diagram",
     );
-    refusals::end(15);
+    refusals::end(rt, 15);
 }
 
 // Says that a line has no such entry, and which is its last.
-fn tell_entry(name: &[u8], b: &[u8], line: u64, entry: u64) {
+fn tell_entry(rt: &HostRuntime, name: &[u8], b: &[u8], line: u64, entry: u64) {
     let k = if line < 65536 { line as u16 } else { 0 };
-    notes::head(REFUSED, name);
-    notes::say(
-        STDERR_FILENO,
+    notes::head(rt, REFUSED, name);
+    say_error(
+        rt,
         b"line of play % has no entry %; its entries are 0 to %",
         line,
         entry,
         notes::above(block::entry_count(b, k) as u64, 1),
     );
-    refusals::end(16);
+    refusals::end(rt, 16);
 }
 
 // The refusal of a position whose hands cannot be written, and else that of the answer.
@@ -241,11 +249,11 @@ fn figures_of(after: After) -> Figures {
 }
 
 // Says in a line why there is no position to print; and whether there is none.
-pub(crate) fn tell(name: &[u8], b: &[u8], after: After) -> bool {
+pub(crate) fn tell(rt: &HostRuntime, name: &[u8], b: &[u8], after: After) -> bool {
     let trail = after.trail;
     let how = trail.how;
     if let Verdict::Stops(h) = how {
-        tell_stop(name, b, trail, h);
+        tell_stop(rt, name, b, trail, h);
         return true;
     }
     let f = figures_of(after);
@@ -253,15 +261,15 @@ pub(crate) fn tell(name: &[u8], b: &[u8], after: After) -> bool {
     match number {
         0 => false,
         15 => {
-            tell_start(name, f.first);
+            tell_start(rt, name, f.first);
             true
         }
         16 => {
-            tell_entry(name, b, f.first, f.second);
+            tell_entry(rt, name, b, f.first, f.second);
             true
         }
         _ => {
-            refusals::tell(name, f);
+            refusals::tell(rt, name, f);
             true
         }
     }

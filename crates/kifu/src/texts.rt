@@ -1,10 +1,10 @@
 // What is asked of a KIF text.
 use crate::edits::Edited;
-use crate::notes::{ANSWER, NOTE, REFUSED, UNREAD};
+use crate::notes::{ANSWER, NOTE, REFUSED, Stream, UNREAD};
 use crate::{
     edits, files, notes, passes, print_text, refusals, shows, times, told, trees, wheres, words,
 };
-use libc::STDOUT_FILENO;
+use std::io;
 use stops::StopAnswer;
 
 // How many lines of a text the first bytes have.
@@ -51,16 +51,17 @@ fn led_by(s: &[u8], b: u8) -> Led {
 }
 
 // Says what a person may not expect of a text that was read: it has no moves, or a diagram that was not understood.
-fn tell_doubts(kind: u8, name: &[u8], s: &[u8], b: &[u8]) {
+fn tell_doubts(rt: &HostRuntime, kind: u8, name: &[u8], s: &[u8], b: &[u8]) {
     if s.len() == 0 {
-        notes::tell(kind, name, b"the file is empty", 0, 0);
+        notes::tell(rt, kind, name, b"the file is empty", 0, 0);
     }
     if block::moves_in(b) == 1 {
-        notes::tell(kind, name, b"no move was read", 0, 0);
+        notes::tell(rt, kind, name, b"no move was read", 0, 0);
     }
     let bars = led_by(s, b'|');
     if 0 < bars.count && block::position_of(b).board == 0 {
         notes::tell(
+            rt,
             kind,
             name,
             b"line %: this looks like a diagram that cannot be read; the game starts from \xe5\xb9\xb3\xe6\x89\x8b or a handicap",
@@ -71,31 +72,34 @@ fn tell_doubts(kind: u8, name: &[u8], s: &[u8], b: &[u8]) {
 }
 
 // Says what was left of a text that was read, and what was passed over in it; and whether moves were passed over.
-fn tell_read(kind: u8, name: &[u8], s: &[u8], b: &[u8]) -> bool {
-    wheres::tell_left(kind, name, s);
-    let is_hiding = passes::tell(kind, name, s, passes::before_moves(s).next);
-    tell_doubts(kind, name, s, b);
+fn tell_read(rt: &HostRuntime, kind: u8, name: &[u8], s: &[u8], b: &[u8]) -> bool {
+    wheres::tell_left(rt, kind, name, s);
+    let is_hiding = passes::tell(rt, kind, name, s, passes::before_moves(s).next);
+    tell_doubts(rt, kind, name, s, b);
     is_hiding
 }
 
 // Prints how much of a text was taken, and what it holds.
-fn print_counts(s: &[u8], taken: usize, b: &[u8]) -> bool {
+fn print_counts(rt: &HostRuntime, s: &[u8], taken: usize, b: &[u8]) -> io::Result<()> {
     notes::say(
-        STDOUT_FILENO,
+        rt,
+        Stream::Output,
         b"lines read: % of %",
         lines_of(s, taken),
         lines_of(s, s.len()),
         0,
-    );
+    )?;
     notes::say(
-        STDOUT_FILENO,
+        rt,
+        Stream::Output,
         b" (% of % bytes)\n",
         taken as u64,
         s.len() as u64,
         0,
-    );
+    )?;
     notes::say(
-        STDOUT_FILENO,
+        rt,
+        Stream::Output,
         b"lines of play: %, moves and endings: %\n",
         block::lines_in(b) as u64,
         notes::above(block::moves_in(b) as u64, 1),
@@ -104,11 +108,17 @@ fn print_counts(s: &[u8], taken: usize, b: &[u8]) -> bool {
 }
 
 // Prints the answer to `check`: that, and what no text keeps.
-fn print_check(name: &[u8], s: &[u8], taken: usize, b: &[u8], lost: u64) -> bool {
-    if !print_counts(s, taken, b) {
-        return false;
-    }
+fn print_check(
+    rt: &HostRuntime,
+    name: &[u8],
+    s: &[u8],
+    taken: usize,
+    b: &[u8],
+    lost: u64,
+) -> io::Result<()> {
+    print_counts(rt, s, taken, b)?;
     notes::tell_some(
+        rt,
         ANSWER,
         name,
         b"lines that begin with #, which are not kept: %",
@@ -116,6 +126,7 @@ fn print_check(name: &[u8], s: &[u8], taken: usize, b: &[u8], lost: u64) -> bool
         0,
     );
     notes::tell_some(
+        rt,
         ANSWER,
         name,
         b"header lines whose key stands again below, which are not kept: %",
@@ -125,88 +136,99 @@ fn print_check(name: &[u8], s: &[u8], taken: usize, b: &[u8], lost: u64) -> bool
         ),
         0,
     );
-    if tell_read(ANSWER, name, s, b) {
-        notes::tell(UNREAD, name, b"moves were passed over", 0, 0);
+    if tell_read(rt, ANSWER, name, s, b) {
+        notes::tell(rt, UNREAD, name, b"moves were passed over", 0, 0);
     }
-    times::tell(ANSWER, name, times::of_text(s, lost));
-    true
+    times::tell(rt, ANSWER, name, times::of_text(s, lost));
+    Ok(())
 }
 
 // Prints bytes taken and block length.
-fn print_read(taken: u64, len: u64) -> bool {
+fn print_read(rt: &HostRuntime, taken: u64, len: u64) -> io::Result<()> {
     let mut out = [0u8; 128];
     let n = shown::put_read(&mut out, taken, len);
-    io::write_all(STDOUT_FILENO, lent::front(&out, n))
+    rt.write_all(lent::front(&out, n))
 }
 
 // Prints the listing of a block.
-fn print_listing(taken: u64, b: &[u8], out: &mut [u8]) -> bool {
+fn print_listing(rt: &HostRuntime, taken: u64, b: &[u8], out: &mut [u8]) -> io::Result<()> {
     let n = shown::put_listing(out, taken, b);
-    io::write_all(STDOUT_FILENO, lent::front(&out[0..], n))
+    rt.write_all(lent::front(&out[0..], n))
 }
 
 // Writes a block into the new file that the second name is of, and prints how long it is; without that the file goes again.
-fn keep(taken: u64, b: &[u8]) {
-    if !files::keep(2, b) {
+fn keep(rt: &HostRuntime, taken: u64, b: &[u8]) {
+    if !files::keep(rt, 2, b) {
         return;
     }
-    if !told(print_read(taken, b.len() as u64)) {
-        files::remove(2);
+    if !told(rt, print_read(rt, taken, b.len() as u64)) {
+        files::remove(rt, 2);
     }
 }
 
 // Prints a block as a text once it is edited. The edit is done before anything is printed, so both use one buffer.
-fn print_edited(word: usize, line: u64, name: &[u8], b: &[u8], out: &mut [u8]) {
+fn print_edited(rt: &HostRuntime, word: usize, line: u64, name: &[u8], b: &[u8], out: &mut [u8]) {
     let mut edited = [0u8; 65535];
-    let Edited::Block(n, second, times) = edits::make(word, line, name, b, out, &mut edited) else {
+    let Edited::Block(n, second, times) = edits::make(rt, word, line, name, b, out, &mut edited)
+    else {
         return;
     };
-    if !print_text(name, lent::front(&edited, n), out) {
+    if !print_text(rt, name, lent::front(&edited, n), out) {
         return;
     }
-    edits::tell_variation(times);
+    edits::tell_variation(rt, times);
     if word == words::CUT {
-        notes::tell(NOTE, name, b"lines of play cut out: %", second, 0);
+        notes::tell(rt, NOTE, name, b"lines of play cut out: %", second, 0);
     }
 }
 
 // Prints the position after an entry, or says why there is none.
-fn print_position(name: &[u8], b: &[u8], line: u64, entry: u64) {
+fn print_position(rt: &HostRuntime, name: &[u8], b: &[u8], line: u64, entry: u64) {
     let after = positions::position_after(b, line, entry);
-    if shows::tell(name, b, after) {
+    if shows::tell(rt, name, b, after) {
         return;
     }
-    told(shows::print(b, after));
+    told(rt, shows::print(rt, b, after));
 }
 
 // What is asked of a text that was read into a block, but for `check`. Two calls keep what an edit needs of the stack apart from this function's.
-fn give(word: usize, line: u64, entry: u64, name: &[u8], taken: u64, b: &[u8], out: &mut [u8]) {
+fn give(
+    rt: &HostRuntime,
+    word: usize,
+    line: u64,
+    entry: u64,
+    name: &[u8],
+    taken: u64,
+    b: &[u8],
+    out: &mut [u8],
+) {
     match word {
         words::LIST => {
-            told(print_listing(taken, b, out));
+            told(rt, print_listing(rt, taken, b, out));
         }
-        words::BLOCK => keep(taken, b),
-        words::PUT => print_edited(word, line, name, b, out),
-        words::CUT => print_edited(word, line, name, b, out),
-        words::SHOW => print_position(name, b, line, entry),
+        words::BLOCK => keep(rt, taken, b),
+        words::PUT => print_edited(rt, word, line, name, b, out),
+        words::CUT => print_edited(rt, word, line, name, b, out),
+        words::SHOW => print_position(rt, name, b, line, entry),
         words::TREE => {
-            told(trees::print(b));
+            told(rt, trees::print(rt, b));
         }
         _ => {
-            print_text(name, b, out);
+            print_text(rt, name, b, out);
         }
     }
 }
 
 // Says that lines were passed over that are moves, or that may be, since no other move was read; and whether it is so.
-fn tell_passed(name: &[u8], s: &[u8], b: &[u8]) -> bool {
+fn tell_passed(rt: &HostRuntime, name: &[u8], s: &[u8], b: &[u8]) -> bool {
     let from = passes::before_moves(s).next;
     let w = passes::walked(s, from, s.len());
     if w.hidden == 0 && (w.odd == 0 || block::moves_in(b) != 1) {
         return false;
     }
-    passes::tell(REFUSED, name, s, from);
+    passes::tell(rt, REFUSED, name, s, from);
     notes::tell(
+        rt,
         NOTE,
         name,
         b"nothing was done, since moves would be lost; --partial goes on without them",
@@ -217,15 +239,16 @@ fn tell_passed(name: &[u8], s: &[u8], b: &[u8]) -> bool {
 }
 
 // Says what a word that writes would lose of a text; and whether there is such a thing.
-fn tell_loss(name: &[u8], s: &[u8], b: &[u8]) -> bool {
-    if wheres::tell_left(REFUSED, name, s) {
+fn tell_loss(rt: &HostRuntime, name: &[u8], s: &[u8], b: &[u8]) -> bool {
+    if wheres::tell_left(rt, REFUSED, name, s) {
         return true;
     }
-    tell_passed(name, s, b)
+    tell_passed(rt, name, s, b)
 }
 
 // Reads a text into a block, does what is asked of it and tells the rest; of times that were lost a listing has none to show.
 pub(crate) fn read(
+    rt: &HostRuntime,
     word: usize,
     line: u64,
     entry: u64,
@@ -238,32 +261,35 @@ pub(crate) fn read(
     let a = r.answer;
     let f = jkf::figures_of(a);
     if f.number != 0 {
-        refusals::tell_text(name, text, f);
+        refusals::tell_text(rt, name, text, f);
         return;
     }
     let b = lent::front(&made[0..], f.second as usize);
     if word == words::CHECK {
-        told(print_check(name, text, f.first as usize, b, r.lost));
+        told(rt, print_check(rt, name, text, f.first as usize, b, r.lost));
         return;
     }
-    if words::wants_all(word) && tell_loss(name, text, b) {
+    if words::wants_all(rt, word) && tell_loss(rt, name, text, b) {
         return;
     }
-    give(word, line, entry, name, f.first, b, out);
-    tell_read(NOTE, name, text, b);
+    give(rt, word, line, entry, name, f.first, b, out);
+    tell_read(rt, NOTE, name, text, b);
     if word != words::LIST {
-        times::tell(NOTE, name, times::of_text(text, r.lost));
+        times::tell(rt, NOTE, name, times::of_text(text, r.lost));
     }
 }
 
 // Prints where reading of a text stopped, or says why the text is refused.
-pub(crate) fn print_where(name: &[u8], text: &[u8]) {
+pub(crate) fn print_where(rt: &HostRuntime, name: &[u8], text: &[u8]) {
     let stop = stops::stop(text);
     let StopAnswer::Stopped(taken, reason, at) = stop else {
-        refusals::tell_stop(name, text, stop);
+        refusals::tell_stop(rt, name, text, stop);
         return;
     };
-    if told(wheres::print(name, text, taken as usize, reason, at as usize)) {
-        passes::tell(ANSWER, name, text, passes::before_moves(text).next);
+    if told(
+        rt,
+        wheres::print(rt, name, text, taken as usize, reason, at as usize),
+    ) {
+        passes::tell(rt, ANSWER, name, text, passes::before_moves(text).next);
     }
 }

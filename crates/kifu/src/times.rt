@@ -88,8 +88,9 @@ pub(crate) fn of_text(text: &[u8], lost: u64) -> Times {
 }
 
 // Says so where some were lost.
-pub(crate) fn tell(kind: u8, name: &[u8], t: Times) {
+pub(crate) fn tell(rt: &HostRuntime, kind: u8, name: &[u8], t: Times) {
     notes::tell_some(
+        rt,
         kind,
         name,
         b"times too large to read: %, the first in line %",

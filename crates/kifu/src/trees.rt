@@ -1,8 +1,9 @@
 // The lines of play as a tree: each below the one that it hangs on, by its first moves.
 ghost use Rattle.std.specs.Prelude.{◌≤◌};
 
+use crate::notes::Stream;
 use crate::{notes, shows};
-use libc::STDOUT_FILENO;
+use std::io;
 
 // How deep a line hangs, of the first 12 steps up.
 fn depth(b: &[u8], k: u16) -> usize
@@ -40,68 +41,65 @@ fn are_commented(b: &[u8], k: u16, from: u16, to: u16) -> bool {
 }
 
 // The mark of a comment.
-fn print_mark(is_there: bool) {
+fn print_mark(rt: &HostRuntime, is_there: bool) -> io::Result<()> {
     if is_there {
-        io::write_all(STDOUT_FILENO, b"*");
+        return rt.write_all(b"*");
     }
+    Ok(())
 }
 
 // An entry of a line.
-fn print_entry(b: &[u8], k: u16, entry: u16) {
-    io::write_all(STDOUT_FILENO, b"  ");
-    shows::say_move(STDOUT_FILENO, b, k, entry);
-    print_mark(is_commented(b, k, entry));
+fn print_entry(rt: &HostRuntime, b: &[u8], k: u16, entry: u16) -> io::Result<()> {
+    rt.write_all(b"  ")?;
+    shows::say_move(rt, Stream::Output, b, k, entry)?;
+    print_mark(rt, is_commented(b, k, entry))
 }
 
 // How far a line goes whose other entries are not shown, marked where one of them is.
-fn print_last(b: &[u8], k: u16, from: u16, count: u16) {
+fn print_last(rt: &HostRuntime, b: &[u8], k: u16, from: u16, count: u16) -> io::Result<()> {
     let past = block::start_of(b, k) as u64 + count as u64;
-    notes::say(STDOUT_FILENO, b"  .. %", notes::above(past, 1), 0, 0);
-    print_mark(are_commented(b, k, from, count));
+    notes::say(rt, Stream::Output, b"  .. %", notes::above(past, 1), 0, 0)?;
+    print_mark(rt, are_commented(b, k, from, count))
 }
 
 // The first three entries of a line from one on, and how far it goes.
-fn print_entries(b: &[u8], k: u16, from: u16) {
+fn print_entries(rt: &HostRuntime, b: &[u8], k: u16, from: u16) -> io::Result<()> {
     let count = shows::short(block::entry_count(b, k));
     let mut i = from;
     let mut left: u8 = 3;
     while i < count {
         if left == 0 {
-            print_last(b, k, i, count);
-            return;
+            return print_last(rt, b, k, i, count);
         }
-        print_entry(b, k, i);
+        print_entry(rt, b, k, i)?;
         left -= 1;
         i += 1;
     }
+    Ok(())
 }
 
 // A line; the comments that stand before the first move are those of the main line's first entry.
-fn print_line(b: &[u8], k: u16) -> bool {
-    io::write_all(
-        STDOUT_FILENO,
-        lent::front(b"                        ", 2 * depth(b, k)),
-    );
-    notes::say(STDOUT_FILENO, b"line %:", k as u64, 0, 0);
+fn print_line(rt: &HostRuntime, b: &[u8], k: u16) -> io::Result<()> {
+    rt.write_all(lent::front(b"                        ", 2 * depth(b, k)))?;
+    notes::say(rt, Stream::Output, b"line %:", k as u64, 0, 0)?;
     if k != 0 {
-        print_entries(b, k, 0);
+        print_entries(rt, b, k, 0)?;
     } else {
         if is_commented(b, k, 0) {
-            io::write_all(STDOUT_FILENO, b"  start*");
+            rt.write_all(b"  start*")?;
         }
-        print_entries(b, k, 1);
+        print_entries(rt, b, k, 1)?;
     }
-    io::write_all(STDOUT_FILENO, b"\n")
+    rt.write_all(b"\n")
 }
 
-// All of them; and whether they were written.
-pub(crate) fn print(b: &[u8]) -> bool {
+// All of them.
+pub(crate) fn print(rt: &HostRuntime, b: &[u8]) -> io::Result<()> {
     let lines = shows::short(block::lines_in(b));
-    let mut is_written = true;
     let mut k = 0;
     while k < lines {
-        is_written = print_line(b, k);
+        print_line(rt, b, k)?;
         k += 1;
     }
-    is_written
+    Ok(())
 }

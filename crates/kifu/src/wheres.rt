@@ -1,8 +1,8 @@
 // Where reading stopped: in lines of the answer, in notes, or in a refusal.   (02, request (ii))
-use crate::notes::{ANSWER, NOTE, REFUSED, UNREAD};
+use crate::notes::{ANSWER, NOTE, REFUSED, Stream, UNREAD, put};
 use crate::{notes, reasons};
-use libc::STDOUT_FILENO;
 use moves::Reason;
+use std::io;
 use stops::StopAnswer;
 
 // How many bytes of a text were not taken.
@@ -11,18 +11,34 @@ fn left(s: &[u8], taken: usize) -> u64 {
 }
 
 // The place that was reached, and why no further one was.
-pub(crate) fn say_reached(fd: i32, s: &[u8], taken: usize, reason: Reason, at: usize) -> bool {
+pub(crate) fn say_reached(
+    rt: &HostRuntime,
+    to: Stream,
+    s: &[u8],
+    taken: usize,
+    reason: Reason,
+    at: usize,
+) -> io::Result<()> {
     let x = stops::line_column(s, at);
-    notes::say(fd, b"line %, column %: ", x.line, x.column, 0);
-    reasons::say(fd, s, taken, reason, at)
+    notes::say(rt, to, b"line %, column %: ", x.line, x.column, 0)?;
+    reasons::say(rt, to, s, taken, reason, at)
 }
 
 // The first byte not taken and how many were not; and the place that was reached.
-fn tell_rest(kind: u8, name: &[u8], s: &[u8], taken: usize, reason: Reason, at: usize) -> bool {
+fn tell_rest(
+    rt: &HostRuntime,
+    kind: u8,
+    name: &[u8],
+    s: &[u8],
+    taken: usize,
+    reason: Reason,
+    at: usize,
+) -> io::Result<()> {
     let n = left(s, taken);
-    let fd = notes::head(kind, name);
+    let to = notes::head(rt, kind, name);
     notes::say(
-        fd,
+        rt,
+        to,
         notes::agreeing(
             n,
             b"stopped before byte %, line %; % byte was not taken\n",
@@ -31,10 +47,10 @@ fn tell_rest(kind: u8, name: &[u8], s: &[u8], taken: usize, reason: Reason, at: 
         taken as u64,
         stops::line_column(s, taken).line,
         n,
-    );
-    notes::head(kind, name);
-    say_reached(fd, s, taken, reason, at);
-    io::write_all(fd, b"\n")
+    )?;
+    notes::head(rt, kind, name);
+    say_reached(rt, to, s, taken, reason, at)?;
+    put(rt, to, b"\n")
 }
 
 // A blank or a byte of a break.
@@ -72,9 +88,10 @@ fn is_missed(s: &[u8], taken: usize, reason: Reason) -> bool {
 }
 
 // Says what comes of it that something is missed from a line on: the answer to `check` is not the whole, and of a refusal how to go on.
-fn tell_missed(kind: u8, name: &[u8], line: u64) {
+fn tell_missed(rt: &HostRuntime, kind: u8, name: &[u8], line: u64) {
     if kind == ANSWER {
         notes::tell(
+            rt,
             UNREAD,
             name,
             b"from line % on the file was not read",
@@ -84,6 +101,7 @@ fn tell_missed(kind: u8, name: &[u8], line: u64) {
     }
     if kind == REFUSED {
         notes::tell(
+            rt,
             NOTE,
             name,
             b"nothing was done, since what stands from line % on would be lost; --partial goes on with what was read",
@@ -94,19 +112,20 @@ fn tell_missed(kind: u8, name: &[u8], line: u64) {
 }
 
 // Says what was left of a text, in lines of a kind; and whether something is missed by it. Else a note tells how long it is.
-pub(crate) fn tell_left(kind: u8, name: &[u8], s: &[u8]) -> bool {
+pub(crate) fn tell_left(rt: &HostRuntime, kind: u8, name: &[u8], s: &[u8]) -> bool {
     let StopAnswer::Stopped(to, reason, at) = stops::stop(s) else {
         return false;
     };
     let taken = to as usize;
     let line = stops::line_column(s, taken).line;
     if is_missed(s, taken, reason) {
-        tell_rest(kind, name, s, taken, reason, at as usize);
-        tell_missed(kind, name, line);
+        let _ = tell_rest(rt, kind, name, s, taken, reason, at as usize);
+        tell_missed(rt, kind, name, line);
         return true;
     }
     if kind == NOTE {
         notes::tell_some(
+            rt,
             NOTE,
             name,
             b"bytes at the end that were not read: %, from line % on",
@@ -118,10 +137,18 @@ pub(crate) fn tell_left(kind: u8, name: &[u8], s: &[u8]) -> bool {
 }
 
 // Where reading stopped, in full.
-pub(crate) fn print(name: &[u8], s: &[u8], taken: usize, reason: Reason, at: usize) -> bool {
+pub(crate) fn print(
+    rt: &HostRuntime,
+    name: &[u8],
+    s: &[u8],
+    taken: usize,
+    reason: Reason,
+    at: usize,
+) -> io::Result<()> {
     if s.len() <= taken {
         return notes::say(
-            STDOUT_FILENO,
+            rt,
+            Stream::Output,
             b"all % bytes were taken\n",
             s.len() as u64,
             0,
@@ -130,12 +157,13 @@ pub(crate) fn print(name: &[u8], s: &[u8], taken: usize, reason: Reason, at: usi
     }
     if is_empty(lent::rest(s, taken)) {
         return notes::say(
-            STDOUT_FILENO,
+            rt,
+            Stream::Output,
             b"nothing is missing: only blanks and breaks are left, from byte %, line % on\n",
             taken as u64,
             stops::line_column(s, taken).line,
             0,
         );
     }
-    tell_rest(ANSWER, name, s, taken, reason, at)
+    tell_rest(rt, ANSWER, name, s, taken, reason, at)
 }

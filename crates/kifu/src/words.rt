@@ -1,10 +1,10 @@
 // The words that the tool is told by, and how it is used.
-ghost use Rattle.std.specs.Prelude.{◌≤◌};
-ghost use Rattle.io.specs.Counts.{IsPrefixLen};
+ghost use Rattle.std.specs.Prelude.{◌≡◌, ◌≤◌, length, take};
 
+use crate::notes::put_error;
 use crate::quotes;
 use converter::Mode;
-use libc::STDERR_FILENO;
+use std::env::{Env, FillError};
 use text::{Cursor, Number, Place};
 
 // What is asked for: rows of the tables below. From TEXT on the file that is named first is a block's.
@@ -58,6 +58,26 @@ pub enum Numbered {
     NoNumber,
 }
 
+// Puts word i of the command line at the start of a buffer, and answers how long it is; 0 where there is none, or no room for it.
+pub(crate) fn arg(rt: &HostRuntime, i: usize, w: &mut [u8]) -> usize
+    ensures { (result ≤ length w.new) × (result ≡ length (take result w.new)) }
+{
+    match rt.arg(i, w) {
+        Ok(n) => n,
+        Err(_) => 0,
+    }
+}
+
+// How many words the command line has, the program's name among them.
+fn arg_count(rt: &HostRuntime) -> usize {
+    for i in 0..usize::MAX {
+        if let Err(FillError::NotPresent) = rt.arg(i, &mut []) {
+            return i;
+        }
+    }
+    usize::MAX
+}
+
 // Which flag a word is; 0 for a name.
 fn flag_of(w: &[u8]) -> u8 {
     if !text::stands(w, 0, b"--") {
@@ -76,18 +96,18 @@ fn flag_of(w: &[u8]) -> u8 {
 }
 
 // Which flag the word at a place is.
-fn flag_at(i: usize) -> u8 {
-    let mut w = io::buffer();
-    let n = os::arg(i, &mut w);
+fn flag_at(rt: &HostRuntime, i: usize) -> u8 {
+    let mut w = [0u8; 4096];
+    let n = arg(rt, i, &mut w);
     flag_of(&w[..n])
 }
 
 // Whether a flag stands behind the first word.
-pub(crate) fn has(flag: u8) -> bool {
-    let count = os::arg_count();
+pub(crate) fn has(rt: &HostRuntime, flag: u8) -> bool {
+    let count = arg_count(rt);
     let mut i = 2;
     while i < count {
-        if flag_at(i) == flag {
+        if flag_at(rt, i) == flag {
             return true;
         }
         i += 1;
@@ -96,12 +116,12 @@ pub(crate) fn has(flag: u8) -> bool {
 }
 
 // The place of name k behind the first word, counted from 1; past the words where there are fewer.
-fn place_of(k: usize) -> usize {
-    let count = os::arg_count();
+fn place_of(rt: &HostRuntime, k: usize) -> usize {
+    let count = arg_count(rt);
     let mut left = k;
     let mut i = 2;
     while i < count {
-        if flag_at(i) == 0 {
+        if flag_at(rt, i) == 0 {
             if left <= 1 {
                 return i;
             }
@@ -113,22 +133,22 @@ fn place_of(k: usize) -> usize {
 }
 
 // Name k.
-pub(crate) fn name(k: usize, w: &mut [u8]) -> usize
-    ensures { IsPrefixLen result w.new }
+pub(crate) fn name(rt: &HostRuntime, k: usize, w: &mut [u8]) -> usize
+    ensures { (result ≤ length w.new) × (result ≡ length (take result w.new)) }
 {
-    os::arg(place_of(k), w)
+    arg(rt, place_of(rt, k), w)
 }
 
 // Whether name k is that of standard input.
-fn is_input(k: usize) -> bool {
-    let mut w = io::buffer();
-    let n = name(k, &mut w);
+fn is_input(rt: &HostRuntime, k: usize) -> bool {
+    let mut w = [0u8; 4096];
+    let n = name(rt, k, &mut w);
     check::same(&w[..n], b"-")
 }
 
 // The mode that is asked for: without --plain the one that loses nothing and that other programs read.
-pub(crate) fn mode() -> Mode {
-    if has(PLAIN) {
+pub(crate) fn mode(rt: &HostRuntime) -> Mode {
+    if has(rt, PLAIN) {
         return Mode::Plain;
     }
     Mode::Shared
@@ -154,19 +174,19 @@ pub(crate) fn takes(word: usize, flag: u8) -> bool {
 }
 
 // Whether a word refuses what was not read to its end: each that writes, if --partial is not there.
-pub(crate) fn wants_all(word: usize) -> bool {
+pub(crate) fn wants_all(rt: &HostRuntime, word: usize) -> bool {
     if takes(word, PARTIAL) {
-        return !has(PARTIAL);
+        return !has(rt, PARTIAL);
     }
     false
 }
 
 // Whether the flags are such as a word takes.
-fn are_flags(word: usize) -> bool {
-    let count = os::arg_count();
+fn are_flags(rt: &HostRuntime, word: usize) -> bool {
+    let count = arg_count(rt);
     let mut i = 2;
     while i < count {
-        let flag = flag_at(i);
+        let flag = flag_at(rt, i);
         if flag != 0 && !takes(word, flag) {
             return false;
         }
@@ -176,16 +196,16 @@ fn are_flags(word: usize) -> bool {
 }
 
 // Whether the names are as many as a word takes, and standard input is one of them at most.
-fn are_names(word: usize) -> bool {
+fn are_names(rt: &HostRuntime, word: usize) -> bool {
     let n = names_of(word);
-    if os::arg_count() <= place_of(n) {
+    if arg_count(rt) <= place_of(rt, n) {
         return false;
     }
-    if place_of(n + 1) < os::arg_count() {
+    if place_of(rt, n + 1) < arg_count(rt) {
         return false;
     }
-    if is_input(1) {
-        return !is_input(3);
+    if is_input(rt, 1) {
+        return !is_input(rt, 3);
     }
     true
 }
@@ -202,18 +222,18 @@ fn number_in(w: &[u8]) -> Numbered {
 }
 
 // The number that name k is; or says what is none, by the word that stands for it.
-pub(crate) fn number(k: usize, stands: &[u8]) -> Numbered {
-    let mut w = io::buffer();
-    let n = name(k, &mut w);
+pub(crate) fn number(rt: &HostRuntime, k: usize, stands: &[u8]) -> Numbered {
+    let mut w = [0u8; 4096];
+    let n = name(rt, k, &mut w);
     let x = number_in(&w[..n]);
     let Numbered::NoNumber = x else {
         return x;
     };
-    io::write_all(STDERR_FILENO, b"kifu: usage: ");
-    io::write_all(STDERR_FILENO, stands);
-    io::write_all(STDERR_FILENO, b" must be a number, and this is none: ");
-    quotes::say_word(&w[..n]);
-    io::write_all(STDERR_FILENO, b"\n");
+    put_error(rt, b"kifu: usage: ");
+    put_error(rt, stands);
+    put_error(rt, b" must be a number, and this is none: ");
+    quotes::say_word(rt, &w[..n]);
+    put_error(rt, b"\n");
     Numbered::NoNumber
 }
 
@@ -234,7 +254,7 @@ fn is_row_of(table: &[u8], at: usize, w: &[u8]) -> bool {
 }
 
 // The row of a word in the table of uses; or says that there is none, and answers 15.
-pub(crate) fn word_of(uses: &[u8], w: &[u8]) -> usize {
+pub(crate) fn word_of(rt: &HostRuntime, uses: &[u8], w: &[u8]) -> usize {
     let mut at = 0;
     let mut k = 0;
     while k < NO_WORD {
@@ -244,20 +264,20 @@ pub(crate) fn word_of(uses: &[u8], w: &[u8]) -> usize {
         at = next_row(uses, at);
         k += 1;
     }
-    tell_unknown(w);
+    tell_unknown(rt, w);
     k
 }
 
 // Says that there is no such word.
-fn tell_unknown(w: &[u8]) {
-    io::write_all(STDERR_FILENO, b"kifu: usage: ");
+fn tell_unknown(rt: &HostRuntime, w: &[u8]) {
+    put_error(rt, b"kifu: usage: ");
     if w.len() == 0 {
-        io::write_all(STDERR_FILENO, b"a word is missing");
+        put_error(rt, b"a word is missing");
     } else {
-        io::write_all(STDERR_FILENO, b"no such word: ");
-        quotes::say_word(w);
+        put_error(rt, b"no such word: ");
+        quotes::say_word(rt, w);
     }
-    io::write_all(STDERR_FILENO, b"; kifu help tells the words\n");
+    put_error(rt, b"; kifu help tells the words\n");
 }
 
 // The line with a number of a table.
@@ -273,14 +293,14 @@ pub(crate) fn row(table: &[u8], k: usize) -> &[u8] {
 }
 
 // Whether names and flags are such as a word takes; or says how it is used.
-pub(crate) fn is_used(uses: &[u8], word: usize) -> bool {
-    if are_names(word) {
-        if are_flags(word) {
+pub(crate) fn is_used(rt: &HostRuntime, uses: &[u8], word: usize) -> bool {
+    if are_names(rt, word) {
+        if are_flags(rt, word) {
             return true;
         }
     }
-    io::write_all(STDERR_FILENO, b"kifu: usage: kifu ");
-    io::write_all(STDERR_FILENO, row(uses, word));
-    io::write_all(STDERR_FILENO, b"; kifu help tells more\n");
+    put_error(rt, b"kifu: usage: kifu ");
+    put_error(rt, row(uses, word));
+    put_error(rt, b"; kifu help tells more\n");
     false
 }
