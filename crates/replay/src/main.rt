@@ -1,13 +1,17 @@
 // Replays recorded requests, and prints how many of the recorded answers the library gives, by kind.
 // A record is its kind, the lengths of request and answer (four bytes each, low byte first), request and answer.
+#![tactic(auto)]
+
 mod blocks;
 mod buffers;
 mod leaves;
 mod lines;
 mod request;
 
-use libc::STDOUT_FILENO;
 use request::Numbers;
+use std::fs::File;
+use std::io;
+use std::io::Read;
 
 // How many records of each kind there were, and in how many the answers agreed. The last place is for unknown kinds.
 #[derive(Drop)]
@@ -64,35 +68,32 @@ fn place_of(kind: u8) -> usize {
 }
 
 // The name of the kind at a place of the tally: rows of 32 bytes.
-fn print_name(place: usize) {
+fn print_name(rt: &impl Print, place: usize) -> io::Result<()> {
     let at = if place < 20 { 32 * place } else { 640 };
-    io::write_all(
-        STDOUT_FILENO,
-        shown::table_text(
-            b"\x0cUTF-8 counts                   \
-              \x1eblanks, padding, tails, breaks \
-              \x0cnumbers read                   \
-              \x0espellings read                 \
-              \x0dnumerals read                  \
-              \x10hand counts read               \
-              \x11spellings written              \
-              \x13hand counts written            \
-              \x0fnumbers written                \
-              \x14blocks, sound or not           \
-              \x08look-ups                       \
-              \x0amove lines                     \
-              \x08comments                       \
-              \x0askip lines                     \
-              \x0etexts measured                 \
-              \x0atexts read                     \
-              \x0eblocks written                 \
-              \x11variations put in              \
-              \x09lines cut                      \
-              \x05stops                          \
-              \x0fof unknown kind                ",
-            at,
-        ),
-    );
+    rt.write_all(shown::table_text(
+        b"\x0cUTF-8 counts                   \
+          \x1eblanks, padding, tails, breaks \
+          \x0cnumbers read                   \
+          \x0espellings read                 \
+          \x0dnumerals read                  \
+          \x10hand counts read               \
+          \x11spellings written              \
+          \x13hand counts written            \
+          \x0fnumbers written                \
+          \x14blocks, sound or not           \
+          \x08look-ups                       \
+          \x0amove lines                     \
+          \x08comments                       \
+          \x0askip lines                     \
+          \x0etexts measured                 \
+          \x0atexts read                     \
+          \x0eblocks written                 \
+          \x11variations put in              \
+          \x09lines cut                      \
+          \x05stops                          \
+          \x0fof unknown kind                ",
+        at,
+    ))
 }
 
 // Where reading stops: the number and six figures.
@@ -154,17 +155,17 @@ enum Heard {
 }
 
 // Reads the rest of a record and replays it.
-fn replay_rest(fd: i32, kind: u8, n: usize, record: &mut [u8]) -> Heard {
-    if io::read_full(fd, record) < record.len() {
+fn replay_rest(file: &mut File, kind: u8, n: usize, record: &mut [u8]) -> Heard {
+    if file.read_exact(record).is_err() {
         return Heard::Broken;
     }
     Heard::Replayed(replay(kind, n, record))
 }
 
 // Reads one record and replays it.
-fn replay_next(fd: i32, tally: Tally) -> Turn {
+fn replay_next(file: &mut File, tally: Tally) -> Turn {
     let mut head = [0u8; 9];
-    if io::read_full(fd, &mut head) < 9 {
+    if file.read_exact(&mut head).is_err() {
         return Turn { more: false, tally };
     }
     let n = request::half(&head, 1);
@@ -172,8 +173,8 @@ fn replay_next(fd: i32, tally: Tally) -> Turn {
     if 65536 < end {
         return Turn { more: false, tally };
     }
-    let mut record = io::large_buffer();
-    let Heard::Replayed(ok) = replay_rest(fd, head[0], n, &mut record[..end]) else {
+    let mut record = [0u8; 65536];
+    let Heard::Replayed(ok) = replay_rest(file, head[0], n, &mut record[..end]) else {
         return Turn { more: false, tally };
     };
     Turn {
@@ -183,14 +184,14 @@ fn replay_next(fd: i32, tally: Tally) -> Turn {
 }
 
 // A proved loop has to end, and nothing says that a file does: the turns are counted down from a number that no run uses up.
-fn replay_all(fd: i32) -> Tally {
+fn replay_all(file: &mut File) -> Tally {
     let mut tally = Tally {
         asked: [0u64; 21],
         agreed: [0u64; 21],
     };
     let mut turns = u64::MAX;
     while turns > 0 {
-        let t = replay_next(fd, tally);
+        let t = replay_next(file, tally);
         tally = t.tally;
         turns = if t.more { turns - 1 } else { 0 };
     }
@@ -198,30 +199,22 @@ fn replay_all(fd: i32) -> Tally {
 }
 
 // A line of the tally: the kind, how many answers agree, and of how many. Unknown kinds are named only where there are any.
-fn print_line(place: usize, agreed: u64, asked: u64) {
+fn print_line(rt: &impl Print, place: usize, agreed: u64, asked: u64) -> io::Result<()> {
     if asked == 0 {
-        return;
+        return Ok(());
     }
-    print_name(place);
-    io::write_all(STDOUT_FILENO, b": ");
-    io::print_decimal(STDOUT_FILENO, agreed);
-    io::write_all(STDOUT_FILENO, b" of ");
-    io::print_decimal(STDOUT_FILENO, asked);
-    io::write_all(STDOUT_FILENO, b" agree\n");
+    print_name(rt, place)?;
+    println!(rt; ": {agreed} of {asked} agree")
 }
 
-fn print_tally(tally: Tally) {
+fn print_tally(rt: &impl Print, tally: Tally) -> io::Result<()> {
     for i in 0..21 {
-        print_line(i, tally.agreed[i], tally.asked[i]);
+        print_line(rt, i, tally.agreed[i], tally.asked[i])?;
     }
+    Ok(())
 }
 
-fn main() {
-    let path = b"answers";
-    let fd = os::open_read(path);
-    if fd < 0 {
-        os::fail(path);
-        return;
-    }
-    print_tally(replay_all(fd));
+fn main(rt: HostRuntime) -> io::Result<()> {
+    let mut file = File::open(&rt, "answers")?;
+    print_tally(&rt, replay_all(&mut file))
 }
