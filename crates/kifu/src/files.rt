@@ -1,12 +1,10 @@
 // Files by their names; `-` is standard input.
 use crate::notes::{NOTE, REFUSED, tell};
+use crate::paths::{path_of, path_to_read};
 use crate::{notes, quotes, words};
 use std::fs::File;
 use std::io::{Cursor, Read, Write};
 use std::{fs, io};
-
-// What the system answers where there is no such file.
-const ENOENT: i32 = 2;
 
 // Where the bytes that were read begin and end in their buffer, or that reading failed.
 #[derive(Drop)]
@@ -20,14 +18,6 @@ fn fail(rt: &HostRuntime, name: &[u8], why: io::Error) {
     notes::put_error(rt, b"kifu: refused: ");
     quotes::say_name(rt, name);
     notes::end_failed(rt, why);
-}
-
-// A name as the library takes it: there is no file for it by one that is not UTF-8.
-fn path_of(name: &[u8]) -> io::Result<&str> {
-    match std::str::from_utf8(name) {
-        Ok(path) => Ok(path),
-        Err(_) => Err(io::Error::from_raw_os_error(ENOENT)),
-    }
 }
 
 // That a file can still be read: at its end a read answers 0, and it fails only where the file does.
@@ -47,7 +37,7 @@ fn fill_from<R: Read>(file: &mut R, buf: &mut [u8]) -> io::Result<usize> {
 
 // Opens a file for reading.
 fn open(rt: &HostRuntime, name: &[u8]) -> io::Result<File> {
-    File::open(rt, path_of(name)?)
+    File::open(rt, path_to_read(rt, name)?)
 }
 
 // Fills a buffer with the front of the file with a name.

@@ -9,6 +9,7 @@ mod files;
 mod losses;
 mod notes;
 mod passes;
+mod paths;
 mod quotes;
 mod reasons;
 mod refusals;

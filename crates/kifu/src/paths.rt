@@ -1,0 +1,75 @@
+// Names as paths. The library takes UTF-8 alone, so a file with any other name is neither read nor made, and it is said so.
+use std::fs::Files;
+use std::io;
+use std::io::Read;
+
+// What the system says where there is no such file, and of bytes that are no characters.
+const ENOENT: i32 = 2;
+
+const EILSEQ: i32 = 84;
+
+// The path that a name is.
+pub(crate) fn path_of(name: &[u8]) -> io::Result<&str> {
+    match std::str::from_utf8(name) {
+        Ok(path) => Ok(path),
+        Err(_) => Err(io::Error::from_raw_os_error(EILSEQ)),
+    }
+}
+
+// Whether a name is one of these, each of which a 0 ends.
+fn is_among(names: &[u8], name: &[u8]) -> bool {
+    for i in 0..names.len() {
+        let is_start = i == 0 || names[i - 1] == 0;
+        if is_start && text::stands(names, i, name) {
+            if lent::peek(names, i + name.len()) == 0 {
+                return true;
+            }
+        }
+    }
+    false
+}
+
+// Whether a name stands in a folder.
+fn has_entry(rt: &HostRuntime, folder: &str, name: &[u8]) -> io::Result<bool> {
+    let mut entries = rt.open_dir(folder)?;
+    let mut names = [0u8; 4096];
+    for _ in 0..u64::MAX {
+        let n = entries.read(&mut names)?;
+        if n == 0 {
+            return Ok(false);
+        }
+        if is_among(lent::front(&names, n), name) {
+            return Ok(true);
+        }
+    }
+    Ok(false)
+}
+
+// The place past the last slash; 0 where there is none.
+fn past_folder(name: &[u8]) -> usize {
+    let mut at = 0;
+    for i in 0..name.len() {
+        if name[i] == b'/' {
+            at = i + 1;
+        }
+    }
+    at
+}
+
+// Whether there is a file with a name that is no path, by the names in its folder.
+fn is_there(rt: &HostRuntime, name: &[u8]) -> io::Result<bool> {
+    let at = past_folder(name);
+    if at == 0 {
+        return has_entry(rt, "./", name);
+    }
+    has_entry(rt, path_of(lent::front(name, at))?, lent::rest(name, at))
+}
+
+// The path of a file that is to be read.
+pub(crate) fn path_to_read<'a>(rt: &HostRuntime, name: &'a [u8]) -> io::Result<&'a str> {
+    let path = path_of(name);
+    if path.is_err() && !is_there(rt, name)? {
+        return Err(io::Error::from_raw_os_error(ENOENT));
+    }
+    path
+}
