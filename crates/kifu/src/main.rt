@@ -23,11 +23,14 @@ mod words;
 use std::io;
 use words::Numbered;
 
-// Says so where standard output did not take all, and hands that on.
+// Says so where standard output did not take all, and hands that on. Who has closed a pipe is not told: `| head -1` is no mistake.
 pub(crate) fn told(rt: &HostRuntime, written: io::Result<()>) -> bool {
     let Err(why) = written else {
         return true;
     };
+    if why.kind() == io::ErrorKind::BrokenPipe {
+        return true;
+    }
     notes::put_error(rt, b"kifu: refused: standard output");
     notes::end_failed(rt, why);
     false
