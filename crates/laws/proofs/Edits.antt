@@ -38,7 +38,7 @@ use Rattle.block.specs.Formed.{line_of, Formed}
 use Rattle.block.proofs.Hanging.{sound_branched}
 use Rattle.block.proofs.Deciding.{sound_says, sound_answers}
 use Rattle.plays.specs.Plays.{entries_at, ply_at}
-use Rattle.edit.specs.Edit.{Edited, edited, plays_in, reparented, variation_of, carries, line_on, renumbered, lines_with, removed_from, lowered, IsKept, without_lines, fresh, remove}
+use Rattle.edit.specs.Edit.{Edited, edited, reparented, variation_of, carries, line_on, renumbered, lines_with, removed_from, lowered, IsKept, without_lines, fresh, remove}
 use Rattle.edit.specs.inner.Splicing.{relined}
 use Rattle.edit.specs.Outcomes.{edit_stored, edited_of, put_in_of, cut_of}
 use Rattle.edit.proofs.Listing.{starts_in, counts_in, parents_in, LinesAs, as_branched, plays-put}

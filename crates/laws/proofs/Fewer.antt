@@ -17,7 +17,7 @@ use Rattle.block.specs.inner.Sounds.{Sound}
 use Rattle.block.proofs.Tabling.{concat-append}
 use Rattle.block.proofs.Lengths.{block-length}
 use Rattle.plays.specs.inner.Entries.{play_entries}
-use Rattle.edit.specs.Edit.{plays_in, reparented, with_play, lines_with, line_on, lowered, without_lines}
+use Rattle.edit.specs.Edit.{plays_in, reparented, lines_with, line_on, lowered, without_lines}
 use Rattle.edit.specs.inner.Splicing.{relined}
 use Rattle.edit.proofs.Listing.{map-take, map-drop, plays-long, plays-put}
 use Rattle.edit.proofs.Assembled.{position-long}

@@ -1,6 +1,5 @@
 -- The theorems of the positions, each proved with the crate that plays.
 -- Assumes nothing.
-use mathlib.Core.Path.{refl}
 use Rattle.block.specs.Decode.{decode}
 use Rattle.block.proofs.Deciding.{sound_says}
 use Rattle.positions.proofs.Kept.{step_keeps, turn_alternates}

@@ -1,1 +1,3 @@
+#![tactic(auto)]
+
 // Theorems over several crates. There is no code here.

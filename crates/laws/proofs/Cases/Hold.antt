@@ -6,7 +6,7 @@ use mathlib.Core.List.{List, ◌∷◌}
 use lib.ListN.{take, drop, take-append-drop}
 use Rattle.lists.specs.All.{All, none, next}
 use Rattle.parser.proofs.Alls.{all_append}
-use Rattle.laws.specs.Cases.{Case, cases, CasesHold}
+use Rattle.laws.specs.Cases.{cases, CasesHold}
 use Rattle.laws.proofs.Cases.Roomy.{Computed, rows}
 use Rattle.laws.proofs.Cases.Opened.{opened}
 
