@@ -2,11 +2,12 @@
 ghost use Rattle.std.specs.Prelude.{◌<◌, ◌≤◌};
 
 use crate::edits::Edited;
-use crate::notes::{NOTE, Stream};
+use crate::notes::{NOTE, Stream, Streams};
 use crate::words::{BLOCK_CUT, BLOCK_LIST, BLOCK_PUT, BLOCK_TREE, TEXT};
 use crate::{edits, files, notes, print_text, refusals, told, trees};
 use jkf::Figures;
 use std::io;
+use std::rt::{Env, Files};
 
 // 1 for a line k where one before it hangs on its entry.
 fn equal(b: &[u8], k: u16) -> u64
@@ -38,7 +39,7 @@ fn count_equals(b: &[u8], lines: u64) -> u64
 }
 
 // Says how many lines of a text will nest when it is read again, of all but those that were left out: in version 1 none.
-pub(crate) fn tell_nested(rt: &HostRuntime, name: &[u8], b: &[u8], left_out: u64) {
+pub(crate) fn tell_nested(rt: &impl Streams, name: &[u8], b: &[u8], left_out: u64) {
     if block::version_in(b) == 1 {
         return;
     }
@@ -57,7 +58,7 @@ pub(crate) fn tell_nested(rt: &HostRuntime, name: &[u8], b: &[u8], left_out: u64
 }
 
 // Whether a block is sound; or says that it is not.
-fn is_sound(rt: &HostRuntime, name: &[u8], b: &[u8]) -> bool {
+fn is_sound(rt: &impl Streams, name: &[u8], b: &[u8]) -> bool {
     if block::sound(b) {
         return true;
     }
@@ -74,7 +75,7 @@ fn is_sound(rt: &HostRuntime, name: &[u8], b: &[u8]) -> bool {
 }
 
 // Prints the length, the version and the lines of a block: its listing with another first line.
-fn print_lines(rt: &HostRuntime, b: &[u8], out: &mut [u8]) -> io::Result<()> {
+fn print_lines(rt: &impl Streams, b: &[u8], out: &mut [u8]) -> io::Result<()> {
     let mut head = [0u8; 128];
     let first = shown::put_read(&mut head, 0, b.len() as u64);
     let n = shown::put_listing(out, 0, b);
@@ -99,7 +100,7 @@ fn place_of_out(word: usize) -> usize {
 }
 
 // Prints how long the new block is, and the number of the new line or how many lines were cut.
-fn print_done(rt: &HostRuntime, word: usize, n: u64, second: u64) -> io::Result<()> {
+fn print_done(rt: &impl Streams, word: usize, n: u64, second: u64) -> io::Result<()> {
     match word {
         BLOCK_PUT => notes::say(rt, Stream::Output, b"block % line %\n", n, second, 0),
         BLOCK_CUT => notes::say(rt, Stream::Output, b"block % removed %\n", n, second, 0),
@@ -109,7 +110,7 @@ fn print_done(rt: &HostRuntime, word: usize, n: u64, second: u64) -> io::Result<
 
 // Writes an edited block into a new file, which goes again where that cannot be told.
 fn keep_edited(
-    rt: &HostRuntime,
+    rt: &(impl Streams + Env + Files + Input),
     word: usize,
     line: u64,
     name: &[u8],
@@ -132,7 +133,7 @@ fn keep_edited(
 
 // The text that is put in is read before anything is printed, so both use one buffer.
 pub(crate) fn answer(
-    rt: &HostRuntime,
+    rt: &(impl Streams + Env + Files + Input),
     word: usize,
     line: u64,
     name: &[u8],

@@ -1,9 +1,10 @@
 // Edits of a block, into a buffer that is as long as a block can be.
-use crate::notes::{REFUSED, put_error, say_error};
+use crate::notes::{REFUSED, Streams, put_error, say_error};
 use crate::times::Times;
 use crate::{files, notes, refusals, times, wheres, words};
 use jkf::Figures;
 use moves::{Failed, MoveLine};
+use std::rt::{Env, Files};
 use text::Cursor;
 
 // How long the edited block is, the second figure of the edit, and the times that were lost of what was put in; or that there is none.
@@ -14,7 +15,7 @@ pub enum Edited {
 }
 
 // The moves of a line, on which a variation can be put: the first and the last.
-fn say_moves(rt: &HostRuntime, b: &[u8], line: u16) {
+fn say_moves(rt: &impl Streams, b: &[u8], line: u16) {
     let start = block::start_of(b, line) as u64;
     let first = if start == 0 { 1 } else { start };
     let past = start + block::entry_count(b, line) as u64;
@@ -28,7 +29,7 @@ fn say_moves(rt: &HostRuntime, b: &[u8], line: u16) {
 }
 
 // What an edit of a block came to; where it is refused, why.
-fn made(rt: &HostRuntime, name: &[u8], b: &[u8], f: Figures, t: Times) -> Edited {
+fn made(rt: &impl Streams, name: &[u8], b: &[u8], f: Figures, t: Times) -> Edited {
     if f.number == 0 {
         return Edited::Block(f.first as usize, f.second, t);
     }
@@ -52,7 +53,7 @@ fn made(rt: &HostRuntime, name: &[u8], b: &[u8], f: Figures, t: Times) -> Edited
 }
 
 // Without a line, and without all that hangs from it.
-fn cut(rt: &HostRuntime, name: &[u8], b: &[u8], line: u64, out: &mut [u8]) -> Edited {
+fn cut(rt: &impl Streams, name: &[u8], b: &[u8], line: u64, out: &mut [u8]) -> Edited {
     if line == 0 {
         notes::head(rt, REFUSED, name);
         put_error(
@@ -72,7 +73,7 @@ fn cut(rt: &HostRuntime, name: &[u8], b: &[u8], line: u64, out: &mut [u8]) -> Ed
 }
 
 // As version 2; where it is that already, it is said so.
-fn restate(rt: &HostRuntime, name: &[u8], b: &[u8], out: &mut [u8]) -> Edited {
+fn restate(rt: &impl Streams, name: &[u8], b: &[u8], out: &mut [u8]) -> Edited {
     let f = jkf::figures_of(edit::restate(b, out));
     if f.number == 7 && block::sound(b) {
         notes::head(rt, REFUSED, name);
@@ -84,7 +85,7 @@ fn restate(rt: &HostRuntime, name: &[u8], b: &[u8], out: &mut [u8]) -> Edited {
 }
 
 // The number that was expected where so many entries follow a first one; the last number of 64 bits has none after it.
-fn say_expected(rt: &HostRuntime, first: u64, count: u64) {
+fn say_expected(rt: &impl Streams, first: u64, count: u64) {
     if u64::MAX - first < count {
         put_error(rt, b", and no number is above the one before it");
         return;
@@ -93,7 +94,7 @@ fn say_expected(rt: &HostRuntime, first: u64, count: u64) {
 }
 
 // Says at which line of a text its numbers do not go up by one; and whether they do not.
-fn tell_stray(rt: &HostRuntime, name: &[u8], text: &[u8]) -> bool {
+fn tell_stray(rt: &impl Streams, name: &[u8], text: &[u8]) -> bool {
     let start = Cursor { at: 0 };
     let first = plays::ply(start, text);
     let x = plays::count_sequence(start, text, first);
@@ -123,7 +124,7 @@ fn fails(end: Cursor, text: &[u8]) -> Failed {
 }
 
 // Says where a text is no line of play any more, and why; and whether there is such a place.
-fn tell_reason(rt: &HostRuntime, name: &[u8], text: &[u8]) -> bool {
+fn tell_reason(rt: &impl Streams, name: &[u8], text: &[u8]) -> bool {
     let end = plays::count_moves(Cursor { at: 0 }, text).next;
     let Failed::At(at, reason) = fails(end, text) else {
         return false;
@@ -146,7 +147,7 @@ fn tell_reason(rt: &HostRuntime, name: &[u8], text: &[u8]) -> bool {
 }
 
 // Says that a text is empty, too long or not UTF-8; and whether it is.
-fn tell_unread(rt: &HostRuntime, name: &[u8], text: &[u8]) -> bool {
+fn tell_unread(rt: &impl Streams, name: &[u8], text: &[u8]) -> bool {
     if text.len() == 0 {
         notes::head(rt, REFUSED, name);
         put_error(rt, b"the file is empty, and has no variation");
@@ -166,7 +167,7 @@ fn tell_unread(rt: &HostRuntime, name: &[u8], text: &[u8]) -> bool {
 }
 
 // Why a text is not one variation.
-fn tell_text(rt: &HostRuntime, name: &[u8], text: &[u8], f: Figures) {
+fn tell_text(rt: &impl Streams, name: &[u8], text: &[u8], f: Figures) {
     if tell_unread(rt, name, text) {
         return;
     }
@@ -181,7 +182,7 @@ fn tell_text(rt: &HostRuntime, name: &[u8], text: &[u8], f: Figures) {
 
 // With the variation of a text. Refusal 11 is about that text's file, all others about the block's.
 fn put_text(
-    rt: &HostRuntime,
+    rt: &impl Streams,
     name: &[u8],
     b: &[u8],
     line: u64,
@@ -200,7 +201,7 @@ fn put_text(
 // With that of the file that the third name is of, read into a buffer with room for more than a text may have, so that a longer one is refused
 // and not cut.
 fn put(
-    rt: &HostRuntime,
+    rt: &(impl Streams + Env + Files + Input),
     name: &[u8],
     b: &[u8],
     line: u64,
@@ -218,7 +219,7 @@ fn put(
 
 // The edit that is asked for; a variation's text is read into the room.
 pub(crate) fn make(
-    rt: &HostRuntime,
+    rt: &(impl Streams + Env + Files + Input),
     word: usize,
     line: u64,
     name: &[u8],
@@ -234,7 +235,7 @@ pub(crate) fn make(
 }
 
 // Says how many times of that file were lost, where some were.
-pub(crate) fn tell_variation(rt: &HostRuntime, t: Times) {
+pub(crate) fn tell_variation(rt: &(impl Streams + Env), t: Times) {
     if t.lost == 0 {
         return;
     }

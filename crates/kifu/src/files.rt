@@ -1,9 +1,10 @@
 // Files by their names; `-` is standard input.
-use crate::notes::{NOTE, REFUSED, tell};
+use crate::notes::{NOTE, REFUSED, Streams, tell};
 use crate::paths::{path_of, path_to_read};
 use crate::{notes, quotes, words};
-use std::fs::File;
+use std::fs::{File, OpenFile};
 use std::io::{Cursor, Read, Write};
+use std::rt::{Env, Files};
 use std::{fs, io};
 
 // Where the bytes that were read begin and end in their buffer, or that reading failed.
@@ -14,13 +15,13 @@ pub enum Got {
 }
 
 // Says why a call on a file failed.
-fn fail(rt: &HostRuntime, name: &[u8], why: io::Error) {
+fn fail(rt: &impl Streams, name: &[u8], why: io::Error) {
     notes::put_error(rt, b"kifu: refused: ");
     quotes::say_name(rt, name);
     notes::end_failed(rt, why);
 }
 
-// That a file can still be read: at its end a read answers 0, and it fails only where the file does.
+// Reads past what was taken, so that a file which fails only there is refused too; at its end a read answers 0.
 fn reads_on<R: Read>(file: &mut R) -> io::Result<()> {
     let mut more = [0u8; 1];
     file.read(&mut more)?;
@@ -36,20 +37,25 @@ fn fill_from<R: Read>(file: &mut R, buf: &mut [u8]) -> io::Result<usize> {
 }
 
 // Opens a file for reading.
-fn open(rt: &HostRuntime, name: &[u8]) -> io::Result<File> {
+fn open<R: Files>(rt: &R, name: &[u8]) -> io::Result<R::File> {
     File::open(rt, path_to_read(rt, name)?)
 }
 
 // Fills a buffer with the front of the file with a name.
-fn fill_by_name(rt: &HostRuntime, name: &[u8], buf: &mut [u8]) -> io::Result<usize> {
+fn fill_by_name(rt: &(impl Files + Input), name: &[u8], buf: &mut [u8]) -> io::Result<usize> {
     if check::same(name, b"-") {
-        return fill_from(&mut rt.stdin(), buf);
+        return fill_from(&mut rt.reader(), buf);
     }
     fill_from(&mut open(rt, name)?, buf)
 }
 
 // Fills a buffer with the front of a file, which is to be a text or any; or says why it cannot.
-pub(crate) fn fill(rt: &HostRuntime, name: &[u8], is_text: bool, buf: &mut [u8]) -> Got {
+pub(crate) fn fill(
+    rt: &(impl Streams + Env + Files + Input),
+    name: &[u8],
+    is_text: bool,
+    buf: &mut [u8],
+) -> Got {
     let n = match fill_by_name(rt, name, buf) {
         Ok(n) => n,
         Err(why) => {
@@ -65,7 +71,7 @@ pub(crate) fn fill(rt: &HostRuntime, name: &[u8], is_text: bool, buf: &mut [u8])
 
 // What stands at the start of a file that is no text, or that is one: 0 is nothing, 1 a block, 2 a BOM, and 3 a BOM that is to be passed. A file that is
 // too long is left to the reader, which refuses it.
-fn odd_start(rt: &HostRuntime, s: &[u8]) -> usize {
+fn odd_start(rt: &impl Env, s: &[u8]) -> usize {
     if text::stands(s, 0, b"KB\x01\0") || text::stands(s, 0, b"KB\x02\0") {
         return 1;
     }
@@ -80,7 +86,7 @@ fn odd_start(rt: &HostRuntime, s: &[u8]) -> usize {
 }
 
 // The part of a file that is a text.
-fn text_of(rt: &HostRuntime, name: &[u8], s: &[u8]) -> Got {
+fn text_of(rt: &(impl Streams + Env), name: &[u8], s: &[u8]) -> Got {
     let odd = odd_start(rt, s);
     if odd == 0 {
         return Got::Bytes(0, s.len());
@@ -106,14 +112,14 @@ fn text_of(rt: &HostRuntime, name: &[u8], s: &[u8]) -> Got {
 }
 
 // Writes bytes into the new file that name k is of, or says why it cannot.
-pub(crate) fn keep(rt: &HostRuntime, k: usize, bytes: &[u8]) -> bool {
+pub(crate) fn keep(rt: &(impl Streams + Env + Files), k: usize, bytes: &[u8]) -> bool {
     let mut name = [0u8; 4096];
     let n = words::name(rt, k, &mut name);
     make(rt, &name[..n], bytes)
 }
 
 // Takes away the file that was made under name k.
-pub(crate) fn remove(rt: &HostRuntime, k: usize) {
+pub(crate) fn remove(rt: &(impl Env + Files), k: usize) {
     let mut name = [0u8; 4096];
     let n = words::name(rt, k, &mut name);
     if let Ok(path) = path_of(&name[..n]) {
@@ -121,14 +127,14 @@ pub(crate) fn remove(rt: &HostRuntime, k: usize) {
     }
 }
 
-// Writes all of a file. The library tells no failure of closing it, so the disk is asked for before.
-fn write_through(mut file: File, bytes: &[u8]) -> io::Result<()> {
+// Writes all of a file. The library does not tell where closing fails, so all is brought to the disk before.
+fn write_through(mut file: impl Write + OpenFile + Drop, bytes: &[u8]) -> io::Result<()> {
     file.write_all(bytes)?;
     file.sync_all()
 }
 
 // Writes a new file, all of it, or takes away what it made.
-fn write_new(rt: &HostRuntime, name: &[u8], bytes: &[u8]) -> io::Result<()> {
+fn write_new(rt: &impl Files, name: &[u8], bytes: &[u8]) -> io::Result<()> {
     let path = path_of(name)?;
     let file = File::options().write(true).create_new(true).open(rt, path)?;
     let written = write_through(file, bytes);
@@ -139,7 +145,7 @@ fn write_new(rt: &HostRuntime, name: &[u8], bytes: &[u8]) -> io::Result<()> {
 }
 
 // Writes a new file, all of it, and answers true; or says why it cannot, and takes away what it made. A file that stands there is left alone.
-fn make(rt: &HostRuntime, name: &[u8], bytes: &[u8]) -> bool {
+fn make(rt: &(impl Streams + Files), name: &[u8], bytes: &[u8]) -> bool {
     match write_new(rt, name, bytes) {
         Ok(()) => true,
         Err(why) => {

@@ -2,7 +2,7 @@
 ghost use Rattle.std.specs.Prelude.{◌<◌, ◌≤◌};
 
 use crate::notes;
-use crate::notes::NOTE;
+use crate::notes::{NOTE, Streams};
 use jkf::{Clock, Entry, Time};
 
 // How many marks and hours.
@@ -66,7 +66,7 @@ fn written(b: &[u8], left_out: u64) -> usize
 }
 
 // Says what was lost where so many lines were left out.
-pub(crate) fn tell(rt: &HostRuntime, name: &[u8], b: &[u8], left_out: u64) {
+pub(crate) fn tell(rt: &impl Streams, name: &[u8], b: &[u8], left_out: u64) {
     let l = count_lost(b, written(b, left_out));
     notes::tell_some(
         rt,

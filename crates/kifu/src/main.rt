@@ -20,11 +20,13 @@ mod trees;
 mod wheres;
 mod words;
 
+use crate::notes::Streams;
 use std::io;
+use std::rt::{Env, Files};
 use words::Numbered;
 
 // Says so where standard output did not take all, and hands that on. Who has closed a pipe is not told: `| head -1` is no mistake.
-pub(crate) fn told(rt: &HostRuntime, written: io::Result<()>) -> bool {
+pub(crate) fn told(rt: &impl Streams, written: io::Result<()>) -> bool {
     let Err(why) = written else {
         return true;
     };
@@ -37,7 +39,7 @@ pub(crate) fn told(rt: &HostRuntime, written: io::Result<()>) -> bool {
 }
 
 // Prints a block as a text, and says what is lost by that, if it may lose something.
-pub(crate) fn print_text(rt: &HostRuntime, name: &[u8], b: &[u8], out: &mut [u8]) -> bool {
+pub(crate) fn print_text(rt: &(impl Streams + Env), name: &[u8], b: &[u8], out: &mut [u8]) -> bool {
     let f = jkf::figures_of(converter::write_as(b, words::mode(rt), out));
     if f.number != 0 {
         refusals::tell(rt, name, f);
@@ -55,7 +57,7 @@ pub(crate) fn print_text(rt: &HostRuntime, name: &[u8], b: &[u8], out: &mut [u8]
 
 // What is asked of the bytes of a file.
 fn answer(
-    rt: &HostRuntime,
+    rt: &(impl Streams + Env + Files + Input),
     word: usize,
     line: u64,
     entry: u64,
@@ -78,7 +80,13 @@ fn answer(
 // What is asked of the file with a name: of one byte more than a text or a block may have, so that a longer one is refused and not cut. What is
 // printed has room: of a block's bytes 20 of an entry come to at most 55 of text, and all others to less at that rate, but for the position, at most
 // 2,048; the longest listing has 112,133. A block that is made has room too, as long as a block can be.
-fn obey(rt: &HostRuntime, word: usize, line: u64, entry: u64, name: &[u8]) {
+fn obey(
+    rt: &(impl Streams + Env + Files + Input),
+    word: usize,
+    line: u64,
+    entry: u64,
+    name: &[u8],
+) {
     let mut input = [0u8; 65536];
     let files::Got::Bytes(from, to) = files::fill(rt, name, word < words::TEXT, &mut input) else {
         return;
@@ -98,14 +106,14 @@ fn obey(rt: &HostRuntime, word: usize, line: u64, entry: u64, name: &[u8]) {
 }
 
 // With the file that the first name is of.
-fn on_file(rt: &HostRuntime, word: usize, line: u64, entry: u64) {
+fn on_file(rt: &(impl Streams + Env + Files + Input), word: usize, line: u64, entry: u64) {
     let mut name = [0u8; 4096];
     let n = words::name(rt, 1, &mut name);
     obey(rt, word, line, entry, &name[..n]);
 }
 
 // With the entry that the third name numbers.
-fn on_entry(rt: &HostRuntime, word: usize, line: u64) {
+fn on_entry(rt: &(impl Streams + Env + Files + Input), word: usize, line: u64) {
     let Numbered::As(entry) = words::number(rt, 3, b"ENTRY") else {
         return;
     };
@@ -113,7 +121,7 @@ fn on_entry(rt: &HostRuntime, word: usize, line: u64) {
 }
 
 // With the line that the second name numbers.
-fn on_line(rt: &HostRuntime, word: usize) {
+fn on_line(rt: &(impl Streams + Env + Files + Input), word: usize) {
     let Numbered::As(line) = words::number(rt, 2, b"LINE") else {
         return;
     };
@@ -125,7 +133,7 @@ fn on_line(rt: &HostRuntime, word: usize) {
 }
 
 // What the first word asks for, where the others are such as it takes. The rows stand in the order of the words' numbers.
-fn start(rt: &HostRuntime, first: &[u8]) {
+fn start(rt: &(impl Streams + Env + Files + Input), first: &[u8]) {
     let uses = b"list FILE [--skip-bom]\n\
                  tidy FILE [--plain] [--partial] [--skip-bom]\n\
                  block FILE OUT [--partial] [--skip-bom]\n\

@@ -12,6 +12,17 @@ pub(crate) const REFUSED: u8 = 2;
 
 pub(crate) const UNREAD: u8 = 3;
 
+// Both streams, by bytes: std's `Eprint` takes text alone, and a name may be any bytes.
+pub trait Streams: Print + Eprint {
+    fn write_error(&self, bytes: &[u8]) -> io::Result<()>;
+}
+
+impl Streams for HostRuntime {
+    fn write_error(&self, bytes: &[u8]) -> io::Result<()> {
+        self.stderr().write_all(bytes)
+    }
+}
+
 // Where words go.
 #[derive(Clone, Copy)]
 pub enum Stream {
@@ -42,15 +53,15 @@ fn mark(t: &[u8]) -> usize {
 }
 
 // Writes bytes, all of them.
-pub(crate) fn put(rt: &HostRuntime, to: Stream, t: &[u8]) -> io::Result<()> {
+pub(crate) fn put(rt: &impl Streams, to: Stream, t: &[u8]) -> io::Result<()> {
     match to {
         Stream::Output => rt.write_all(t),
-        Stream::Errors => rt.stderr().write_all(t),
+        Stream::Errors => rt.write_error(t),
     }
 }
 
 // Writes a figure.
-fn put_figure(rt: &HostRuntime, to: Stream, x: u64) -> io::Result<()> {
+fn put_figure(rt: &impl Streams, to: Stream, x: u64) -> io::Result<()> {
     match to {
         Stream::Output => rt.print(x),
         Stream::Errors => rt.eprint(x),
@@ -59,7 +70,7 @@ fn put_figure(rt: &HostRuntime, to: Stream, x: u64) -> io::Result<()> {
 
 // Words with a figure in the place of each mark, of which there are three at most.
 pub(crate) fn say(
-    rt: &HostRuntime,
+    rt: &impl Streams,
     to: Stream,
     t: &[u8],
     x: u64,
@@ -86,12 +97,12 @@ pub(crate) fn say(
 }
 
 // Writes bytes on standard error: where that fails, nobody is left to be told.
-pub(crate) fn put_error(rt: &HostRuntime, t: &[u8]) {
+pub(crate) fn put_error(rt: &impl Streams, t: &[u8]) {
     let _ = put(rt, Stream::Errors, t);
 }
 
 // Words with figures there.
-pub(crate) fn say_error(rt: &HostRuntime, t: &[u8], x: u64, y: u64, z: u64) {
+pub(crate) fn say_error(rt: &impl Streams, t: &[u8], x: u64, y: u64, z: u64) {
     let _ = say(rt, Stream::Errors, t, x, y, z);
 }
 
@@ -106,7 +117,7 @@ fn number_at(t: &[u8]) -> usize {
 }
 
 // The end of a line about a call that failed: why it did.
-pub(crate) fn end_failed(rt: &HostRuntime, why: io::Error) {
+pub(crate) fn end_failed(rt: &impl Streams, why: io::Error) {
     let mut out = [0u8; 128];
     let mut cursor = Cursor::new(&mut out[..]);
     let _ = write!(cursor, "{why}");
@@ -118,7 +129,7 @@ pub(crate) fn end_failed(rt: &HostRuntime, why: io::Error) {
 }
 
 // The head of a line of a kind on a file; and where the line goes.
-pub(crate) fn head(rt: &HostRuntime, kind: u8, name: &[u8]) -> Stream {
+pub(crate) fn head(rt: &impl Streams, kind: u8, name: &[u8]) -> Stream {
     if kind == ANSWER {
         return Stream::Output;
     }
@@ -138,14 +149,14 @@ pub(crate) fn head(rt: &HostRuntime, kind: u8, name: &[u8]) -> Stream {
 }
 
 // A line of a kind on a file.
-pub(crate) fn tell(rt: &HostRuntime, kind: u8, name: &[u8], t: &[u8], x: u64, y: u64) {
+pub(crate) fn tell(rt: &impl Streams, kind: u8, name: &[u8], t: &[u8], x: u64, y: u64) {
     let to = head(rt, kind, name);
     let _ = say(rt, to, t, x, y, 0);
     let _ = put(rt, to, b"\n");
 }
 
 // Such a line where there are some of what it tells of.
-pub(crate) fn tell_some(rt: &HostRuntime, kind: u8, name: &[u8], t: &[u8], n: u64, y: u64) {
+pub(crate) fn tell_some(rt: &impl Streams, kind: u8, name: &[u8], t: &[u8], n: u64, y: u64) {
     if n == 0 {
         return;
     }

@@ -1,5 +1,6 @@
 // The lines that reading passes over, and what stands before the moves.
 use crate::notes;
+use crate::notes::Streams;
 use reader::TextLine;
 use text::{Cursor, Place};
 
@@ -171,7 +172,7 @@ fn tab_at(s: &[u8], at: usize) -> u64 {
 }
 
 // Says how many lines from a place on were passed over that are none of the usual ones, and what the first of them is; and whether moves are among them.
-pub(crate) fn tell(rt: &HostRuntime, kind: u8, name: &[u8], s: &[u8], from: usize) -> bool {
+pub(crate) fn tell(rt: &impl Streams, kind: u8, name: &[u8], s: &[u8], from: usize) -> bool {
     let w = walked(s, from, s.len());
     if w.odd == 0 {
         return false;

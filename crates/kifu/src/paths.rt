@@ -1,7 +1,7 @@
 // Names as paths. The library takes UTF-8 alone, so a file with any other name is neither read nor made, and it is said so.
-use std::fs::Files;
 use std::io;
 use std::io::Read;
+use std::rt::Files;
 
 // What the system says where there is no such file, and of bytes that are no characters.
 const ENOENT: i32 = 2;
@@ -30,7 +30,7 @@ fn is_among(names: &[u8], name: &[u8]) -> bool {
 }
 
 // Whether a name stands in a folder.
-fn has_entry(rt: &HostRuntime, folder: &str, name: &[u8]) -> io::Result<bool> {
+fn has_entry(rt: &impl Files, folder: &str, name: &[u8]) -> io::Result<bool> {
     let mut entries = rt.open_dir(folder)?;
     let mut names = [0u8; 4096];
     for _ in 0..u64::MAX {
@@ -57,7 +57,7 @@ fn past_folder(name: &[u8]) -> usize {
 }
 
 // Whether there is a file with a name that is no path, by the names in its folder.
-fn is_there(rt: &HostRuntime, name: &[u8]) -> io::Result<bool> {
+fn is_there(rt: &impl Files, name: &[u8]) -> io::Result<bool> {
     let at = past_folder(name);
     if at == 0 {
         return has_entry(rt, "./", name);
@@ -66,7 +66,7 @@ fn is_there(rt: &HostRuntime, name: &[u8]) -> io::Result<bool> {
 }
 
 // The path of a file that is to be read.
-pub(crate) fn path_to_read<'a>(rt: &HostRuntime, name: &'a [u8]) -> io::Result<&'a str> {
+pub(crate) fn path_to_read<'a>(rt: &impl Files, name: &'a [u8]) -> io::Result<&'a str> {
     let path = path_of(name);
     if path.is_err() && !is_there(rt, name)? {
         return Err(io::Error::from_raw_os_error(ENOENT));

@@ -1,5 +1,5 @@
 // Names and words as they are told: one with control characters, or that is not UTF-8, stands as the shell reads it, $'a\x0ab'; an empty one is ''.
-use crate::notes::put_error;
+use crate::notes::{Streams, put_error};
 
 // Whether the byte at a place stands as it is, in a text or in what is none. The control characters past ASCII are those from C2 80 to C2 9F.
 fn is_shown(w: &[u8], at: usize, is_text: bool) -> bool {
@@ -29,7 +29,7 @@ fn first_hidden(w: &[u8], is_text: bool) -> usize {
 }
 
 // A byte between the quotes.
-fn say_byte(rt: &HostRuntime, w: &[u8], at: usize, is_text: bool) {
+fn say_byte(rt: &impl Streams, w: &[u8], at: usize, is_text: bool) {
     let b = lent::peek(w, at);
     if b != b'\'' && b != b'\\' {
         if is_shown(w, at, is_text) {
@@ -41,7 +41,7 @@ fn say_byte(rt: &HostRuntime, w: &[u8], at: usize, is_text: bool) {
 }
 
 // All of them.
-fn say_bytes(rt: &HostRuntime, w: &[u8], is_text: bool) {
+fn say_bytes(rt: &impl Streams, w: &[u8], is_text: bool) {
     let mut i = 0;
     while i < w.len() {
         say_byte(rt, w, i, is_text);
@@ -50,7 +50,7 @@ fn say_bytes(rt: &HostRuntime, w: &[u8], is_text: bool) {
 }
 
 // A word.
-pub(crate) fn say_word(rt: &HostRuntime, w: &[u8]) {
+pub(crate) fn say_word(rt: &impl Streams, w: &[u8]) {
     let is_text = text::well_formed(w) == w.len();
     if w.len() == 0 {
         put_error(rt, b"''");
@@ -66,7 +66,7 @@ pub(crate) fn say_word(rt: &HostRuntime, w: &[u8]) {
 }
 
 // The name of a file that is read.
-pub(crate) fn say_name(rt: &HostRuntime, name: &[u8]) {
+pub(crate) fn say_name(rt: &impl Streams, name: &[u8]) {
     if check::same(name, b"-") {
         put_error(rt, b"standard input");
         return;

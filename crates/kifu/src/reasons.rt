@@ -1,5 +1,5 @@
 // The words of each reason why a line cannot be read.   (02, request (ii))
-use crate::notes::{Stream, put};
+use crate::notes::{Stream, Streams, put};
 use crate::{notes, words};
 use moves::Reason;
 use spell::Spelled;
@@ -90,7 +90,7 @@ fn row_of(s: &[u8], taken: usize, reason: Reason, at: usize) -> usize {
 
 // The words of a reason; those of the last rows have a number of lines and the first of them.
 pub(crate) fn say(
-    rt: &HostRuntime,
+    rt: &impl Streams,
     to: Stream,
     s: &[u8],
     taken: usize,

@@ -1,5 +1,5 @@
 // The sentence of each refusal, with its figures.   (01, Numbers of refusal)
-use crate::notes::{REFUSED, put_error, say_error};
+use crate::notes::{REFUSED, Streams, put_error, say_error};
 use crate::passes::Walk;
 use crate::{notes, passes, words};
 use jkf::Figures;
@@ -7,12 +7,12 @@ use stops::{Astray, StopAnswer};
 use text::{Cursor, Place};
 
 // The end of a refusal: its number.
-pub(crate) fn end(rt: &HostRuntime, number: u64) {
+pub(crate) fn end(rt: &impl Streams, number: u64) {
     say_error(rt, b" (refusal %)\n", number, 0, 0);
 }
 
 // A count that cannot be written, of a side and of a kind, in the order of the hands.
-fn say_hand(rt: &HostRuntime, side: u64, kind: u64) {
+fn say_hand(rt: &impl Streams, side: u64, kind: u64) {
     let color = if side == 0 { 0 } else { 6 };
     let at = if kind < 6 { 8 * (kind as usize) } else { 48 };
     put_error(rt, shown::table_text(b"\x05Black\x05White", color));
@@ -39,7 +39,7 @@ fn row_of(number: u64) -> usize {
 }
 
 // The sentences: those of 6, 8 and from 15 to 17 are made elsewhere, and that of 20 is the last.
-fn say_refusal(rt: &HostRuntime, number: u64, x: u64, y: u64) {
+fn say_refusal(rt: &impl Streams, number: u64, x: u64, y: u64) {
     if number == 8 {
         say_hand(rt, x, y);
         return;
@@ -71,20 +71,20 @@ fn say_refusal(rt: &HostRuntime, number: u64, x: u64, y: u64) {
 }
 
 // Says in a line why a file was refused, in the words of one refusal and with the number of another.
-fn tell_as(rt: &HostRuntime, name: &[u8], f: Figures, number: u64) {
+fn tell_as(rt: &impl Streams, name: &[u8], f: Figures, number: u64) {
     notes::head(rt, REFUSED, name);
     say_refusal(rt, f.number, f.first, f.second);
     end(rt, number);
 }
 
 // Says in a line why a file was refused.
-pub(crate) fn tell(rt: &HostRuntime, name: &[u8], f: Figures) {
+pub(crate) fn tell(rt: &impl Streams, name: &[u8], f: Figures) {
     tell_as(rt, name, f, f.number);
 }
 
 // Says in a line why a text was refused, by a place in it: its line, and the byte; in the words of one refusal and with the number of another.
 pub(crate) fn tell_at(
-    rt: &HostRuntime,
+    rt: &impl Streams,
     name: &[u8],
     text: &[u8],
     words: u64,
@@ -128,7 +128,7 @@ fn empty_line(text: &[u8], at: usize) -> u64 {
 }
 
 // Says in a line that moves hang nowhere: behind 変化 or, which is the usual cause, behind a line that was not understood.
-fn tell_astray(rt: &HostRuntime, name: &[u8], text: &[u8], a: Astray) {
+fn tell_astray(rt: &impl Streams, name: &[u8], text: &[u8], a: Astray) {
     let w = passes::walked(text, passes::before_moves(text).next, a.at as usize);
     let line = stops::line_column(text, a.at as usize).line;
     notes::head(rt, REFUSED, name);
@@ -167,7 +167,7 @@ fn tell_astray(rt: &HostRuntime, name: &[u8], text: &[u8], a: Astray) {
 }
 
 // Says why reading stopped with a refusal.
-pub(crate) fn tell_stop(rt: &HostRuntime, name: &[u8], text: &[u8], stop: StopAnswer) {
+pub(crate) fn tell_stop(rt: &impl Streams, name: &[u8], text: &[u8], stop: StopAnswer) {
     match stop {
         StopAnswer::TextTooLong(n) => tell_at(rt, name, text, 1, n, 1),
         StopAnswer::NotUtf8(n) => tell_at(rt, name, text, 2, n, 2),
@@ -178,7 +178,7 @@ pub(crate) fn tell_stop(rt: &HostRuntime, name: &[u8], text: &[u8], stop: StopAn
 }
 
 // Says why reading into a block was refused. That the block would be too long is all that `stop`, which fills none, cannot tell.
-pub(crate) fn tell_text(rt: &HostRuntime, name: &[u8], text: &[u8], f: Figures) {
+pub(crate) fn tell_text(rt: &impl Streams, name: &[u8], text: &[u8], f: Figures) {
     if f.number == 4 {
         tell(rt, name, f);
         return;

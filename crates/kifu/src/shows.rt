@@ -1,5 +1,5 @@
 // The position after an entry: the move that led to it and the diagram, or why there is none.   (02, request (i))
-use crate::notes::{REFUSED, Stream, put, put_error, say_error};
+use crate::notes::{REFUSED, Stream, Streams, put, put_error, say_error};
 use crate::{notes, refusals};
 use converter::{Mode, Obstacle};
 use jkf::{Entry, Figures, Move, Origin, Position, Time};
@@ -24,7 +24,7 @@ fn put_line(out: &mut [u8], b: &[u8], line: u16, entry: u16, e: Entry) -> usize 
 }
 
 // The move that led to a position; nothing has landed where none did.
-fn print_led(rt: &HostRuntime, b: &[u8], trail: Trail) -> io::Result<()> {
+fn print_led(rt: &impl Streams, b: &[u8], trail: Trail) -> io::Result<()> {
     if trail.last == 81 {
         return rt.write_all(b"the start\n");
     }
@@ -44,14 +44,14 @@ fn print_led(rt: &HostRuntime, b: &[u8], trail: Trail) -> io::Result<()> {
 }
 
 // A position, as a text has it.
-fn print_diagram(rt: &HostRuntime, p: Position) -> io::Result<()> {
+fn print_diagram(rt: &impl Print, p: Position) -> io::Result<()> {
     let mut out = [0u8; 2048];
     let n = converter::put_position_text(&mut out, p);
     rt.write_all(lent::front(&out, n))
 }
 
 // The move that led to a position, and the position.
-pub(crate) fn print(rt: &HostRuntime, b: &[u8], after: After) -> io::Result<()> {
+pub(crate) fn print(rt: &impl Streams, b: &[u8], after: After) -> io::Result<()> {
     let trail = after.trail;
     print_led(rt, b, trail)?;
     let position = after.position;
@@ -74,7 +74,7 @@ fn words_of(h: Hindrance) -> usize {
 }
 
 // Why a move stops the play: rows of 56 bytes.
-fn say_hindrance(rt: &HostRuntime, h: Hindrance) {
+fn say_hindrance(rt: &impl Streams, h: Hindrance) {
     put_error(
         rt,
         shown::table_text(
@@ -110,7 +110,7 @@ fn untimed(e: Entry) -> Entry {
 }
 
 // A line without the blanks before it and the break behind it.
-fn say_bare(rt: &HostRuntime, to: Stream, t: &[u8]) -> io::Result<()> {
+fn say_bare(rt: &impl Streams, to: Stream, t: &[u8]) -> io::Result<()> {
     let at = Cursor { at: 0 }.blanks(t).at;
     if t.len() <= at {
         return Ok(());
@@ -120,7 +120,7 @@ fn say_bare(rt: &HostRuntime, to: Stream, t: &[u8]) -> io::Result<()> {
 
 // The number and the move of an entry.
 pub(crate) fn say_move(
-    rt: &HostRuntime,
+    rt: &impl Streams,
     to: Stream,
     b: &[u8],
     line: u16,
@@ -132,7 +132,7 @@ pub(crate) fn say_move(
 }
 
 // What stands on a cell: rows of the kinds, with 16 added for White.
-fn say_cell(rt: &HostRuntime, cell: u8) {
+fn say_cell(rt: &impl Streams, cell: u8) {
     if cell == 0 {
         put_error(rt, b"; nothing stands there");
         return;
@@ -149,7 +149,7 @@ fn say_cell(rt: &HostRuntime, cell: u8) {
 }
 
 // What stands on a square after an entry, which is one that play comes past.
-fn say_square(rt: &HostRuntime, b: &[u8], line: u64, entry: u64, x: u8, y: u8) {
+fn say_square(rt: &impl Streams, b: &[u8], line: u64, entry: u64, x: u8, y: u8) {
     let after = positions::position_after(b, line, entry);
     let position = after.position;
     let cells = position.cells;
@@ -164,7 +164,7 @@ fn say_square(rt: &HostRuntime, b: &[u8], line: u64, entry: u64, x: u8, y: u8) {
 }
 
 // What stands where a move comes from, if it is not the first of its line.
-fn say_there(rt: &HostRuntime, b: &[u8], line: u16, entry: u16) {
+fn say_there(rt: &impl Streams, b: &[u8], line: u16, entry: u16) {
     let Entry::Moved(m) = entry_at(b, line, entry) else {
         return;
     };
@@ -188,7 +188,7 @@ fn say_there(rt: &HostRuntime, b: &[u8], line: u16, entry: u16) {
 }
 
 // Says in a line at which move play stops, and why.
-fn tell_stop(rt: &HostRuntime, name: &[u8], b: &[u8], trail: Trail, h: Hindrance) {
+fn tell_stop(rt: &impl Streams, name: &[u8], b: &[u8], trail: Trail, h: Hindrance) {
     notes::head(rt, REFUSED, name);
     say_error(
         rt,
@@ -207,7 +207,7 @@ fn tell_stop(rt: &HostRuntime, name: &[u8], b: &[u8], trail: Trail, h: Hindrance
 }
 
 // Says that the handicap with a number has no diagram to play from.
-fn tell_start(rt: &HostRuntime, name: &[u8], preset: u64) {
+fn tell_start(rt: &impl Streams, name: &[u8], preset: u64) {
     let mut out = [0u8; 16];
     let n = spell::put_preset(&mut out, if preset < 17 { preset as u8 } else { 0 });
     notes::head(rt, REFUSED, name);
@@ -221,7 +221,7 @@ fn tell_start(rt: &HostRuntime, name: &[u8], preset: u64) {
 }
 
 // Says that a line has no such entry, and which is its last.
-fn tell_entry(rt: &HostRuntime, name: &[u8], b: &[u8], line: u64, entry: u64) {
+fn tell_entry(rt: &impl Streams, name: &[u8], b: &[u8], line: u64, entry: u64) {
     let k = if line < 65536 { line as u16 } else { 0 };
     notes::head(rt, REFUSED, name);
     say_error(
@@ -249,7 +249,7 @@ fn figures_of(after: After) -> Figures {
 }
 
 // Says in a line why there is no position to print; and whether there is none.
-pub(crate) fn tell(rt: &HostRuntime, name: &[u8], b: &[u8], after: After) -> bool {
+pub(crate) fn tell(rt: &impl Streams, name: &[u8], b: &[u8], after: After) -> bool {
     let trail = after.trail;
     let how = trail.how;
     if let Verdict::Stops(h) = how {

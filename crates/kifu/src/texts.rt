@@ -1,10 +1,11 @@
 // What is asked of a KIF text.
 use crate::edits::Edited;
-use crate::notes::{ANSWER, NOTE, REFUSED, Stream, UNREAD};
+use crate::notes::{ANSWER, NOTE, REFUSED, Stream, Streams, UNREAD};
 use crate::{
     edits, files, notes, passes, print_text, refusals, shows, times, told, trees, wheres, words,
 };
 use std::io;
+use std::rt::{Env, Files};
 use stops::StopAnswer;
 
 // How many lines of a text the first bytes have.
@@ -51,7 +52,7 @@ fn led_by(s: &[u8], b: u8) -> Led {
 }
 
 // Says what a person may not expect of a text that was read: it has no moves, or a diagram that was not understood.
-fn tell_doubts(rt: &HostRuntime, kind: u8, name: &[u8], s: &[u8], b: &[u8]) {
+fn tell_doubts(rt: &impl Streams, kind: u8, name: &[u8], s: &[u8], b: &[u8]) {
     if s.len() == 0 {
         notes::tell(rt, kind, name, b"the file is empty", 0, 0);
     }
@@ -72,7 +73,7 @@ fn tell_doubts(rt: &HostRuntime, kind: u8, name: &[u8], s: &[u8], b: &[u8]) {
 }
 
 // Says what was left of a text that was read, and what was passed over in it; and whether moves were passed over.
-fn tell_read(rt: &HostRuntime, kind: u8, name: &[u8], s: &[u8], b: &[u8]) -> bool {
+fn tell_read(rt: &impl Streams, kind: u8, name: &[u8], s: &[u8], b: &[u8]) -> bool {
     wheres::tell_left(rt, kind, name, s);
     let is_hiding = passes::tell(rt, kind, name, s, passes::before_moves(s).next);
     tell_doubts(rt, kind, name, s, b);
@@ -80,7 +81,7 @@ fn tell_read(rt: &HostRuntime, kind: u8, name: &[u8], s: &[u8], b: &[u8]) -> boo
 }
 
 // Prints how much of a text was taken, and what it holds.
-fn print_counts(rt: &HostRuntime, s: &[u8], taken: usize, b: &[u8]) -> io::Result<()> {
+fn print_counts(rt: &impl Streams, s: &[u8], taken: usize, b: &[u8]) -> io::Result<()> {
     notes::say(
         rt,
         Stream::Output,
@@ -109,7 +110,7 @@ fn print_counts(rt: &HostRuntime, s: &[u8], taken: usize, b: &[u8]) -> io::Resul
 
 // Prints the answer to `check`: that, and what no text keeps.
 fn print_check(
-    rt: &HostRuntime,
+    rt: &impl Streams,
     name: &[u8],
     s: &[u8],
     taken: usize,
@@ -144,20 +145,20 @@ fn print_check(
 }
 
 // Prints bytes taken and block length.
-fn print_read(rt: &HostRuntime, taken: u64, len: u64) -> io::Result<()> {
+fn print_read(rt: &impl Print, taken: u64, len: u64) -> io::Result<()> {
     let mut out = [0u8; 128];
     let n = shown::put_read(&mut out, taken, len);
     rt.write_all(lent::front(&out, n))
 }
 
 // Prints the listing of a block.
-fn print_listing(rt: &HostRuntime, taken: u64, b: &[u8], out: &mut [u8]) -> io::Result<()> {
+fn print_listing(rt: &impl Print, taken: u64, b: &[u8], out: &mut [u8]) -> io::Result<()> {
     let n = shown::put_listing(out, taken, b);
     rt.write_all(lent::front(&out[0..], n))
 }
 
 // Writes a block into the new file that the second name is of, and prints how long it is; without that the file goes again.
-fn keep(rt: &HostRuntime, taken: u64, b: &[u8]) {
+fn keep(rt: &(impl Streams + Env + Files), taken: u64, b: &[u8]) {
     if !files::keep(rt, 2, b) {
         return;
     }
@@ -167,7 +168,14 @@ fn keep(rt: &HostRuntime, taken: u64, b: &[u8]) {
 }
 
 // Prints a block as a text once it is edited. The edit is done before anything is printed, so both use one buffer.
-fn print_edited(rt: &HostRuntime, word: usize, line: u64, name: &[u8], b: &[u8], out: &mut [u8]) {
+fn print_edited(
+    rt: &(impl Streams + Env + Files + Input),
+    word: usize,
+    line: u64,
+    name: &[u8],
+    b: &[u8],
+    out: &mut [u8],
+) {
     let mut edited = [0u8; 65535];
     let Edited::Block(n, second, times) = edits::make(rt, word, line, name, b, out, &mut edited)
     else {
@@ -183,7 +191,7 @@ fn print_edited(rt: &HostRuntime, word: usize, line: u64, name: &[u8], b: &[u8],
 }
 
 // Prints the position after an entry, or says why there is none.
-fn print_position(rt: &HostRuntime, name: &[u8], b: &[u8], line: u64, entry: u64) {
+fn print_position(rt: &impl Streams, name: &[u8], b: &[u8], line: u64, entry: u64) {
     let after = positions::position_after(b, line, entry);
     if shows::tell(rt, name, b, after) {
         return;
@@ -193,7 +201,7 @@ fn print_position(rt: &HostRuntime, name: &[u8], b: &[u8], line: u64, entry: u64
 
 // What is asked of a text that was read into a block, but for `check`. Two calls keep what an edit needs of the stack apart from this function's.
 fn give(
-    rt: &HostRuntime,
+    rt: &(impl Streams + Env + Files + Input),
     word: usize,
     line: u64,
     entry: u64,
@@ -220,7 +228,7 @@ fn give(
 }
 
 // Says that lines were passed over that are moves, or that may be, since no other move was read; and whether it is so.
-fn tell_passed(rt: &HostRuntime, name: &[u8], s: &[u8], b: &[u8]) -> bool {
+fn tell_passed(rt: &impl Streams, name: &[u8], s: &[u8], b: &[u8]) -> bool {
     let from = passes::before_moves(s).next;
     let w = passes::walked(s, from, s.len());
     if w.hidden == 0 && (w.odd == 0 || block::moves_in(b) != 1) {
@@ -239,7 +247,7 @@ fn tell_passed(rt: &HostRuntime, name: &[u8], s: &[u8], b: &[u8]) -> bool {
 }
 
 // Says what a word that writes would lose of a text; and whether there is such a thing.
-fn tell_loss(rt: &HostRuntime, name: &[u8], s: &[u8], b: &[u8]) -> bool {
+fn tell_loss(rt: &impl Streams, name: &[u8], s: &[u8], b: &[u8]) -> bool {
     if wheres::tell_left(rt, REFUSED, name, s) {
         return true;
     }
@@ -248,7 +256,7 @@ fn tell_loss(rt: &HostRuntime, name: &[u8], s: &[u8], b: &[u8]) -> bool {
 
 // Reads a text into a block, does what is asked of it and tells the rest; of times that were lost a listing has none to show.
 pub(crate) fn read(
-    rt: &HostRuntime,
+    rt: &(impl Streams + Env + Files + Input),
     word: usize,
     line: u64,
     entry: u64,
@@ -280,7 +288,7 @@ pub(crate) fn read(
 }
 
 // Prints where reading of a text stopped, or says why the text is refused.
-pub(crate) fn print_where(rt: &HostRuntime, name: &[u8], text: &[u8]) {
+pub(crate) fn print_where(rt: &impl Streams, name: &[u8], text: &[u8]) {
     let stop = stops::stop(text);
     let StopAnswer::Stopped(taken, reason, at) = stop else {
         refusals::tell_stop(rt, name, text, stop);

@@ -1,5 +1,6 @@
 // Times too large to read: how many, and the line of the text in which the first stands.   (02, request (iv))
 use crate::notes;
+use crate::notes::Streams;
 use moves::MoveLine;
 use text::Cursor;
 
@@ -88,7 +89,7 @@ pub(crate) fn of_text(text: &[u8], lost: u64) -> Times {
 }
 
 // Says so where some were lost.
-pub(crate) fn tell(rt: &HostRuntime, kind: u8, name: &[u8], t: Times) {
+pub(crate) fn tell(rt: &impl Streams, kind: u8, name: &[u8], t: Times) {
     notes::tell_some(
         rt,
         kind,

@@ -1,7 +1,7 @@
 // The lines of play as a tree: each below the one that it hangs on, by its first moves.
 ghost use Rattle.std.specs.Prelude.{◌≤◌};
 
-use crate::notes::Stream;
+use crate::notes::{Stream, Streams};
 use crate::{notes, shows};
 use std::io;
 
@@ -41,7 +41,7 @@ fn are_commented(b: &[u8], k: u16, from: u16, to: u16) -> bool {
 }
 
 // The mark of a comment.
-fn print_mark(rt: &HostRuntime, is_there: bool) -> io::Result<()> {
+fn print_mark(rt: &impl Print, is_there: bool) -> io::Result<()> {
     if is_there {
         return rt.write_all(b"*");
     }
@@ -49,21 +49,21 @@ fn print_mark(rt: &HostRuntime, is_there: bool) -> io::Result<()> {
 }
 
 // An entry of a line.
-fn print_entry(rt: &HostRuntime, b: &[u8], k: u16, entry: u16) -> io::Result<()> {
+fn print_entry(rt: &impl Streams, b: &[u8], k: u16, entry: u16) -> io::Result<()> {
     rt.write_all(b"  ")?;
     shows::say_move(rt, Stream::Output, b, k, entry)?;
     print_mark(rt, is_commented(b, k, entry))
 }
 
 // How far a line goes whose other entries are not shown, marked where one of them is.
-fn print_last(rt: &HostRuntime, b: &[u8], k: u16, from: u16, count: u16) -> io::Result<()> {
+fn print_last(rt: &impl Streams, b: &[u8], k: u16, from: u16, count: u16) -> io::Result<()> {
     let past = block::start_of(b, k) as u64 + count as u64;
     notes::say(rt, Stream::Output, b"  .. %", notes::above(past, 1), 0, 0)?;
     print_mark(rt, are_commented(b, k, from, count))
 }
 
 // The first three entries of a line from one on, and how far it goes.
-fn print_entries(rt: &HostRuntime, b: &[u8], k: u16, from: u16) -> io::Result<()> {
+fn print_entries(rt: &impl Streams, b: &[u8], k: u16, from: u16) -> io::Result<()> {
     let count = shows::short(block::entry_count(b, k));
     let mut i = from;
     let mut left: u8 = 3;
@@ -79,7 +79,7 @@ fn print_entries(rt: &HostRuntime, b: &[u8], k: u16, from: u16) -> io::Result<()
 }
 
 // A line; the comments that stand before the first move are those of the main line's first entry.
-fn print_line(rt: &HostRuntime, b: &[u8], k: u16) -> io::Result<()> {
+fn print_line(rt: &impl Streams, b: &[u8], k: u16) -> io::Result<()> {
     rt.write_all(lent::front(b"                        ", 2 * depth(b, k)))?;
     notes::say(rt, Stream::Output, b"line %:", k as u64, 0, 0)?;
     if k != 0 {
@@ -94,7 +94,7 @@ fn print_line(rt: &HostRuntime, b: &[u8], k: u16) -> io::Result<()> {
 }
 
 // All of them.
-pub(crate) fn print(rt: &HostRuntime, b: &[u8]) -> io::Result<()> {
+pub(crate) fn print(rt: &impl Streams, b: &[u8]) -> io::Result<()> {
     let lines = shows::short(block::lines_in(b));
     let mut k = 0;
     while k < lines {

@@ -1,5 +1,5 @@
 // Where reading stopped: in lines of the answer, in notes, or in a refusal.   (02, request (ii))
-use crate::notes::{ANSWER, NOTE, REFUSED, Stream, UNREAD, put};
+use crate::notes::{ANSWER, NOTE, REFUSED, Stream, Streams, UNREAD, put};
 use crate::{notes, reasons};
 use moves::Reason;
 use std::io;
@@ -12,7 +12,7 @@ fn left(s: &[u8], taken: usize) -> u64 {
 
 // The place that was reached, and why no further one was.
 pub(crate) fn say_reached(
-    rt: &HostRuntime,
+    rt: &impl Streams,
     to: Stream,
     s: &[u8],
     taken: usize,
@@ -26,7 +26,7 @@ pub(crate) fn say_reached(
 
 // The first byte not taken and how many were not; and the place that was reached.
 fn tell_rest(
-    rt: &HostRuntime,
+    rt: &impl Streams,
     kind: u8,
     name: &[u8],
     s: &[u8],
@@ -88,7 +88,7 @@ fn is_missed(s: &[u8], taken: usize, reason: Reason) -> bool {
 }
 
 // Says what comes of it that something is missed from a line on: the answer to `check` is not the whole, and of a refusal how to go on.
-fn tell_missed(rt: &HostRuntime, kind: u8, name: &[u8], line: u64) {
+fn tell_missed(rt: &impl Streams, kind: u8, name: &[u8], line: u64) {
     if kind == ANSWER {
         notes::tell(
             rt,
@@ -112,7 +112,7 @@ fn tell_missed(rt: &HostRuntime, kind: u8, name: &[u8], line: u64) {
 }
 
 // Says what was left of a text, in lines of a kind; and whether something is missed by it. Else a note tells how long it is.
-pub(crate) fn tell_left(rt: &HostRuntime, kind: u8, name: &[u8], s: &[u8]) -> bool {
+pub(crate) fn tell_left(rt: &impl Streams, kind: u8, name: &[u8], s: &[u8]) -> bool {
     let StopAnswer::Stopped(to, reason, at) = stops::stop(s) else {
         return false;
     };
@@ -138,7 +138,7 @@ pub(crate) fn tell_left(rt: &HostRuntime, kind: u8, name: &[u8], s: &[u8]) -> bo
 
 // Where reading stopped, in full.
 pub(crate) fn print(
-    rt: &HostRuntime,
+    rt: &impl Streams,
     name: &[u8],
     s: &[u8],
     taken: usize,

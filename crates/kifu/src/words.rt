@@ -1,7 +1,7 @@
 // The words that the tool is told by, and how it is used.
 ghost use Rattle.std.specs.Prelude.{◌≡◌, ◌≤◌, length, take};
 
-use crate::notes::put_error;
+use crate::notes::{Streams, put_error};
 use crate::quotes;
 use converter::Mode;
 use std::env::{Env, FillError};
@@ -59,7 +59,7 @@ pub enum Numbered {
 }
 
 // Puts word i of the command line at the start of a buffer, and answers how long it is; 0 where there is none, or no room for it.
-pub(crate) fn arg(rt: &HostRuntime, i: usize, w: &mut [u8]) -> usize
+pub(crate) fn arg(rt: &impl Env, i: usize, w: &mut [u8]) -> usize
     ensures { (result ≤ length w.new) × (result ≡ length (take result w.new)) }
 {
     match rt.arg(i, w) {
@@ -69,7 +69,7 @@ pub(crate) fn arg(rt: &HostRuntime, i: usize, w: &mut [u8]) -> usize
 }
 
 // How many words the command line has, the program's name among them.
-fn arg_count(rt: &HostRuntime) -> usize {
+fn arg_count(rt: &impl Env) -> usize {
     for i in 0..usize::MAX {
         if let Err(FillError::NotPresent) = rt.arg(i, &mut []) {
             return i;
@@ -96,14 +96,14 @@ fn flag_of(w: &[u8]) -> u8 {
 }
 
 // Which flag the word at a place is.
-fn flag_at(rt: &HostRuntime, i: usize) -> u8 {
+fn flag_at(rt: &impl Env, i: usize) -> u8 {
     let mut w = [0u8; 4096];
     let n = arg(rt, i, &mut w);
     flag_of(&w[..n])
 }
 
 // Whether a flag stands behind the first word.
-pub(crate) fn has(rt: &HostRuntime, flag: u8) -> bool {
+pub(crate) fn has(rt: &impl Env, flag: u8) -> bool {
     let count = arg_count(rt);
     let mut i = 2;
     while i < count {
@@ -116,7 +116,7 @@ pub(crate) fn has(rt: &HostRuntime, flag: u8) -> bool {
 }
 
 // The place of name k behind the first word, counted from 1; past the words where there are fewer.
-fn place_of(rt: &HostRuntime, k: usize) -> usize {
+fn place_of(rt: &impl Env, k: usize) -> usize {
     let count = arg_count(rt);
     let mut left = k;
     let mut i = 2;
@@ -133,21 +133,21 @@ fn place_of(rt: &HostRuntime, k: usize) -> usize {
 }
 
 // Name k.
-pub(crate) fn name(rt: &HostRuntime, k: usize, w: &mut [u8]) -> usize
+pub(crate) fn name(rt: &impl Env, k: usize, w: &mut [u8]) -> usize
     ensures { (result ≤ length w.new) × (result ≡ length (take result w.new)) }
 {
     arg(rt, place_of(rt, k), w)
 }
 
 // Whether name k is that of standard input.
-fn is_input(rt: &HostRuntime, k: usize) -> bool {
+fn is_input(rt: &impl Env, k: usize) -> bool {
     let mut w = [0u8; 4096];
     let n = name(rt, k, &mut w);
     check::same(&w[..n], b"-")
 }
 
 // The mode that is asked for: without --plain the one that loses nothing and that other programs read.
-pub(crate) fn mode(rt: &HostRuntime) -> Mode {
+pub(crate) fn mode(rt: &impl Env) -> Mode {
     if has(rt, PLAIN) {
         return Mode::Plain;
     }
@@ -174,7 +174,7 @@ pub(crate) fn takes(word: usize, flag: u8) -> bool {
 }
 
 // Whether a word refuses what was not read to its end: each that writes, if --partial is not there.
-pub(crate) fn wants_all(rt: &HostRuntime, word: usize) -> bool {
+pub(crate) fn wants_all(rt: &impl Env, word: usize) -> bool {
     if takes(word, PARTIAL) {
         return !has(rt, PARTIAL);
     }
@@ -182,7 +182,7 @@ pub(crate) fn wants_all(rt: &HostRuntime, word: usize) -> bool {
 }
 
 // Whether the flags are such as a word takes.
-fn are_flags(rt: &HostRuntime, word: usize) -> bool {
+fn are_flags(rt: &impl Env, word: usize) -> bool {
     let count = arg_count(rt);
     let mut i = 2;
     while i < count {
@@ -196,7 +196,7 @@ fn are_flags(rt: &HostRuntime, word: usize) -> bool {
 }
 
 // Whether the names are as many as a word takes, and standard input is one of them at most.
-fn are_names(rt: &HostRuntime, word: usize) -> bool {
+fn are_names(rt: &impl Env, word: usize) -> bool {
     let n = names_of(word);
     if arg_count(rt) <= place_of(rt, n) {
         return false;
@@ -222,7 +222,7 @@ fn number_in(w: &[u8]) -> Numbered {
 }
 
 // The number that name k is; or says what is none, by the word that stands for it.
-pub(crate) fn number(rt: &HostRuntime, k: usize, stands: &[u8]) -> Numbered {
+pub(crate) fn number(rt: &(impl Streams + Env), k: usize, stands: &[u8]) -> Numbered {
     let mut w = [0u8; 4096];
     let n = name(rt, k, &mut w);
     let x = number_in(&w[..n]);
@@ -254,7 +254,7 @@ fn is_row_of(table: &[u8], at: usize, w: &[u8]) -> bool {
 }
 
 // The row of a word in the table of uses; or says that there is none, and answers 15.
-pub(crate) fn word_of(rt: &HostRuntime, uses: &[u8], w: &[u8]) -> usize {
+pub(crate) fn word_of(rt: &impl Streams, uses: &[u8], w: &[u8]) -> usize {
     let mut at = 0;
     let mut k = 0;
     while k < NO_WORD {
@@ -269,7 +269,7 @@ pub(crate) fn word_of(rt: &HostRuntime, uses: &[u8], w: &[u8]) -> usize {
 }
 
 // Says that there is no such word.
-fn tell_unknown(rt: &HostRuntime, w: &[u8]) {
+fn tell_unknown(rt: &impl Streams, w: &[u8]) {
     put_error(rt, b"kifu: usage: ");
     if w.len() == 0 {
         put_error(rt, b"a word is missing");
@@ -293,7 +293,7 @@ pub(crate) fn row(table: &[u8], k: usize) -> &[u8] {
 }
 
 // Whether names and flags are such as a word takes; or says how it is used.
-pub(crate) fn is_used(rt: &HostRuntime, uses: &[u8], word: usize) -> bool {
+pub(crate) fn is_used(rt: &(impl Streams + Env), uses: &[u8], word: usize) -> bool {
     if are_names(rt, word) {
         if are_flags(rt, word) {
             return true;
