@@ -12,7 +12,6 @@ pub returns-then-sort-eq2 : goal.returns-then-sort-eq2
 unfolding entry_in
 returns-then-sort-eq2 c = rw (← c.peek-sort.ensures, ne_eqb _ _ c.if-sort-eq0.false, eq-eqb _ _ c.if-sort-eq2.true, c.special_of.ensures, c.peek.ensures, c.time_in.ensures)
 
--- TODO .Move-in.ensures
 pub returns : goal.returns
 unfolding entry_in
 returns c = rw (← c.peek-sort.ensures, ne_eqb _ _ c.if-sort-eq0.false, ne_eqb _ _ c.if-sort-eq2.false, c.move_in.ensures)

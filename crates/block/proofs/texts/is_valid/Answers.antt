@@ -2,6 +2,5 @@
 -- Assumes nothing.
 use Rattle.block.proofs.texts.is_valid.Goals as goal
 
--- TODO .well-formed-2.ensures
 pub returns : goal.returns
 returns c = rw c.well_formed-2.ensures

@@ -4,7 +4,7 @@ use Rattle.std.proofs.Common.{◌-◌, ◌≤◌}
 use Rattle.kifu.proofs.words.word_of.Given as goal
 
 abbrev pub invariant-loop-k : goal.invariant-loop-k
-invariant-loop-k l = l.k ≤ 15
+invariant-loop-k g l = l.k ≤ 15
 
 abbrev pub decreases-loop-k : goal.decreases-loop-k
-decreases-loop-k l = 15 - l.k
+decreases-loop-k g l = 15 - l.k
