@@ -4,7 +4,7 @@ ghost use Rattle.std.specs.Prelude.{◌<◌, ◌≤◌};
 use crate::edits::Edited;
 use crate::notes::{NOTE, Stream, Streams};
 use crate::words::{BLOCK_CUT, BLOCK_LIST, BLOCK_PUT, BLOCK_TREE, TEXT};
-use crate::{edits, files, notes, print_text, refusals, told, trees};
+use crate::{Printed, edits, files, notes, print_text, refusals, told, trees};
 use jkf::Figures;
 use std::io;
 use std::rt::{Env, Files};
@@ -124,11 +124,11 @@ fn keep_edited(
     if !files::keep(rt, place_of_out(word), lent::front(&made[0..], n)) {
         return;
     }
-    if told(rt, print_done(rt, word, n as u64, second)) {
-        edits::tell_variation(rt, times);
-        return;
+    match told(rt, print_done(rt, word, n as u64, second)) {
+        Printed::All => edits::tell_variation(rt, times),
+        Printed::Closed => (),
+        Printed::Failed => files::remove(rt, place_of_out(word)),
     }
-    files::remove(rt, place_of_out(word));
 }
 
 // The text that is put in is read before anything is printed, so both use one buffer.

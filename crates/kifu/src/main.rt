@@ -25,34 +25,64 @@ use std::io;
 use std::rt::{Env, Files};
 use words::Numbered;
 
+// What became of what was printed: all was taken, or who reads has closed the pipe, or nothing was printed whole for another reason, which is told.
+#[derive(Clone, Copy)]
+pub(crate) enum Printed {
+    All,
+    Closed,
+    Failed,
+}
+
+// Whether all was taken.
+pub(crate) fn is_all(printed: Printed) -> bool {
+    match printed {
+        Printed::All => true,
+        _ => false,
+    }
+}
+
+// Whether who reads has closed the pipe, so that nothing more is said.
+pub(crate) fn is_closed(printed: Printed) -> bool {
+    match printed {
+        Printed::Closed => true,
+        _ => false,
+    }
+}
+
 // Says so where standard output did not take all, and hands that on. Who has closed a pipe is not told: `| head -1` is no mistake.
-pub(crate) fn told(rt: &impl Streams, written: io::Result<()>) -> bool {
+pub(crate) fn told(rt: &impl Streams, written: io::Result<()>) -> Printed {
     let Err(why) = written else {
-        return true;
+        return Printed::All;
     };
     if why.kind() == io::ErrorKind::BrokenPipe {
-        return true;
+        return Printed::Closed;
     }
     notes::put_error(rt, b"kifu: refused: standard output");
     notes::end_failed(rt, why);
-    false
+    Printed::Failed
 }
 
 // Prints a block as a text, and says what is lost by that, if it may lose something.
-pub(crate) fn print_text(rt: &(impl Streams + Env), name: &[u8], b: &[u8], out: &mut [u8]) -> bool {
+pub(crate) fn print_text(
+    rt: &(impl Streams + Env),
+    name: &[u8],
+    b: &[u8],
+    out: &mut [u8],
+) -> Printed {
     let f = jkf::figures_of(converter::write_as(b, words::mode(rt), out));
     if f.number != 0 {
         refusals::tell(rt, name, f);
-        return false;
+        return Printed::Failed;
     }
-    if !told(rt, rt.write_all(lent::front(&out[0..], f.first as usize))) {
-        return false;
+    let printed = told(rt, rt.write_all(lent::front(&out[0..], f.first as usize)));
+    if !is_all(printed) {
+        return printed;
     }
     if words::has(rt, words::PLAIN) {
         losses::tell(rt, name, b, f.second);
     }
     blocks::tell_nested(rt, name, b, f.second);
-    true
+    printed
 }
 
 // What is asked of the bytes of a file.

@@ -2,7 +2,8 @@
 use crate::edits::Edited;
 use crate::notes::{ANSWER, NOTE, REFUSED, Stream, Streams, UNREAD};
 use crate::{
-    edits, files, notes, passes, print_text, refusals, shows, times, told, trees, wheres, words,
+    Printed, edits, files, is_all, is_closed, notes, passes, print_text, refusals, shows, times,
+    told, trees, wheres, words,
 };
 use std::io;
 use std::rt::{Env, Files};
@@ -158,13 +159,15 @@ fn print_listing(rt: &impl Print, taken: u64, b: &[u8], out: &mut [u8]) -> io::R
 }
 
 // Writes a block into the new file that the second name is of, and prints how long it is; without that the file goes again.
-fn keep(rt: &(impl Streams + Env + Files), taken: u64, b: &[u8]) {
+fn keep(rt: &(impl Streams + Env + Files), taken: u64, b: &[u8]) -> Printed {
     if !files::keep(rt, 2, b) {
-        return;
+        return Printed::Failed;
     }
-    if !told(rt, print_read(rt, taken, b.len() as u64)) {
+    let printed = told(rt, print_read(rt, taken, b.len() as u64));
+    if !is_all(printed) && !is_closed(printed) {
         files::remove(rt, 2);
     }
+    printed
 }
 
 // Prints a block as a text once it is edited. The edit is done before anything is printed, so both use one buffer.
@@ -175,28 +178,30 @@ fn print_edited(
     name: &[u8],
     b: &[u8],
     out: &mut [u8],
-) {
+) -> Printed {
     let mut edited = [0u8; 65535];
     let Edited::Block(n, second, times) = edits::make(rt, word, line, name, b, out, &mut edited)
     else {
-        return;
+        return Printed::Failed;
     };
-    if !print_text(rt, name, lent::front(&edited, n), out) {
-        return;
+    let printed = print_text(rt, name, lent::front(&edited, n), out);
+    if !is_all(printed) {
+        return printed;
     }
     edits::tell_variation(rt, times);
     if word == words::CUT {
         notes::tell(rt, NOTE, name, b"lines of play cut out: %", second, 0);
     }
+    printed
 }
 
 // Prints the position after an entry, or says why there is none.
-fn print_position(rt: &impl Streams, name: &[u8], b: &[u8], line: u64, entry: u64) {
+fn print_position(rt: &impl Streams, name: &[u8], b: &[u8], line: u64, entry: u64) -> Printed {
     let after = positions::position_after(b, line, entry);
     if shows::tell(rt, name, b, after) {
-        return;
+        return Printed::Failed;
     }
-    told(rt, shows::print(rt, b, after));
+    told(rt, shows::print(rt, b, after))
 }
 
 // What is asked of a text that was read into a block, but for `check`. Two calls keep what an edit needs of the stack apart from this function's.
@@ -209,21 +214,15 @@ fn give(
     taken: u64,
     b: &[u8],
     out: &mut [u8],
-) {
+) -> Printed {
     match word {
-        words::LIST => {
-            told(rt, print_listing(rt, taken, b, out));
-        }
+        words::LIST => told(rt, print_listing(rt, taken, b, out)),
         words::BLOCK => keep(rt, taken, b),
         words::PUT => print_edited(rt, word, line, name, b, out),
         words::CUT => print_edited(rt, word, line, name, b, out),
         words::SHOW => print_position(rt, name, b, line, entry),
-        words::TREE => {
-            told(rt, trees::print(rt, b));
-        }
-        _ => {
-            print_text(rt, name, b, out);
-        }
+        words::TREE => told(rt, trees::print(rt, b)),
+        _ => print_text(rt, name, b, out),
     }
 }
 
@@ -280,7 +279,9 @@ pub(crate) fn read(
     if words::wants_all(rt, word) && tell_loss(rt, name, text, b) {
         return;
     }
-    give(rt, word, line, entry, name, f.first, b, out);
+    if is_closed(give(rt, word, line, entry, name, f.first, b, out)) {
+        return;
+    }
     tell_read(rt, NOTE, name, text, b);
     if word != words::LIST {
         times::tell(rt, NOTE, name, times::of_text(text, r.lost));
@@ -294,10 +295,10 @@ pub(crate) fn print_where(rt: &impl Streams, name: &[u8], text: &[u8]) {
         refusals::tell_stop(rt, name, text, stop);
         return;
     };
-    if told(
+    if is_all(told(
         rt,
         wheres::print(rt, name, text, taken as usize, reason, at as usize),
-    ) {
+    )) {
         passes::tell(rt, ANSWER, name, text, passes::before_moves(text).next);
     }
 }
