@@ -47,7 +47,8 @@ fn put_tens(out: &mut [u8], t: u8) -> usize
     if t < 1 {
         return 0;
     }
-    if t < 2 {
+    let is_one = t < 2;
+    if is_one {
         return lent::put_bytes(out, b"\xe5\x8d\x81");
     }
     let n = put_numeral(out, t);

@@ -12,8 +12,8 @@ use Rattle.spell.proofs.kansuji.put_tens.Goals as goal
 pub returns-then-t-lt1 : goal.returns-then-t-lt1
 returns-then-t-lt1 c = as_text (sym (tens-none c.args.t c.if-t-lt1.true)) (nothing _)
 
-pub returns-then-t-lt2 : goal.returns-then-t-lt2
-returns-then-t-lt2 c = as_text (sym (tens-one c.args.t c.if-t-lt1.false c.if-t-lt2.true)) (wrote_all (omega arith) c.put_bytes.ensures)
+pub returns-then-is_one : goal.returns-then-is_one
+returns-then-is_one c = as_text (sym (tens-one c.args.t c.if-t-lt1.false c.if-is_one.true)) (wrote_all (omega arith) c.put_bytes.ensures)
 
 pub returns : goal.returns
 returns c =
@@ -23,4 +23,4 @@ returns c =
     let r = rest_length c.put_numeral-n.new.out c.put_numeral-n.result in
     let l = wrote_length w in
     let k = w.count in
-    as_text (sym (tens-more a.t c.if-t-lt2.false)) (then w (wrote_all {t = ten} (omega arith) c.put_bytes-2.ensures))
+    as_text (sym (tens-more a.t c.if-is_one.false)) (then w (wrote_all {t = ten} (omega arith) c.put_bytes-2.ensures))
