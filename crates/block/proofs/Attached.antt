@@ -4,6 +4,7 @@
 --     parent-first, parent-later  where a line hangs is its parent
 --     lines-hang                  so the attached lines are those of a well-formed record
 -- Assumes nothing.
+use Rattle.std.specs.Prelude.{Option, Some, None}
 use Prim.Native.Nat.{ℕ, zero, suc, ◌+◌, ◌-◌, ◌≤◌, ◌<◌}
 use native.Mathlib.Nat.{add-zero, zero-add}
 use native.Mathlib.Numerals.{add-one}
@@ -21,8 +22,6 @@ use Rattle.lists.specs.Test.{◌equals◌, ◌and◌, each, flag, claim}
 use Rattle.lists.proofs.Laws.{by_pick}
 use Rattle.lists.proofs.Tests.{answers}
 use Rattle.jkf.specs.Attaching.{near, hang_on, hangs, on_hang, all, first, hung_from, Play, play, play_of, starts, counts, parent_in, attach_from, attach, all_hung}
-use Rattle.jkf.specs.declared.Hang.{Hang}
-use Rattle.jkf.specs.declared.Hang.TheVariants.{On, Nowhere}
 use Rattle.jkf.proofs.Hangings.{not_all}
 use Rattle.jkf.proofs.Nears.{near_none, near_before, hangs-same, Hangs, hangs_says, hangs-on}
 use Rattle.jkf.specs.Model.{Noted, Line}
@@ -103,10 +102,10 @@ hang-later start count parent k z h =
 -- with no line before it a line has no parent
 pub no_parent : (s p t n : ℕ) → p ≡ 0 → on_hang (hang_on s p t n) (λ p e. p) 0 ≡ 0
 no_parent s p t n e =
-    by_pick P (leb t s) (pick (ltb (s - t) n) (On p (s - t)) Nowhere) Nowhere
-    (λ _. by_pick P (ltb (s - t) n) (On p (s - t)) Nowhere (λ _. e) (λ _. refl)) (λ _. refl)
+    by_pick P (leb t s) (pick (ltb (s - t) n) (Some (p, s - t)) None) None
+    (λ _. by_pick P (ltb (s - t) n) (Some (p, s - t)) None (λ _. e) (λ _. refl)) (λ _. refl)
   where
-    P : Hang → Type 0
+    P : Option (ℕ × ℕ) → Type 0
     P r = on_hang r (λ p e. p) 0 ≡ 0
 
 -- what is made of line k
@@ -192,7 +191,7 @@ module _ (ps : List Play) where
 
   pub parent-later : (k : ℕ) → Hangs (starts ps) (counts ps) k → parent_in ps k ≡ near (starts ps) (starts ps k) k
   unfolding parent_in
-  parent-later k h = ap (λ (r : Hang). on_hang r (λ p e. p) 0) (hangs-on (starts ps) (counts ps) k h)
+  parent-later k h = ap (λ (r : Option (ℕ × ℕ)). on_hang r (λ p e. p) 0) (hangs-on (starts ps) (counts ps) k h)
 
   line-hangs : starts ps 0 ≡ 0 → all_hung ps ≡ all → (k : ℕ) → k < length ps
       → claim (hang_test 1 (λ j. (line_of (attach ps) j).start) (λ j. length (line_of (attach ps) j).entries) (λ j. (line_of (attach ps) j).parent) k)
@@ -206,11 +205,11 @@ module _ (ps : List Play) where
       let parent : ℕ → ℕ = λ j. (line_of (attach ps) j).parent in
       let w : Hangs (starts ps) (counts ps) (suc k) = all-hang (starts ps) (counts ps) (length ps - 1) g (suc k) (omega arith) (omega arith) in
       let p : parent (suc k) ≡ near (starts ps) (starts ps (suc k)) (suc k) = ap (λ (l : Line). l.parent) (attach-line (suc k) h) ∙ parent-later (suc k) w in
-      let e : hangs start count (start (suc k)) (suc k) ≡ On (near (starts ps) (starts ps (suc k)) (suc k)) (starts ps (suc k) - starts ps (near (starts ps) (starts ps (suc k)) (suc k))) =
+      let e : hangs start count (start (suc k)) (suc k) ≡ Some (near (starts ps) (starts ps (suc k)) (suc k), starts ps (suc k) - starts ps (near (starts ps) (starts ps (suc k)) (suc k))) =
       hangs-same start (starts ps) count (counts ps) attach-start attach-count (start (suc k)) (suc k)
       ∙ ap (λ (t : ℕ). hangs (starts ps) (counts ps) t (suc k)) (attach-start (suc k))
       ∙ hangs-on (starts ps) (counts ps) (suc k) w in
-      hang-later start count parent (suc k) (omega arith) (ap (λ (r : Hang). on_hang r (λ p e. eqb (parent (suc k)) p) false) e ∙ eq-eqb _ _ p)
+      hang-later start count parent (suc k) (omega arith) (ap (λ (r : Option (ℕ × ℕ)). on_hang r (λ p e. eqb (parent (suc k)) p) false) e ∙ eq-eqb _ _ p)
 
   pub lines-hang : starts ps 0 ≡ 0 → ((k : ℕ) → k < length ps → 1 ≤ counts ps k) → all_hung ps ≡ all
       → claim (each (length (attach ps)) (line_fits 1 (attach ps)))

@@ -2,6 +2,7 @@
 --     head-made     the nine bytes of a move, from its fields' bytes and marks
 --     parts-made    the three parts of an entry, one after another
 -- Assumes nothing.
+use Rattle.std.specs.Prelude.{Option, Some, None}
 use Prim.Native.Nat.{ℕ, ◌+◌}
 use mathlib.Core.Path.{◌≡◌, refl, sym}
 use mathlib.Core.List.{[], ◌∷◌, ◌++◌}
@@ -13,8 +14,6 @@ use Rattle.jkf.specs.declared.Time.{Time}
 use Rattle.jkf.specs.declared.Time.TheVariants.{Untimed, Timed}
 use Rattle.jkf.specs.declared.Target.{Target}
 use Rattle.jkf.specs.declared.Target.TheVariants.{Same, Square}
-use Rattle.jkf.specs.declared.Origin.{Origin}
-use Rattle.jkf.specs.declared.Origin.TheVariants.{Unknown, From}
 use Rattle.jkf.specs.declared.Move.{Move}
 use Rattle.jkf.specs.declared.Entry.{Entry}
 use Rattle.jkf.specs.declared.Entry.TheVariants.{Slot, Moved, End}
@@ -28,9 +27,9 @@ pub target-length : (t : Target) → length (target_bytes t) ≡ 2
 target-length Same = refl
 target-length (Square x y) = refl
 
-pub origin-length : (o : Origin) → length (origin_bytes o) ≡ 2
-origin-length Unknown = refl
-origin-length (From x y) = refl
+pub origin-length : (o : Option (ℕ × ℕ)) → length (origin_bytes o) ≡ 2
+origin-length None = refl
+origin-length (Some (x, y)) = refl
 
 clock_length : (c : Clock) → length (clock_bytes c) ≡ 3
 clock_length (Hms h m s) = refl

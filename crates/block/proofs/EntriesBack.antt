@@ -3,6 +3,7 @@
 --     entry_length   there are 20 bytes
 --     first_back, count-back   the two numbers stand at 16 and 18
 -- Assumes nothing.
+use Rattle.std.specs.Prelude.{Option, Some, None}
 use Prim.Native.Nat.{ℕ, ◌+◌, ◌<◌}
 use native.Mathlib.Omega.{arith}
 use mathlib.Core.Path.{◌≡◌, refl, ap, ◌∙◌}
@@ -18,8 +19,6 @@ use Rattle.jkf.specs.declared.Time.{Time}
 use Rattle.jkf.specs.declared.Time.TheVariants.{Untimed, Timed}
 use Rattle.jkf.specs.declared.Target.{Target}
 use Rattle.jkf.specs.declared.Target.TheVariants.{Same, Square}
-use Rattle.jkf.specs.declared.Origin.{Origin}
-use Rattle.jkf.specs.declared.Origin.TheVariants.{Unknown, From}
 use Rattle.jkf.specs.declared.Entry.{Entry}
 use Rattle.jkf.specs.declared.Entry.TheVariants.{Slot, Moved, End}
 use Rattle.block.specs.EntryBytes.{time_bytes, entry_head, entry_bytes, time_in, target_in, origin_in, move_in, entry_in}
@@ -53,32 +52,32 @@ end_back x (Timed (Hms h m s) (Ms m' s')) f n r = refl
 end_back x (Timed (Ms m s) (Hms h' m' s')) f n r = refl
 end_back x (Timed (Ms m s) (Ms m' s')) f n r = refl
 
-abbrev played : ℕ → ℕ → ℕ → Target → Origin → Time → Entry
+abbrev played : ℕ → ℕ → ℕ → Target → Option (ℕ × ℕ) → Time → Entry
 played c p k t o z = Moved (record { color = c; piece = p; promote = k; to = t; from = o; time = z })
 
-play_back : (c p k : ℕ) (t : Target) (o : Origin) (z : Time) (f n : ℕ) (r : List ℕ)
+play_back : (c p k : ℕ) (t : Target) (o : Option (ℕ × ℕ)) (z : Time) (f n : ℕ) (r : List ℕ)
     → entry_in (entry_bytes (played c p k t o z) f n ++ r) ≡ played c p k t o z
 unfolding entry_bytes entry_head entry_in move_in target_in origin_in time_in
-play_back c p k Same Unknown Untimed f n r = refl
-play_back c p k Same Unknown (Timed (Hms h m s) (Hms h' m' s')) f n r = refl
-play_back c p k Same Unknown (Timed (Hms h m s) (Ms m' s')) f n r = refl
-play_back c p k Same Unknown (Timed (Ms m s) (Hms h' m' s')) f n r = refl
-play_back c p k Same Unknown (Timed (Ms m s) (Ms m' s')) f n r = refl
-play_back c p k Same (From u v) Untimed f n r = refl
-play_back c p k Same (From u v) (Timed (Hms h m s) (Hms h' m' s')) f n r = refl
-play_back c p k Same (From u v) (Timed (Hms h m s) (Ms m' s')) f n r = refl
-play_back c p k Same (From u v) (Timed (Ms m s) (Hms h' m' s')) f n r = refl
-play_back c p k Same (From u v) (Timed (Ms m s) (Ms m' s')) f n r = refl
-play_back c p k (Square x y) Unknown Untimed f n r = refl
-play_back c p k (Square x y) Unknown (Timed (Hms h m s) (Hms h' m' s')) f n r = refl
-play_back c p k (Square x y) Unknown (Timed (Hms h m s) (Ms m' s')) f n r = refl
-play_back c p k (Square x y) Unknown (Timed (Ms m s) (Hms h' m' s')) f n r = refl
-play_back c p k (Square x y) Unknown (Timed (Ms m s) (Ms m' s')) f n r = refl
-play_back c p k (Square x y) (From u v) Untimed f n r = refl
-play_back c p k (Square x y) (From u v) (Timed (Hms h m s) (Hms h' m' s')) f n r = refl
-play_back c p k (Square x y) (From u v) (Timed (Hms h m s) (Ms m' s')) f n r = refl
-play_back c p k (Square x y) (From u v) (Timed (Ms m s) (Hms h' m' s')) f n r = refl
-play_back c p k (Square x y) (From u v) (Timed (Ms m s) (Ms m' s')) f n r = refl
+play_back c p k Same None Untimed f n r = refl
+play_back c p k Same None (Timed (Hms h m s) (Hms h' m' s')) f n r = refl
+play_back c p k Same None (Timed (Hms h m s) (Ms m' s')) f n r = refl
+play_back c p k Same None (Timed (Ms m s) (Hms h' m' s')) f n r = refl
+play_back c p k Same None (Timed (Ms m s) (Ms m' s')) f n r = refl
+play_back c p k Same (Some (u, v)) Untimed f n r = refl
+play_back c p k Same (Some (u, v)) (Timed (Hms h m s) (Hms h' m' s')) f n r = refl
+play_back c p k Same (Some (u, v)) (Timed (Hms h m s) (Ms m' s')) f n r = refl
+play_back c p k Same (Some (u, v)) (Timed (Ms m s) (Hms h' m' s')) f n r = refl
+play_back c p k Same (Some (u, v)) (Timed (Ms m s) (Ms m' s')) f n r = refl
+play_back c p k (Square x y) None Untimed f n r = refl
+play_back c p k (Square x y) None (Timed (Hms h m s) (Hms h' m' s')) f n r = refl
+play_back c p k (Square x y) None (Timed (Hms h m s) (Ms m' s')) f n r = refl
+play_back c p k (Square x y) None (Timed (Ms m s) (Hms h' m' s')) f n r = refl
+play_back c p k (Square x y) None (Timed (Ms m s) (Ms m' s')) f n r = refl
+play_back c p k (Square x y) (Some (u, v)) Untimed f n r = refl
+play_back c p k (Square x y) (Some (u, v)) (Timed (Hms h m s) (Hms h' m' s')) f n r = refl
+play_back c p k (Square x y) (Some (u, v)) (Timed (Hms h m s) (Ms m' s')) f n r = refl
+play_back c p k (Square x y) (Some (u, v)) (Timed (Ms m s) (Hms h' m' s')) f n r = refl
+play_back c p k (Square x y) (Some (u, v)) (Timed (Ms m s) (Ms m' s')) f n r = refl
 
 pub entry_back : (e : Entry) (f n : ℕ) (r : List ℕ) → entry_in (entry_bytes e f n ++ r) ≡ e
 unfolding entry_bytes entry_head entry_in

@@ -4,6 +4,7 @@
 --     kind-slot, kind-later                             the 15 bytes before the numbers, by their sort
 --     entry_row                                         the 20 bytes of entry k
 -- Assumes nothing.
+use Rattle.std.specs.Prelude.{Option, Some, None}
 use Prim.Native.Nat.{ℕ, zero, suc, ◌+◌, ◌*◌, ◌/◌, ◌%◌, ◌≤◌, ◌<◌}
 use native.Mathlib.Omega.{arith}
 use native.Mathlib.Decide.{dec_le, dec_lt}
@@ -26,8 +27,6 @@ use Rattle.jkf.specs.declared.Time.{Time}
 use Rattle.jkf.specs.declared.Time.TheVariants.{Untimed, Timed}
 use Rattle.jkf.specs.declared.Target.{Target}
 use Rattle.jkf.specs.declared.Target.TheVariants.{Same, Square}
-use Rattle.jkf.specs.declared.Origin.{Origin}
-use Rattle.jkf.specs.declared.Origin.TheVariants.{Unknown, From}
 use Rattle.block.proofs.EntriesBack.{entry_length}
 use Rattle.block.proofs.Entering.{target-length, origin-length, head-length, time-length}
 use Rattle.block.specs.inner.Tests.{time_test, move_test, end_test, head_test_of, comments_test, row_test}
@@ -116,7 +115,7 @@ module _ (l : List ℕ) (h : 20 ≤ length l) where
   unfolding same origin_in run
   origin_is = rw (row-run 2 6 (omega arith)) (go (eqb (get_or l 8 0 % 2) 1) (get_or l 6 0) (get_or l 7 0))
     where
-      go : (t : Bool) (x y : ℕ) → same (x ∷ y ∷ []) (origin_bytes (pick t (From x y) Unknown)) ≡ pick t true (pick (eqb x 0) (eqb y 0) false)
+      go : (t : Bool) (x y : ℕ) → same (x ∷ y ∷ []) (origin_bytes (pick t (Some (x, y)) None)) ≡ pick t true (pick (eqb x 0) (eqb y 0) false)
       go true x y = rw (eq-eqb x x refl, eq-eqb y y refl)
       go false x y = rw (pick_id (eqb y 0))
 
@@ -307,7 +306,7 @@ module _ (l : List ℕ) (h : 20 ≤ length l) where
   low-marks = go (eqb (get_or l 8 0 % 2) 1) (eqb (get_or l 8 0 / 2 % 2) 1) refl refl
     where
       go : (t u : Bool) → eqb (get_or l 8 0 % 2) 1 ≡ t → eqb (get_or l 8 0 / 2 % 2) 1 ≡ u
-          → from_mark (pick t (From (get_or l 6 0) (get_or l 7 0)) Unknown) + same_mark (pick u Same (Square (get_or l 4 0) (get_or l 5 0))) ≡ get_or l 8 0 % 4
+          → from_mark (pick t (Some (get_or l 6 0, get_or l 7 0)) None) + same_mark (pick u Same (Square (get_or l 4 0) (get_or l 5 0))) ≡ get_or l 8 0 % 4
       go true true p q = omega (arith, eqb-true (get_or l 8 0 % 2) 1 p, eqb-true (get_or l 8 0 / 2 % 2) 1 q)
       go true false p q = let q' = eqb-false (get_or l 8 0 / 2 % 2) 1 q in omega (arith, eqb-true (get_or l 8 0 % 2) 1 p)
       go false true p q = let p' = eqb-false (get_or l 8 0 % 2) 1 p in omega (arith, eqb-true (get_or l 8 0 / 2 % 2) 1 q)
@@ -338,7 +337,7 @@ module _ (l : List ℕ) (h : 20 ≤ length l) where
       (pick_id (eqb (get_or l 0 0) 1))
 
   -- all of it
-  move_same : (m m' : ℕ) (t : Target) (o : Origin) (z : List ℕ) → m ≡ m'
+  move_same : (m m' : ℕ) (t : Target) (o : Option (ℕ × ℕ)) (z : List ℕ) → m ≡ m'
       → same (take 15 l) ((1 ∷ get_or l 1 0 ∷ get_or l 2 0 ∷ get_or l 3 0 ∷ []) ++ target_bytes t ++ origin_bytes o ++ (m ∷ []) ++ z)
       ≡ pick
       (pick (pick (pick (eqb (get_or l 0 0) 1) (same (take 2 (drop 4 l)) (target_bytes t)) false) (same (take 2 (drop 6 l)) (origin_bytes o)) false) (eqb (get_or l 8 0) m') false)

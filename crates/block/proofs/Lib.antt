@@ -1,5 +1,5 @@
+pub mod Alls
 pub mod Sums
-pub mod Orders
 pub mod Cuts
 pub mod Hanging
 pub mod Tabling
@@ -20,3 +20,5 @@ pub mod TablePasses
 pub mod LookUps
 pub mod Attached
 pub mod Tabled
+pub mod Sounding
+pub mod Orders

@@ -12,8 +12,7 @@ use mathlib.Core.List.{List}
 use mathlib.Core.Bool.{Bool, true, false, not}
 use lib.ListN.{length, get_or, take, drop, length-drop}
 use lib.Seq.{get_or-drop}
-use lib.Dec.{leb, ltb}
-use borrow.Author.Tests.{lt-ltb, le-ltb, lt-leb, le-leb}
+use borrow.Author.Tests.{lt-ltb, le-ltb}
 use Rattle.lists.specs.Pick.{pick}
 use Rattle.lists.specs.Test.{Test, ◌equals◌, holds, ◌and◌, each, all_below, flag, claim}
 use Rattle.lists.proofs.Laws.{pick_both}
@@ -44,14 +43,6 @@ abbrev pub comment_stands : List ℕ → ℕ → ℕ → Test
 comment_stands b t k =
     comment_offset b k equals header_bytes b (headers_in b) + comment_bytes b k
     and start_test b (t + (header_bytes b (headers_in b) + comment_bytes b k))
-
--- the byte at a place by two bounds
-pub above : (x : ℕ) → leb 192 x ≡ not (ltb x 192)
-above x = go (dec_lt x 192)
-  where
-    go : Dec (x < 192) → leb 192 x ≡ not (ltb x 192)
-    go (yes h) = lt-leb 192 x h ∙ ap not (sym (lt-ltb x 192 h))
-    go (no h) = le-leb 192 x (omega arith) ∙ ap not (sym (le-ltb x 192 (omega arith)))
 
 -- ---- keys one after the other
 

@@ -1,6 +1,6 @@
 -- An entry and its 20 bytes in a block.                                                              (01, The block: move entry)
 -- Assumes nothing: these are definitions.
-use Rattle.std.specs.Prelude.{ℕ, ◌+◌, ◌/◌, ◌%◌, List, [], ◌∷◌, ◌++◌, Bool, get_or, eqb}
+use Rattle.std.specs.Prelude.{ℕ, ◌+◌, ◌/◌, ◌%◌, List, [], ◌∷◌, ◌++◌, Bool, get_or, eqb, Option, Some, None}
 use Rattle.lists.specs.Pick.{pick}
 use Rattle.lent.specs.Bytes.{bytes16}
 use Rattle.jkf.specs.Entries.{special_number, special_of, time_of}
@@ -10,8 +10,6 @@ use Rattle.jkf.specs.declared.Time.{Time}
 use Rattle.jkf.specs.declared.Time.TheVariants.{Untimed, Timed}
 use Rattle.jkf.specs.declared.Target.{Target}
 use Rattle.jkf.specs.declared.Target.TheVariants.{Same, Square}
-use Rattle.jkf.specs.declared.Origin.{Origin}
-use Rattle.jkf.specs.declared.Origin.TheVariants.{Unknown, From}
 use Rattle.jkf.specs.declared.Move.{Move}
 use Rattle.jkf.specs.declared.Entry.{Entry}
 use Rattle.jkf.specs.declared.Entry.TheVariants.{Slot, Moved, End}
@@ -19,9 +17,9 @@ use Rattle.jkf.specs.declared.Entry.TheVariants.{Slot, Moved, End}
 -- ---- marks                                                                                          (01, The block: marks)
 
 -- 1 where the origin is known.
-abbrev pub from_mark : Origin → ℕ
-from_mark Unknown = 0
-from_mark (From x y) = 1
+abbrev pub from_mark : Option (ℕ × ℕ) → ℕ
+from_mark None = 0
+from_mark (Some (x, y)) = 1
 
 -- 2 for 同.
 abbrev pub same_mark : Target → ℕ
@@ -44,9 +42,9 @@ abbrev pub target_bytes : Target → List ℕ
 target_bytes Same = 0 ∷ 0 ∷ []
 target_bytes (Square x y) = x ∷ y ∷ []
 
-abbrev pub origin_bytes : Origin → List ℕ
-origin_bytes Unknown = 0 ∷ 0 ∷ []
-origin_bytes (From x y) = x ∷ y ∷ []
+abbrev pub origin_bytes : Option (ℕ × ℕ) → List ℕ
+origin_bytes None = 0 ∷ 0 ∷ []
+origin_bytes (Some (x, y)) = x ∷ y ∷ []
 
 abbrev pub clock_bytes : Clock → List ℕ
 clock_bytes (Hms h m s) = h ∷ m ∷ s ∷ []
@@ -90,8 +88,8 @@ time_in l =
 unfoldable pub target_in : List ℕ → Target
 target_in l = pick (marked 2 (get_or l 8 0)) Same (Square (get_or l 4 0) (get_or l 5 0))
 
-unfoldable pub origin_in : List ℕ → Origin
-origin_in l = pick (eqb (get_or l 8 0 % 2) 1) (From (get_or l 6 0) (get_or l 7 0)) Unknown
+unfoldable pub origin_in : List ℕ → Option (ℕ × ℕ)
+origin_in l = pick (eqb (get_or l 8 0 % 2) 1) (Some (get_or l 6 0, get_or l 7 0)) None
 
 unfoldable pub move_in : List ℕ → Move
 move_in l =

@@ -5,4 +5,5 @@ pub mod Decode
 pub mod Sound
 pub mod Formed
 pub mod Look
+pub mod SoundBlocks
 pub mod inner

@@ -14,10 +14,7 @@ use crate::{fields, places};
 fn hour_fits(marked: bool, hour: u8) -> bool
     ensures { result ≡ pick marked true (eqb hour 0) }
 {
-    if marked {
-        return true;
-    }
-    hour == 0
+    marked || hour == 0
 }
 
 // The time's marks are those of a time, and what it does not use is zero.
@@ -27,18 +24,9 @@ fn time_fits(row: &[u8]) -> bool
 {
     let marks = row[8];
     if marks / 4 % 2 != 1 {
-        if 4 <= marks {
-            return false;
-        }
-        return places::all_zero(&row[9..15]);
+        return marks < 4 && places::all_zero(&row[9..15]);
     }
-    if 32 <= marks {
-        return false;
-    }
-    if !hour_fits(marks / 8 % 2 == 1, row[9]) {
-        return false;
-    }
-    hour_fits(marks / 16 % 2 == 1, row[12])
+    marks < 32 && hour_fits(marks / 8 % 2 == 1, row[9]) && hour_fits(marks / 16 % 2 == 1, row[12])
 }
 
 // 同 has no square.
@@ -46,13 +34,7 @@ fn target_fits(row: &[u8]) -> bool
     requires { 20 ≤ length row.now }
     ensures { result ≡ same (take 2 (drop 4 row.now)) (target_bytes (target_in row.now)) }
 {
-    if row[8] / 2 % 2 != 1 {
-        return true;
-    }
-    if row[4] != 0 {
-        return false;
-    }
-    row[5] == 0
+    row[8] / 2 % 2 != 1 || (row[4] == 0 && row[5] == 0)
 }
 
 // An origin that is not known has no square.
@@ -60,13 +42,7 @@ fn origin_fits(row: &[u8]) -> bool
     requires { 20 ≤ length row.now }
     ensures { result ≡ same (take 2 (drop 6 row.now)) (origin_bytes (origin_in row.now)) }
 {
-    if row[8] % 2 == 1 {
-        return true;
-    }
-    if row[6] != 0 {
-        return false;
-    }
-    row[7] == 0
+    row[8] % 2 == 1 || (row[6] == 0 && row[7] == 0)
 }
 
 // A move's colour, kind and promotion are in range, and squares that are not used are zero.
@@ -74,22 +50,7 @@ fn move_fits(row: &[u8]) -> bool
     requires { 20 ≤ length row.now }
     ensures { result ≡ flag (move_test row.now) }
 {
-    if 1 < row[1] {
-        return false;
-    }
-    if row[2] < 1 {
-        return false;
-    }
-    if 14 < row[2] {
-        return false;
-    }
-    if 2 < row[3] {
-        return false;
-    }
-    if !target_fits(row) {
-        return false;
-    }
-    origin_fits(row)
+    row[1] <= 1 && (1..=14).contains(&row[2]) && row[3] <= 2 && target_fits(row) && origin_fits(row)
 }
 
 // An ending has one of the numbers 0 to 13, no marks but the time's, and no other field.
@@ -97,13 +58,7 @@ fn end_fits(row: &[u8]) -> bool
     requires { 20 ≤ length row.now }
     ensures { result ≡ flag (end_test row.now) }
 {
-    if 13 < row[1] {
-        return false;
-    }
-    if row[8] % 4 != 0 {
-        return false;
-    }
-    places::all_zero(&row[2..8])
+    row[1] <= 13 && row[8] % 4 == 0 && places::all_zero(&row[2..8])
 }
 
 // The 15 bytes before the numbers: the slot is the first entry and no other.
@@ -113,24 +68,16 @@ fn kind_fits(row: &[u8], k: usize) -> bool
 {
     let sort = row[0];
     if sort == 0 {
-        if k != 0 {
-            return false;
-        }
-        return places::all_zero(&row[..15]);
+        return k == 0 && places::all_zero(&row[..15]);
     }
-    if k == 0 {
+    if k == 0 || !time_fits(row) {
         return false;
     }
-    if !time_fits(row) {
-        return false;
+    match sort {
+        1 => move_fits(row),
+        2 => end_fits(row),
+        _ => false,
     }
-    if sort == 1 {
-        return move_fits(row);
-    }
-    if sort == 2 {
-        return end_fits(row);
-    }
-    false
 }
 
 // The bytes after the time: a zero, and the first comment, which is 0 where there is none.
@@ -138,26 +85,16 @@ fn comments_fit(row: &[u8], next: usize) -> bool
     requires { 20 ≤ length row.now }
     ensures { result ≡ flag (comments_test next row.now) }
 {
-    if row[15] != 0 {
-        return false;
-    }
-    if fields::pair(row, 18) == 0 {
-        return fields::pair(row, 16) == 0;
-    }
-    fields::pair(row, 16) == next % 65536
+    let count = fields::pair(row, 18);
+    let first = if count == 0 { 0 } else { next % 65536 };
+    row[15] == 0 && fields::pair(row, 16) == first
 }
 
 // Entry k by its row; its comments begin with this one.
 fn row_sound(row: &[u8], k: usize, next: usize) -> bool
     ensures { result ≡ flag (row_test k next row.now) }
 {
-    if row.len() < 20 {
-        return false;
-    }
-    if !kind_fits(row, k) {
-        return false;
-    }
-    comments_fit(row, next)
+    20 <= row.len() && kind_fits(row, k) && comments_fit(row, next)
 }
 
 // The entries.
@@ -167,14 +104,12 @@ pub(crate) fn entries_sound(b: &[u8]) -> bool
     let n = fields::moves(b);
     let rows = lent::rest(b, fields::move_place(b, 0));
     let mut at = 0;
-    let mut k = 0;
-    while k < n {
+    for k in 0..n {
         let row = lent::rest(rows, 20 * k);
         if !row_sound(row, k, at) {
             return false;
         }
         at += lent::get16(row, 18);
-        k += 1;
     }
     true
 }

@@ -4,7 +4,8 @@ ghost use Rattle.lent.specs.Bytes.{Wrote, fitting};
 ghost use Rattle.lent.specs.Stored.{Stored};
 ghost use Rattle.block.specs.EntryBytes.{from_mark, same_mark, hour_mark, time_mark, target_bytes, origin_bytes, clock_bytes, time_bytes, entry_head, entry_bytes, clock_of, time_in, target_in, origin_in, move_in, entry_in};
 
-use jkf::{Clock, Entry, Move, Origin, Special, Target, Time};
+use crate::rows::bytes16;
+use jkf::{Clock, Entry, Move, Special, Target, Time};
 
 // A mark and the two bytes of a square.
 #[derive(Clone, Copy)]
@@ -36,16 +37,16 @@ fn target_field(t: Target) -> Field
     }
 }
 
-fn origin_field(o: Origin) -> Field
+fn origin_field(o: Option<(u8, u8)>) -> Field
     ensures { (result.mark ≡ from_mark o) × (result.mark ≤ 1) × ((result.x ∷ result.y ∷ []) ≡ origin_bytes o) }
 {
     match o {
-        Origin::Unknown => Field {
+        None => Field {
             mark: 0,
             x: 0,
             y: 0,
         },
-        Origin::From(x, y) => Field { mark: 1, x, y },
+        Some((x, y)) => Field { mark: 1, x, y },
     }
 }
 
@@ -112,7 +113,7 @@ fn put_head(out: &mut [u8], e: Entry) -> usize
         Entry::Slot => lent::put_bytes(out, &[0, 0, 0, 0, 0, 0, 0, 0, 0]),
         Entry::Moved(m) => put_move_head(out, m),
         Entry::End(s, t) => {
-            lent::put_bytes(out, &[2, jkf::number_of(s), 0, 0, 0, 0, 0, 0, time_mark(t)])
+            lent::put_bytes(out, &[2, u8::from(s), 0, 0, 0, 0, 0, 0, time_mark(t)])
         }
     }
 }
@@ -124,16 +125,9 @@ fn put_parts(out: &mut [u8], e: Entry, first: usize, count: usize) -> usize
 {
     let a = put_head(out, e);
     let b = a + put_time(&mut out[a..], jkf::time_of(e));
-    b + lent::put_bytes(
-        &mut out[b..],
-        &[
-            0,
-            (first % 256) as u8,
-            (first / 256 % 256) as u8,
-            (count % 256) as u8,
-            (count / 256 % 256) as u8,
-        ],
-    )
+    let first = bytes16(first as u64);
+    let count = bytes16(count as u64);
+    b + lent::put_bytes(&mut out[b..], &[0, first[0], first[1], count[0], count[1]])
 }
 
 // At the front, where there is room.
@@ -160,9 +154,10 @@ fn clock_of(hour: bool, h: u8, m: u8, s: u8) -> Clock
     ensures { result ≡ clock_of hour h m s }
 {
     if hour {
-        return Clock::Hms(h, m, s);
+        Clock::Hms(h, m, s)
+    } else {
+        Clock::Ms(m, s)
     }
-    Clock::Ms(m, s)
 }
 
 fn time_in(s: &[u8]) -> Time
@@ -182,27 +177,30 @@ fn time_in(s: &[u8]) -> Time
             lent::peek(s, 13),
             lent::peek(s, 14),
         );
-        return Time::Timed(now, total);
+        Time::Timed(now, total)
+    } else {
+        Time::Untimed
     }
-    Time::Untimed
 }
 
 fn target_in(s: &[u8]) -> Target
     ensures { result ≡ target_in s.now }
 {
     if lent::peek(s, 8) / 2 % 2 == 1 {
-        return Target::Same;
+        Target::Same
+    } else {
+        Target::Square(lent::peek(s, 4), lent::peek(s, 5))
     }
-    Target::Square(lent::peek(s, 4), lent::peek(s, 5))
 }
 
-fn origin_in(s: &[u8]) -> Origin
+fn origin_in(s: &[u8]) -> Option<(u8, u8)>
     ensures { result ≡ origin_in s.now }
 {
     if lent::peek(s, 8) % 2 == 1 {
-        return Origin::From(lent::peek(s, 6), lent::peek(s, 7));
+        Some((lent::peek(s, 6), lent::peek(s, 7)))
+    } else {
+        None
     }
-    Origin::Unknown
 }
 
 fn move_in(s: &[u8]) -> Move
@@ -222,12 +220,9 @@ fn move_in(s: &[u8]) -> Move
 pub fn entry_in(s: &[u8]) -> Entry
     ensures { result ≡ entry_in s.now }
 {
-    let sort = lent::peek(s, 0);
-    if sort == 0 {
-        return Entry::Slot;
+    match lent::peek(s, 0) {
+        0 => Entry::Slot,
+        2 => Entry::End(jkf::Special::from(lent::peek(s, 1)), time_in(s)),
+        _ => Entry::Moved(move_in(s)),
     }
-    if sort == 2 {
-        return Entry::End(jkf::special_of(lent::peek(s, 1)), time_in(s));
-    }
-    Entry::Moved(move_in(s))
 }

@@ -9,7 +9,7 @@ pub(crate) fn pair(b: &[u8], at: usize) -> usize
     requires { at + 1 < length b.now }
     ensures { (result ≡ le16 b.now at) × (result < 65536) }
 {
-    lent::wide(b[at]) + 256 * lent::wide(b[at + 1])
+    u16::from_le_bytes([b[at], b[at + 1]]) as usize
 }
 
 pub(crate) fn version(b: &[u8]) -> usize
@@ -77,12 +77,8 @@ fn sum_in(b: &[u8], place: usize, w: usize, n: usize) -> usize
     ensures { (result ≡ sum (λ k. le16 b.now (place + w * k)) n) × (result ≤ 65535 * n) }
 {
     let mut total = 0;
-    let mut at = place;
-    let mut k = 0;
-    while k < n {
-        total += pair(b, at);
-        at += w;
-        k += 1;
+    for k in 0..n {
+        total += pair(b, place + w * k);
     }
     total
 }
@@ -96,12 +92,8 @@ pub(crate) fn sum_of(b: &[u8], place: usize, w: usize, n: usize) -> usize
         return sum_in(b, place, w, n);
     }
     let mut total = 0;
-    let mut at = place;
-    let mut k = 0;
-    while k < n {
-        total += lent::get16(b, at);
-        at += w;
-        k += 1;
+    for k in 0..n {
+        total += lent::get16(b, place + w * k);
     }
     total
 }

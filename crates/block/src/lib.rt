@@ -8,6 +8,7 @@ mod looks;
 mod places;
 mod position_bytes;
 mod rows;
+mod sound_block;
 mod tables;
 mod texts;
 mod views;
@@ -19,6 +20,7 @@ pub use entry_bytes::{entry_in, put_entry_row};
 pub use looks::{comment, entry, key, line, lines, parent, value};
 pub use position_bytes::{position_in, put_position};
 pub use rows::{put_comment_row, put_head, put_header_row, put_line_row};
+pub use sound_block::SoundBlock;
 pub use texts::is_same;
 pub use views::{
     comment_count, comment_of, entry_count, entry_of, first_comment, first_entry, header_bytes,
@@ -30,24 +32,13 @@ pub use views::{
 pub fn sound(b: &[u8]) -> bool
     ensures { result ≡ soundb b.now }
 {
-    if !tables::head_sound(b) {
-        return false;
-    }
-    if !tables::parts_sound(b) {
+    if !tables::head_sound(b) || !tables::parts_sound(b) {
         return false;
     }
     let headers = fields::header_total(b);
-    if !tables::totals_sound(b, headers) {
-        return false;
-    }
-    if !places::position_sound(b) {
-        return false;
-    }
-    if !tables::texts_sound(b, headers) {
-        return false;
-    }
-    if !places::lines_sound(b) {
-        return false;
-    }
-    entries::entries_sound(b)
+    tables::totals_sound(b, headers)
+        && places::position_sound(b)
+        && tables::texts_sound(b, headers)
+        && places::lines_sound(b)
+        && entries::entries_sound(b)
 }

@@ -11,7 +11,7 @@ use jkf::Answer;
 fn tell(a: Answer, number: &mut u64, first: &mut u64, second: &mut u64)
     ensures { Answered a number.new first.new second.new }
 {
-    let f = jkf::figures_of(a);
+    let f = jkf::Figures::from(a);
     *number = f.number;
     *first = f.first;
     *second = f.second;

@@ -13,39 +13,19 @@ use jkf::Position;
 pub(crate) fn all_zero(s: &[u8]) -> bool
     ensures { result ≡ flag (each (length s.now) (λ i. get_or s.now i 0 equals 0)) }
 {
-    let mut i = 0;
-    while i < s.len() {
-        if s[i] != 0 {
-            return false;
-        }
-        i += 1;
-    }
-    true
+    s.iter().all(|b| *b == 0)
 }
 
 fn is_cell(c: u8) -> bool
     ensures { result ≡ is_cell c }
 {
-    if c <= 14 {
-        return true;
-    }
-    if 17 <= c {
-        return c <= 30;
-    }
-    false
+    matches!(c, 0..=14 | 17..=30)
 }
 
 fn all_cells(s: &[u8]) -> bool
     ensures { result ≡ flag (each (length s.now) (λ i. holds (is_cell (get_or s.now i 0)))) }
 {
-    let mut i = 0;
-    while i < s.len() {
-        if !is_cell(s[i]) {
-            return false;
-        }
-        i += 1;
-    }
-    true
+    s.iter().all(|c| is_cell(*c))
 }
 
 // Without a diagram turn, cells and counts are zero; with one the preset is 16.
@@ -57,44 +37,22 @@ fn diagram_sound(p: Position) -> bool
     if p.board != 0 {
         return p.preset == 16;
     }
-    if p.turn != 0 {
-        return false;
-    }
-    if !all_zero(&cells) {
-        return false;
-    }
-    all_zero(&hands)
+    p.turn == 0 && all_zero(&cells) && all_zero(&hands)
 }
 
 fn position_fits(p: Position) -> bool
     ensures { result ≡ flag (fits_test p) }
 {
     let cells = p.cells;
-    if 16 < p.preset {
-        return false;
-    }
-    if 1 < p.board {
-        return false;
-    }
-    if 1 < p.turn {
-        return false;
-    }
-    if !all_cells(&cells) {
-        return false;
-    }
-    diagram_sound(p)
+    p.preset <= 16 && p.board <= 1 && p.turn <= 1 && all_cells(&cells) && diagram_sound(p)
 }
 
 pub(crate) fn position_sound(b: &[u8]) -> bool
     ensures { result ≡ flag (position_test b.now) }
 {
-    if lent::peek(b, 31) != 0 {
-        return false;
-    }
-    if lent::peek(b, 127) != 0 {
-        return false;
-    }
-    position_fits(position_in(lent::rest(b, 28)))
+    lent::peek(b, 31) == 0
+        && lent::peek(b, 127) == 0
+        && position_fits(position_in(lent::rest(b, 28)))
 }
 
 // Whether line p has a ply.
@@ -103,10 +61,7 @@ fn has_ply(b: &[u8], p: usize, ply: usize) -> bool
     ensures { result ≡ has_ply (start_of b.now p) (entry_count b.now p) ply }
 {
     let start = fields::start_of(b, p);
-    if ply < start {
-        return false;
-    }
-    ply - start < fields::entry_count(b, p)
+    start <= ply && ply - start < fields::entry_count(b, p)
 }
 
 // From the line before line k up the parents, to the first whose parent is not past line p.
@@ -116,6 +71,7 @@ fn climb(b: &[u8], k: usize, p: usize) -> usize
 {
     let mut q = k - 1;
     let mut up = fields::parent_of(b, q);
+    // no range: a parent says which line is next
     while p < up {
         q = up;
         up = fields::parent_of(b, q);
@@ -134,9 +90,10 @@ fn follows(b: &[u8], k: usize, p: usize, q: usize) -> bool
     let start = fields::start_of(b, k);
     let before = fields::start_of(b, q);
     if fields::version(b) == 1 {
-        return start < before;
+        start < before
+    } else {
+        start <= before
     }
-    start <= before
 }
 
 // Line 0 starts at 0 and has no parent; any other hangs as the version asks. The lines before are known to.
@@ -155,10 +112,7 @@ fn hangs_right(b: &[u8], k: usize) -> bool
     if !has_ply(b, p, start) {
         return false;
     }
-    if p + 1 == k {
-        return true;
-    }
-    follows(b, k, p, climb(b, k, p))
+    p + 1 == k || follows(b, k, p, climb(b, k, p))
 }
 
 // Line k, whose entries begin with this one.
@@ -166,13 +120,7 @@ fn line_sound(b: &[u8], k: usize, first: usize) -> bool
     requires { (k < 65536) × (first ≡ entries_before b.now k) × HangAs (version_in b.now) (start_of b.now) (entry_count b.now) (parent_of b.now) k }
     ensures { result ≡ flag (line_test b.now k) }
 {
-    if fields::first_entry(b, k) != first {
-        return false;
-    }
-    if fields::entry_count(b, k) < 1 {
-        return false;
-    }
-    hangs_right(b, k)
+    fields::first_entry(b, k) == first && 1 <= fields::entry_count(b, k) && hangs_right(b, k)
 }
 
 pub(crate) fn lines_sound(b: &[u8]) -> bool
@@ -180,13 +128,11 @@ pub(crate) fn lines_sound(b: &[u8]) -> bool
 {
     let n = fields::lines(b);
     let mut at = 0;
-    let mut k = 0;
-    while k < n {
+    for k in 0..n {
         if !line_sound(b, k, at) {
             return false;
         }
         at += fields::entry_count(b, k);
-        k += 1;
     }
     true
 }

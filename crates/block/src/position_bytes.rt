@@ -5,6 +5,7 @@ ghost use Rattle.lent.specs.Stored.{Stored};
 ghost use Rattle.block.specs.PositionBytes.{position_bytes, position_in, bytes_at};
 
 use jkf::Position;
+use std::array;
 
 // The bytes of a position, for which there is room.
 fn put_parts(out: &mut [u8], p: Position) -> usize
@@ -42,25 +43,13 @@ pub fn put_position(out: &mut [u8], at: usize, p: Position) -> usize
 fn cells_in(s: &[u8]) -> [u8; 81]
     ensures { result ≡ bytes_at s.now 4 81 }
 {
-    let mut cells = [0u8; 81];
-    let mut i = 0;
-    while i < 81 {
-        cells[i] = lent::peek(s, 4 + i);
-        i += 1;
-    }
-    cells
+    array::from_fn(|i| lent::peek(s, 4 + i))
 }
 
 fn hands_in(s: &[u8]) -> [u8; 14]
     ensures { result ≡ bytes_at s.now 85 14 }
 {
-    let mut hands = [0u8; 14];
-    let mut i = 0;
-    while i < 14 {
-        hands[i] = lent::peek(s, 85 + i);
-        i += 1;
-    }
-    hands
+    array::from_fn(|i| lent::peek(s, 85 + i))
 }
 
 // The position that the bytes from here on say; bytes past the end are 0.

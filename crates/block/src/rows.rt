@@ -1,8 +1,16 @@
 // The rows of a block as they are put: each from a place on, whole or not at all; the answer is the place past it.
-ghost use Rattle.std.specs.Prelude.{◌++◌, drop};
+ghost use Rattle.std.specs.Prelude.{◌≡◌, ◌++◌, drop};
 ghost use Rattle.lent.specs.Bytes.{bytes16, fitting};
 ghost use Rattle.lent.specs.Stored.{Stored};
 ghost use Rattle.block.specs.Encode.{head_bytes, line_bytes};
+
+// The two bytes of a number, the low one first; what is above 16 bits is left out.
+pub(crate) fn bytes16(n: u64) -> [u8; 2]
+    ensures { result ≡ bytes16 n }
+{
+    let [low, high, ..] = n.to_le_bytes();
+    [low, high]
+}
 
 // The head of a block: its mark, its version, its length, the four counts, the five offsets, zeros.
 pub fn put_head(
@@ -16,43 +24,30 @@ pub fn put_head(
 ) -> usize
     ensures { Stored (fitting (head_bytes version total headers lines entries comments) out.old) out.old out.new 0 result }
 {
-    let line_place = 128 + 8 * headers as usize;
-    let move_place = line_place + 8 * lines as usize;
-    let comment_place = move_place + 20 * entries as usize;
-    let text_place = comment_place + 4 * comments as usize;
+    let line_place = 128 + 8 * u64::from(headers);
+    let move_place = line_place + 8 * u64::from(lines);
+    let comment_place = move_place + 20 * u64::from(entries);
+    let text_place = comment_place + 4 * u64::from(comments);
     lent::put_at(
         out,
         0,
-        &[
-            b'K',
-            b'B',
-            (version % 256) as u8,
-            (version / 256 % 256) as u8,
-            (total % 256) as u8,
-            (total / 256 % 256) as u8,
-            (headers % 256) as u8,
-            (headers / 256 % 256) as u8,
-            (lines % 256) as u8,
-            (lines / 256 % 256) as u8,
-            (entries % 256) as u8,
-            (entries / 256 % 256) as u8,
-            (comments % 256) as u8,
-            (comments / 256 % 256) as u8,
-            128,
-            0,
-            (line_place % 256) as u8,
-            (line_place / 256 % 256) as u8,
-            (move_place % 256) as u8,
-            (move_place / 256 % 256) as u8,
-            (comment_place % 256) as u8,
-            (comment_place / 256 % 256) as u8,
-            (text_place % 256) as u8,
-            (text_place / 256 % 256) as u8,
-            0,
-            0,
-            0,
-            0,
-        ],
+        [
+            [b'K', b'B'],
+            version.to_le_bytes(),
+            total.to_le_bytes(),
+            headers.to_le_bytes(),
+            lines.to_le_bytes(),
+            entries.to_le_bytes(),
+            comments.to_le_bytes(),
+            bytes16(128),
+            bytes16(line_place),
+            bytes16(move_place),
+            bytes16(comment_place),
+            bytes16(text_place),
+            [0, 0],
+            [0, 0],
+        ]
+        .as_flattened(),
     )
 }
 
@@ -63,16 +58,7 @@ fn put_four(out: &mut [u8], at: usize, a: u64, b: u64, c: u64, d: u64) -> usize
     lent::put_at(
         out,
         at,
-        &[
-            (a % 256) as u8,
-            (a / 256 % 256) as u8,
-            (b % 256) as u8,
-            (b / 256 % 256) as u8,
-            (c % 256) as u8,
-            (c / 256 % 256) as u8,
-            (d % 256) as u8,
-            (d / 256 % 256) as u8,
-        ],
+        [bytes16(a), bytes16(b), bytes16(c), bytes16(d)].as_flattened(),
     )
 }
 
@@ -118,11 +104,6 @@ pub fn put_comment_row(out: &mut [u8], at: usize, offset: usize, length: usize) 
     lent::put_at(
         out,
         at,
-        &[
-            (offset % 256) as u8,
-            (offset / 256 % 256) as u8,
-            (length % 256) as u8,
-            (length / 256 % 256) as u8,
-        ],
+        [bytes16(offset as u64), bytes16(length as u64)].as_flattened(),
     )
 }

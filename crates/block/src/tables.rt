@@ -14,56 +14,30 @@ fn has_version(b: &[u8]) -> bool
     ensures { result ≡ is_version (version_in b.now) }
 {
     let v = fields::version(b);
-    if v == 1 {
-        return true;
-    }
-    v == 2
+    v == 1 || v == 2
 }
 
 pub(crate) fn head_sound(b: &[u8]) -> bool
     ensures { result ≡ flag (head_test b.now) }
 {
-    if b.len() < 128 {
-        return false;
-    }
-    if 65535 < b.len() {
-        return false;
-    }
-    if lent::peek(b, 0) != b'K' {
-        return false;
-    }
-    if lent::peek(b, 1) != b'B' {
-        return false;
-    }
-    if !has_version(b) {
-        return false;
-    }
-    if lent::get16(b, 4) != b.len() {
-        return false;
-    }
-    if lent::get16(b, 24) != 0 {
-        return false;
-    }
-    lent::get16(b, 26) == 0
+    (128..=65535).contains(&b.len())
+        && lent::peek(b, 0) == b'K'
+        && lent::peek(b, 1) == b'B'
+        && has_version(b)
+        && lent::get16(b, 4) == b.len()
+        && lent::get16(b, 24) == 0
+        && lent::get16(b, 26) == 0
 }
 
 // The five parts follow one another without gaps.
 pub(crate) fn parts_sound(b: &[u8]) -> bool
     ensures { result ≡ flag (parts_test b.now) }
 {
-    if lent::get16(b, 14) != 128 {
-        return false;
-    }
-    if lent::get16(b, 16) != fields::line_place(b, 0) {
-        return false;
-    }
-    if lent::get16(b, 18) != fields::move_place(b, 0) {
-        return false;
-    }
-    if lent::get16(b, 20) != fields::comment_place(b, 0) {
-        return false;
-    }
-    lent::get16(b, 22) == fields::text_place(b)
+    lent::get16(b, 14) == 128
+        && lent::get16(b, 16) == fields::line_place(b, 0)
+        && lent::get16(b, 18) == fields::move_place(b, 0)
+        && lent::get16(b, 20) == fields::comment_place(b, 0)
+        && lent::get16(b, 22) == fields::text_place(b)
 }
 
 // The counts of the head are those of the tables, and the texts end where the block does.
@@ -71,27 +45,19 @@ pub(crate) fn totals_sound(b: &[u8], headers: usize) -> bool
     requires { (headers ≡ header_bytes b.now (headers_in b.now)) × (headers < 8600000000) }
     ensures { result ≡ flag (totals_test b.now) }
 {
-    if fields::lines(b) < 1 {
-        return false;
-    }
-    if fields::entry_total(b) != fields::moves(b) {
-        return false;
-    }
-    if fields::comment_total(b) != fields::comments(b) {
-        return false;
-    }
-    fields::text_place(b) + headers + fields::text_total(b) == b.len()
+    1 <= fields::lines(b)
+        && fields::entry_total(b) == fields::moves(b)
+        && fields::comment_total(b) == fields::comments(b)
+        && fields::text_place(b) + headers + fields::text_total(b) == b.len()
 }
 
 // Whether a character may begin at a place: past the end, or at a byte that continues none.
+#[tactic(auto, unfolding(text::specs::Utf8::is_next))]
 fn starts(b: &[u8], at: usize) -> bool
     ensures { result ≡ not (is_next (get_or b.now at 0)) }
 {
     let c = lent::peek(b, at);
-    if c < 128 {
-        return true;
-    }
-    192 <= c
+    !(128..192).contains(&c)
 }
 
 // Header entry k, whose texts begin at a place of the text part, which begins at t.
@@ -99,17 +65,12 @@ fn header_stands(b: &[u8], t: usize, k: usize, at: usize) -> bool
     requires { (128 + 8 * k + 8 ≤ length b.now) × (k < 65535) × (at ≡ header_bytes b.now k) × (at < 1000000000000) × (t < 4000000) }
     ensures { result ≡ flag (header_stands b.now t k) }
 {
-    if fields::pair(b, 128 + 8 * k) != at {
-        return false;
-    }
-    let value = at + fields::pair(b, 128 + 8 * k + 2);
-    if fields::pair(b, 128 + 8 * k + 4) != value {
-        return false;
-    }
-    if !starts(b, t + at) {
-        return false;
-    }
-    starts(b, t + value)
+    let row = 128 + 8 * k;
+    let value = at + fields::pair(b, row + 2);
+    fields::pair(b, row) == at
+        && fields::pair(b, row + 4) == value
+        && starts(b, t + at)
+        && starts(b, t + value)
 }
 
 // The header table: its texts stand one after the other, and each begins where a character may.
@@ -119,13 +80,11 @@ fn headers_stand(b: &[u8], t: usize) -> bool
 {
     let n = fields::headers(b);
     let mut at = 0;
-    let mut k = 0;
-    while k < n {
+    for k in 0..n {
         if !header_stands(b, t, k, at) {
             return false;
         }
         at += fields::pair(b, 128 + 8 * k + 2) + fields::pair(b, 128 + 8 * k + 6);
-        k += 1;
     }
     true
 }
@@ -138,14 +97,12 @@ fn keys_ascend(b: &[u8], t: usize) -> bool
     let n = fields::headers(b);
     let texts = lent::rest(b, t);
     let mut key = texts::text_in(b, texts, 128);
-    let mut k = 0;
-    while k + 1 < n {
-        let next = texts::text_in(b, texts, 128 + 8 * (k + 1));
+    for k in 1..n {
+        let next = texts::text_in(b, texts, 128 + 8 * k);
         if !texts::is_before(key, next) {
             return false;
         }
         key = next;
-        k += 1;
     }
     true
 }
@@ -155,10 +112,7 @@ fn comment_stands(b: &[u8], t: usize, rows: usize, k: usize, at: usize) -> bool
     requires { (rows ≡ comment_place b.now 0) × (rows + 4 * k + 4 ≤ length b.now) × (at ≡ header_bytes b.now (headers_in b.now) + comment_bytes b.now k) × (at < 1000000000000) × (t < 4000000) }
     ensures { result ≡ flag (comment_stands b.now t k) }
 {
-    if fields::pair(b, rows + 4 * k) != at {
-        return false;
-    }
-    starts(b, t + at)
+    fields::pair(b, rows + 4 * k) == at && starts(b, t + at)
 }
 
 // The comments, whose texts begin after those of the header entries.
@@ -169,13 +123,11 @@ fn comments_stand(b: &[u8], t: usize, headers: usize) -> bool
     let n = fields::comments(b);
     let rows = fields::comment_place(b, 0);
     let mut at = headers;
-    let mut k = 0;
-    while k < n {
+    for k in 0..n {
         if !comment_stands(b, t, rows, k, at) {
             return false;
         }
         at += fields::pair(b, rows + 4 * k + 2);
-        k += 1;
     }
     true
 }
@@ -186,14 +138,8 @@ pub(crate) fn texts_sound(b: &[u8], headers: usize) -> bool
     ensures { result ≡ flag (each (headers_in b.now) (header_test b.now) and each (comments_in b.now) (comment_test b.now)) }
 {
     let t = fields::text_place(b);
-    if !texts::is_valid(lent::rest(b, t)) {
-        return false;
-    }
-    if !headers_stand(b, t) {
-        return false;
-    }
-    if !keys_ascend(b, t) {
-        return false;
-    }
-    comments_stand(b, t, headers)
+    texts::is_valid(lent::rest(b, t))
+        && headers_stand(b, t)
+        && keys_ascend(b, t)
+        && comments_stand(b, t, headers)
 }

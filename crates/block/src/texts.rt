@@ -58,8 +58,7 @@ fn four(s: &[u8], at: usize) -> usize
 fn rest_before(a: &[u8], b: &[u8], from: usize) -> bool
     ensures { result ≡ before (drop from a.now) (drop from b.now) }
 {
-    let mut i = from;
-    while i < b.len() {
+    for i in from..b.len() {
         if a.len() <= i {
             return true;
         }
@@ -69,22 +68,16 @@ fn rest_before(a: &[u8], b: &[u8], from: usize) -> bool
         if b[i] < a[i] {
             return false;
         }
-        i += 1;
     }
     false
 }
 
-fn smaller(m: usize, n: usize) -> usize
-    ensures { (result ≤ m) × (result ≤ n) }
-{
-    if m < n { m } else { n }
-}
-
-// Whether one text comes before another by bytes: four at a time, while both have four.
+// Whether one text comes before another by bytes: four at a time, while both have four. The library's order of slices goes one by one: with it
+// header lines with Japanese keys are written 2.5 times as fast as by the Rust, and not 3.
 pub(crate) fn is_before(a: &[u8], b: &[u8]) -> bool
     ensures { result ≡ before a.now b.now }
 {
-    let n = smaller(a.len(), b.len());
+    let n = a.len().min(b.len());
     let mut i = 0;
     while i + 4 <= n {
         let x = four(a, i);
@@ -101,15 +94,5 @@ pub(crate) fn is_before(a: &[u8], b: &[u8]) -> bool
 pub fn is_same(a: &[u8], b: &[u8]) -> bool
     ensures { result ≡ same a.now b.now }
 {
-    if a.len() != b.len() {
-        return false;
-    }
-    let mut i = 0;
-    while i < a.len() {
-        if a[i] != b[i] {
-            return false;
-        }
-        i += 1;
-    }
-    true
+    a == b
 }

@@ -1,23 +1,22 @@
 -- What stands in the way, one hand count, entry or line after the other; and which lines are shown.
---     ..-narrow, narrow-fits   a row that any mode can write
+--     narrow-fits a row that any mode can write
 --     ..-more     the next one, and those after it
 --     ..-none     there is none left
 -- Assumes nothing.
+use Rattle.std.specs.Prelude.{Option, Some, None}
 use Prim.Native.Nat.{ℕ, suc, ◌+◌, ◌-◌, ◌/◌, ◌%◌, ◌≤◌, ◌<◌}
 use native.Mathlib.Omega.{arith}
 use mathlib.Core.Path.{◌≡◌, refl, sym, ap, ◌∙◌}
 use mathlib.Core.List.{List, [], ◌∷◌, ◌++◌, append_assoc, append-nil}
 use mathlib.Core.Bool.{Bool, true, false}
 use lib.ListN.{length, drop, get_or}
-use lib.Dec.{eqb, leb, ltb}
-use borrow.Author.Tests.{eq-eqb, ne_eqb, le-leb, lt-leb}
+use lib.Dec.{eqb, ltb}
+use borrow.Author.Tests.{eq-eqb, ne_eqb, le-leb}
 use Rattle.lists.specs.Pick.{pick}
 use Rattle.jkf.specs.Model.{Noted, Line}
 use Rattle.jkf.specs.Entries.{special_of}
 use Rattle.jkf.specs.declared.Time.{Time}
 use Rattle.jkf.specs.declared.Time.TheVariants.{Untimed, Timed}
-use Rattle.jkf.specs.declared.Origin.{Origin}
-use Rattle.jkf.specs.declared.Origin.TheVariants.{Unknown, From}
 use Rattle.jkf.specs.declared.Entry.TheVariants.{Slot, Moved, End}
 use Rattle.block.specs.EntryBytes.{time_in, target_in, origin_in, move_in, entry_in}
 use Rattle.block.specs.Decode.{run, lines_in, first_entry, entry_count, line_in, decode}
@@ -27,44 +26,25 @@ use Rattle.converter.specs.declared.Mode.{Mode}
 use Rattle.converter.specs.Said.{said_mark, said_origin, said_time, said_move, said_entry, shown, said_lines, left_out}
 use Rattle.converter.specs.Show.{on_obstacle, hand_obstacle, entry_obstacle, line_obstacle, zero_start}
 use Rattle.converter.specs.inner.Lines.{noted_said, line_said, ShownLines}
-use Rattle.converter.specs.declared.Obstacle.TheVariants.{At, Clear}
 use Rattle.converter.proofs.Saying.{mark-promotes, entries-said, lines-said, zero_none, zero_at}
 
 -- ---- hands
 
 module _ (hands : List ℕ) (i : ℕ) where
   pub hand-more : i < 14
-      → hand_obstacle hands i (14 - i) ≡ pick (ltb 99 (get_or hands i 0)) (At (i / 7) (i % 7)) (hand_obstacle hands (i + 1) (14 - (i + 1)))
+      → hand_obstacle hands i (14 - i) ≡ pick (ltb 99 (get_or hands i 0)) (Some (i / 7, i % 7)) (hand_obstacle hands (i + 1) (14 - (i + 1)))
   unfolding hand_obstacle
   hand-more h = let e : 14 - i ≡ suc (14 - (i + 1)) = omega arith in ap (hand_obstacle hands i) e
 
-  pub hand-none : 14 ≤ i → hand_obstacle hands i (14 - i) ≡ Clear
+  pub hand-none : 14 ≤ i → hand_obstacle hands i (14 - i) ≡ None
   unfolding hand_obstacle
   hand-none h = let e : 14 - i ≡ 0 = omega arith in ap (hand_obstacle hands i) e
 
 -- ---- rows
 
--- one of two numbers
-pick-most : (t : Bool) {a b n : ℕ} → a ≤ n → b ≤ n → pick t a b ≤ n
-pick-most true h k = h
-pick-most false h k = k
-
--- a name of one character, and one of two that is not promoted
-pub short-narrow : (kind promote : ℕ) → kind < 10 → kind_width kind + promote_width promote ≤ 4
-short-narrow kind promote h =
-    let e : kind_width kind ≡ 2 = rw (lt-leb 10 kind h) in
-    let p : promote_width promote ≤ 2 = pick-most (eqb promote 2) (omega arith) (omega arith) in
-    omega (arith, e, p)
-
-pub bare_narrow : (kind promote : ℕ) → (promote ≡ 2 → ⊥) → kind_width kind + promote_width promote ≤ 4
-bare_narrow kind promote n =
-    let e : promote_width promote ≡ 0 = rw (ne_eqb promote 2 n) in
-    let k : kind_width kind ≤ 4 = pick-most (leb 10 kind) (pick-most (leb kind 12) (omega arith) (omega arith)) (omega arith) in
-    omega (arith, e, k)
-
-origin-most : (o : Origin) → origin_width o ≤ 4
-origin-most Unknown = omega arith
-origin-most (From x y) = omega arith
+origin-most : (o : Option (ℕ × ℕ)) → origin_width o ≤ 4
+origin-most None = omega arith
+origin-most (Some (x, y)) = omega arith
 
 -- a time has room behind what is 13 wide
 room_behind : (w : ℕ) (t : Time) → w ≤ 13 → time_has_room w t ≡ true
@@ -96,19 +76,13 @@ module _ (mode : Mode) (row : List ℕ) (e : target_on_board (target_in row) ≡
 module _ (line : ℕ) (f : ℕ → Noted) (first count i : ℕ) where
   pub entry_more : i < count
       → entry_obstacle line i (run f (first + i) (count - i))
-      ≡ pick (can_write (f (first + i)).what) (entry_obstacle line (i + 1) (run f (first + (i + 1)) (count - (i + 1)))) (At line i)
+      ≡ pick (can_write (f (first + i)).what) (entry_obstacle line (i + 1) (run f (first + (i + 1)) (count - (i + 1)))) (Some (line, i))
   unfolding entry_obstacle
   entry_more h =
       let e : first + i + 1 ≡ first + (i + 1) = omega arith in
       ap (entry_obstacle line i) (run-next f (first + i) count i h ∙ ap (λ (j : ℕ). f (first + i) ∷ run f j (count - (i + 1))) e)
 
-  pub entry_first : entry_obstacle line 0 (run f first count) ≡ entry_obstacle line 0 (run f (first + 0) (count - 0))
-  entry_first =
-      let e : first ≡ first + 0 = omega arith in
-      let d : count ≡ count - 0 = omega arith in
-      ap (λ (j : ℕ). entry_obstacle line 0 (run f j count)) e ∙ ap (λ (n : ℕ). entry_obstacle line 0 (run f (first + 0) n)) d
-
-  pub entry-none : count ≤ i → entry_obstacle line i (run f (first + i) (count - i)) ≡ Clear
+  pub entry-none : count ≤ i → entry_obstacle line i (run f (first + i) (count - i)) ≡ None
   unfolding entry_obstacle
   entry-none h = ap (entry_obstacle line i) (run_end f (first + i) count i h)
 
@@ -116,11 +90,11 @@ module _ (line : ℕ) (f : ℕ → Noted) (first count i : ℕ) where
 
 module _ (g : ℕ → Line) (n k : ℕ) where
   pub line-more : k < n
-      → line_obstacle k (run g k (n - k)) ≡ on_obstacle (entry_obstacle k 0 (g k).entries) (λ a b. At a b) (line_obstacle (k + 1) (run g (k + 1) (n - (k + 1))))
+      → line_obstacle k (run g k (n - k)) ≡ on_obstacle (entry_obstacle k 0 (g k).entries) (λ a b. Some (a, b)) (line_obstacle (k + 1) (run g (k + 1) (n - (k + 1))))
   unfolding line_obstacle
   line-more h = ap (line_obstacle k) (run-next g k n k h)
 
-  pub line-none : n ≤ k → line_obstacle k (run g k (n - k)) ≡ Clear
+  pub line-none : n ≤ k → line_obstacle k (run g k (n - k)) ≡ None
   unfolding line_obstacle
   line-none h = ap (line_obstacle k) (run_end g k n k h)
 
@@ -172,10 +146,10 @@ module _ {b : List ℕ} {n : ℕ} (v : ShownLines b n) where
       ap (line_obstacle 0) (lines-said mode b v ∙ ap (run (line_said mode b) 0) z)
 
   -- no variation starts at 0, or the first line that is not shown does
-  pub lost_none : lines_in b ≤ n → zero_start 1 (drop 1 (decode b).lines) ≡ Clear
+  pub lost_none : lines_in b ≤ n → zero_start 1 (drop 1 (decode b).lines) ≡ None
   lost_none h = ap (λ (ls : List Line). zero_start 1 (drop 1 ls)) lines_are ∙ zero_none v h
 
-  pub lost_some : n < lines_in b → zero_start 1 (drop 1 (decode b).lines) ≡ At n 0
+  pub lost_some : n < lines_in b → zero_start 1 (drop 1 (decode b).lines) ≡ Some (n, 0)
   lost_some h = ap (λ (ls : List Line). zero_start 1 (drop 1 ls)) lines_are ∙ zero_at v h
 
   -- the lines after the n that are shown are left out

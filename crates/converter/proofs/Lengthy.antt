@@ -1,5 +1,6 @@
 -- How long the parts of a line of play are: numbers by their digits, spellings by the number that they spell, and the rest by its parts.
 -- Assumes nothing.
+use Rattle.std.specs.Prelude.{Option, Some, None}
 use Prim.Native.Nat.{ℕ, zero, suc, ◌+◌, ◌-◌, ◌/◌, ◌≤◌, ◌<◌}
 use native.Mathlib.Omega.{arith}
 use mathlib.Core.Path.{◌≡◌, refl, sym, ap, ◌∙◌}
@@ -21,8 +22,6 @@ use Rattle.jkf.specs.declared.Clock.TheVariants.{Hms, Ms}
 use Rattle.jkf.specs.declared.Special.{Special}
 use Rattle.jkf.specs.declared.Time.{Time}
 use Rattle.jkf.specs.declared.Time.TheVariants.{Untimed, Timed}
-use Rattle.jkf.specs.declared.Origin.{Origin}
-use Rattle.jkf.specs.declared.Origin.TheVariants.{Unknown, From}
 use Rattle.jkf.specs.declared.Target.{Target}
 use Rattle.jkf.specs.declared.Target.TheVariants.{Same, Square}
 use Rattle.jkf.specs.declared.Move.{Move}
@@ -164,12 +163,12 @@ unfolding promote_text
 promote_none p h k = simp (ne_eqb p 2 h, ne_eqb p 1 k)
 
 -- 打
-pub unknown_length : {o : Origin} → o ≡ Unknown → 3 ≡ length (origin_text o)
+pub unknown_length : {o : Option (ℕ × ℕ)} → o ≡ None → 3 ≡ length (origin_text o)
 unfolding origin_text
 unknown_length e = rw e
 
 -- an origin that is known is two numbers in brackets
-pub from-length : {o : Origin} {x y : ℕ} → o ≡ From x y → length (origin_text o) ≡ 2 + length (decimal x) + length (decimal y)
+pub from-length : {o : Option (ℕ × ℕ)} {x y : ℕ} → o ≡ Some (x, y) → length (origin_text o) ≡ 2 + length (decimal x) + length (decimal y)
 unfolding origin_text
 from-length e = rw e (simp length-append (omega arith))
 

@@ -24,6 +24,7 @@ use Rattle.converter.specs.declared.Mode.{Mode}
 use Rattle.converter.specs.Said.{said_line, said_lines}
 use Rattle.converter.specs.Show.{number_line, main_text, variation_text, lines_text}
 use Rattle.converter.specs.inner.Branches.{lines_on, variations_on, reach_of, line_text}
+use Rattle.block.specs.inner.Sounds.{Sound}
 use Rattle.converter.specs.inner.Lines.{line_said, ShownLines}
 use Rattle.converter.proofs.Runs.{concat-first, concat-cut}
 use Rattle.converter.proofs.Branches.{before-all, line_reaches, branched_front}
@@ -192,10 +193,10 @@ module _ (f : ℕ → Line) (start count : ℕ → ℕ) {n : ℕ} (g : Branched 
 
 -- ---- in a sound block, of which n lines are shown
 
-module _ (mode : Mode) (b : List ℕ) {n : ℕ} (s : ShownLines b n) where
+module _ (mode : Mode) (b : List ℕ) {n : ℕ} (d : Sound b) (s : ShownLines b n) where
   said_branched : Branched (start_of b) (entry_count b) (λ i. (line_said mode b i).parent) n
   unfolding said_line
-  said_branched = branched_front (line_in b) (start_of b) (entry_count b) (sound_branched b s.sound) n s.most
+  said_branched = branched_front (line_in b) (start_of b) (entry_count b) (sound_branched b d) n s.most
 
   pub line-text : (k : ℕ) → k < n
       → line_text (line_said mode b) n k ≡ variation_text (line_said mode b k) ++ concat (line_text (line_said mode b) n) (variations_on (line_said mode b) n k)

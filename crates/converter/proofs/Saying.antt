@@ -1,6 +1,7 @@
 -- What a mode says of the entries and lines of a block: an entry and a line each by itself, the lines that are shown in their order, and the
 -- first that would not be.
 -- Assumes nothing.
+use Rattle.std.specs.Prelude.{Some, None}
 use Prim.Native.Nat.{ℕ, ◌+◌, ◌-◌, ◌≤◌, ◌<◌}
 use native.Mathlib.Omega.{arith}
 use mathlib.Core.Path.{◌≡◌, refl, sym, ap, ap₂, ◌∙◌}
@@ -21,7 +22,6 @@ use Rattle.block.proofs.Tabling.{length_run, run-first, map-run}
 use Rattle.block.proofs.Within.{some-line, some-entry, first-none}
 use Rattle.converter.specs.declared.Mode.{Mode}
 use Rattle.converter.specs.declared.Mode.TheVariants.{Plain, Whole, Shared}
-use Rattle.converter.specs.declared.Obstacle.TheVariants.{At, Clear}
 use Rattle.converter.specs.Said.{hour, minute, second, said_mark, said_now, said_total, said_time, said_noted, said_line, shown, said_lines}
 use Rattle.converter.specs.Show.{zero_start}
 use Rattle.converter.specs.inner.Lines.{noted_said, line_said, ShownLines}
@@ -89,38 +89,38 @@ module _ (mode : Mode) (b : List ℕ) where
 -- ---- a variation that starts at 0
 
 -- there is none where all are shown
-all_shown : (k : ℕ) (ls : List Line) → length (shown ls) ≡ length ls → zero_start k ls ≡ Clear
+all_shown : (k : ℕ) (ls : List Line) → length (shown ls) ≡ length ls → zero_start k ls ≡ None
 unfolding zero_start shown
 all_shown k [] e = refl
 all_shown k (l ∷ ls) e = go (eqb l.start 0) e (all_shown (k + 1) ls)
   where
-    go : (t : Bool) → length (pick t [] (l ∷ shown ls)) ≡ length (l ∷ ls) → (length (shown ls) ≡ length ls → zero_start (k + 1) ls ≡ Clear)
-        → pick t (At k 0) (zero_start (k + 1) ls) ≡ Clear
+    go : (t : Bool) → length (pick t [] (l ∷ shown ls)) ≡ length (l ∷ ls) → (length (shown ls) ≡ length ls → zero_start (k + 1) ls ≡ None)
+        → pick t (Some (k, 0)) (zero_start (k + 1) ls) ≡ None
     go true e ih = absurd (omega arith)
     go false e ih = ih (omega arith)
 
 -- and else it stands behind those that are shown
-not_shown : (k : ℕ) (ls : List Line) → length (shown ls) < length ls → zero_start k ls ≡ At (k + length (shown ls)) 0
+not_shown : (k : ℕ) (ls : List Line) → length (shown ls) < length ls → zero_start k ls ≡ Some (k + length (shown ls), 0)
 unfolding zero_start shown
 not_shown k [] h = absurd (omega arith)
 not_shown k (l ∷ ls) h = go (eqb l.start 0) h (not_shown (k + 1) ls)
   where
     go : (t : Bool) → length (pick t [] (l ∷ shown ls)) < length (l ∷ ls)
-        → (length (shown ls) < length ls → zero_start (k + 1) ls ≡ At (k + 1 + length (shown ls)) 0)
-        → pick t (At k 0) (zero_start (k + 1) ls) ≡ At (k + length (pick t [] (l ∷ shown ls))) 0
-    go true h ih = let e : k ≡ k + 0 = omega arith in ap (λ (i : ℕ). At i 0) e
+        → (length (shown ls) < length ls → zero_start (k + 1) ls ≡ Some (k + 1 + length (shown ls), 0))
+        → pick t (Some (k, 0)) (zero_start (k + 1) ls) ≡ Some (k + length (pick t [] (l ∷ shown ls)), 0)
+    go true h ih = let e : k ≡ k + 0 = omega arith in ap (λ (i : ℕ). Some (i, 0)) e
     go false h ih =
         let e : k + 1 + length (shown ls) ≡ k + length (l ∷ shown ls) = omega arith in
-        ih (omega arith) ∙ ap (λ (i : ℕ). At i 0) e
+        ih (omega arith) ∙ ap (λ (i : ℕ). Some (i, 0)) e
 
 module _ {b : List ℕ} {n : ℕ} (v : ShownLines b n) where
   later-shown : length (shown (run (line_in b) 1 (lines_in b - 1))) ≡ n - 1
   later-shown = ap length v.later ∙ length_run (line_in b) 1 (n - 1)
 
-  pub zero_none : lines_in b ≤ n → zero_start 1 (run (line_in b) 1 (lines_in b - 1)) ≡ Clear
+  pub zero_none : lines_in b ≤ n → zero_start 1 (run (line_in b) 1 (lines_in b - 1)) ≡ None
   zero_none h = all_shown 1 _ (omega (arith, later-shown, length_run (line_in b) 1 (lines_in b - 1), v.most))
 
-  pub zero_at : n < lines_in b → zero_start 1 (run (line_in b) 1 (lines_in b - 1)) ≡ At n 0
+  pub zero_at : n < lines_in b → zero_start 1 (run (line_in b) 1 (lines_in b - 1)) ≡ Some (n, 0)
   zero_at h =
       let e : 1 + length (shown (run (line_in b) 1 (lines_in b - 1))) ≡ n = omega (arith, later-shown, v.some) in
-      not_shown 1 _ (omega (arith, later-shown, length_run (line_in b) 1 (lines_in b - 1), v.some)) ∙ ap (λ (i : ℕ). At i 0) e
+      not_shown 1 _ (omega (arith, later-shown, length_run (line_in b) 1 (lines_in b - 1), v.some)) ∙ ap (λ (i : ℕ). Some (i, 0)) e

@@ -1,5 +1,6 @@
 -- What `write_as` answers, case by case, and the text of a block in its three parts.
 -- Assumes nothing.
+use Rattle.std.specs.Prelude.{Option, Some, None}
 use mathlib.Core.Path.{◌≡◌, refl, sym, ap}
 use mathlib.Core.List.{List, ◌++◌}
 use mathlib.Core.Bool.{true, false}
@@ -19,8 +20,6 @@ use Rattle.converter.specs.declared.Mode.{Mode}
 use Rattle.converter.specs.Said.{said_lines, left_out, said_record}
 use Rattle.converter.specs.Show.{text, refused, on_obstacle, hands_obstacle, line_obstacle, start_obstacle, lines_text, record_text, show_lines, show_hands, show}
 use Rattle.converter.specs.Writing.{text_stored, shown_of, write_as_of}
-use Rattle.converter.specs.declared.Obstacle.{Obstacle}
-use Rattle.converter.specs.declared.Obstacle.TheVariants.{At, Clear}
 use Rattle.lent.proofs.Room.{room_as, room-front}
 
 -- ---- refusals in their order
@@ -35,35 +34,35 @@ module _ (mode : Mode) (b o : List ℕ) where
   is_sound h = rw h
 
 module _ (mode : Mode) (r : Record) (o : List ℕ) where
-  pub starts-refused : (line n : ℕ) → start_obstacle mode r.lines ≡ At line n → shown_of (show mode r) o ≡ refuse (StartsAtZero line) o
+  pub starts-refused : (line n : ℕ) → start_obstacle mode r.lines ≡ Some (line, n) → shown_of (show mode r) o ≡ refuse (StartsAtZero line) o
   unfolding show shown_of
   starts-refused line n e =
-      ap (λ (h : Obstacle). shown_of (on_obstacle h (λ l _. refused (StartsAtZero l)) (show_hands mode r)) o) e
+      ap (λ (h : Option (ℕ × ℕ)). shown_of (on_obstacle h (λ l _. refused (StartsAtZero l)) (show_hands mode r)) o) e
 
-  pub starts_clear : start_obstacle mode r.lines ≡ Clear → shown_of (show mode r) o ≡ shown_of (show_hands mode r) o
+  pub starts_clear : start_obstacle mode r.lines ≡ None → shown_of (show mode r) o ≡ shown_of (show_hands mode r) o
   unfolding show
   starts_clear e =
-      ap (λ (h : Obstacle). shown_of (on_obstacle h (λ l _. refused (StartsAtZero l)) (show_hands mode r)) o) e
+      ap (λ (h : Option (ℕ × ℕ)). shown_of (on_obstacle h (λ l _. refused (StartsAtZero l)) (show_hands mode r)) o) e
 
-  pub hands-refused : (side kind : ℕ) → hands_obstacle r.position ≡ At side kind → shown_of (show_hands mode r) o ≡ refuse (HandCount side kind) o
+  pub hands-refused : (side kind : ℕ) → hands_obstacle r.position ≡ Some (side, kind) → shown_of (show_hands mode r) o ≡ refuse (HandCount side kind) o
   unfolding show_hands shown_of
   hands-refused side kind e =
-      ap (λ (h : Obstacle). shown_of (on_obstacle h (λ s k. refused (HandCount s k)) (show_lines mode r)) o) e
+      ap (λ (h : Option (ℕ × ℕ)). shown_of (on_obstacle h (λ s k. refused (HandCount s k)) (show_lines mode r)) o) e
 
-  pub hands_clear : hands_obstacle r.position ≡ Clear → shown_of (show_hands mode r) o ≡ shown_of (show_lines mode r) o
+  pub hands_clear : hands_obstacle r.position ≡ None → shown_of (show_hands mode r) o ≡ shown_of (show_lines mode r) o
   unfolding show_hands
   hands_clear e =
-      ap (λ (h : Obstacle). shown_of (on_obstacle h (λ s k. refused (HandCount s k)) (show_lines mode r)) o) e
+      ap (λ (h : Option (ℕ × ℕ)). shown_of (on_obstacle h (λ s k. refused (HandCount s k)) (show_lines mode r)) o) e
 
-  pub lines-refused : (line entry : ℕ) → line_obstacle 0 (said_lines mode r.lines) ≡ At line entry → shown_of (show_lines mode r) o ≡ refuse (CannotWrite line entry) o
+  pub lines-refused : (line entry : ℕ) → line_obstacle 0 (said_lines mode r.lines) ≡ Some (line, entry) → shown_of (show_lines mode r) o ≡ refuse (CannotWrite line entry) o
   unfolding show_lines shown_of said_record
   lines-refused line entry e =
-      ap (λ (h : Obstacle). shown_of (on_obstacle h (λ l n. refused (CannotWrite l n)) (text (record_text (said_record mode r)) (left_out r.lines))) o) e
+      ap (λ (h : Option (ℕ × ℕ)). shown_of (on_obstacle h (λ l n. refused (CannotWrite l n)) (text (record_text (said_record mode r)) (left_out r.lines))) o) e
 
-  pub lines_clear : line_obstacle 0 (said_lines mode r.lines) ≡ Clear → shown_of (show_lines mode r) o ≡ text_stored (record_text (said_record mode r)) (left_out r.lines) o
+  pub lines_clear : line_obstacle 0 (said_lines mode r.lines) ≡ None → shown_of (show_lines mode r) o ≡ text_stored (record_text (said_record mode r)) (left_out r.lines) o
   unfolding show_lines shown_of said_record
   lines_clear e =
-      ap (λ (h : Obstacle). shown_of (on_obstacle h (λ l n. refused (CannotWrite l n)) (text (record_text (said_record mode r)) (left_out r.lines))) o) e
+      ap (λ (h : Option (ℕ × ℕ)). shown_of (on_obstacle h (λ l n. refused (CannotWrite l n)) (text (record_text (said_record mode r)) (left_out r.lines))) o) e
 
 -- ---- a text that is written, or does not fit
 

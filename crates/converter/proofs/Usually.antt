@@ -1,5 +1,7 @@
 -- The line of an entry of the usual form: what its row says, and the bytes of each of its three pieces.
 -- Assumes nothing.
+
+use Rattle.std.specs.Prelude.{Option, Some, None}
 use Prim.Native.Nat.{ℕ, ◌+◌, ◌-◌, ◌/◌, ◌%◌, ◌≤◌, ◌<◌}
 use native.Mathlib.Omega.{arith}
 use native.Mathlib.Decide.{dec_lt, ℕ_discrete}
@@ -7,10 +9,9 @@ use mathlib.Core.Path.{◌≡◌, refl, sym, ap, ap₂, subst, ◌∙◌}
 use mathlib.Core.List.{List, [], ◌∷◌, ◌++◌, append_assoc, append-nil}
 use mathlib.Core.Bool.{Bool, true, false, true≢false}
 use lib.ListN.{length, get_or, replicate, length-append, length-replicate}
-use lib.Dec.{eqb, leb, ltb}
-use borrow.Author.Tests.{ne_eqb, lt-ltb, le-ltb, eqb-true, eqb-false, ltb-false, le-leb, lt-leb, leb-true}
+use lib.Dec.{eqb, ltb}
+use borrow.Author.Tests.{ne_eqb, lt-ltb, le-ltb, eqb-true, eqb-false, ltb-false, le-leb, lt-leb}
 use Rattle.lists.specs.Pick.{pick}
-use Rattle.lists.proofs.Laws.{pick_both}
 use Rattle.lent.specs.Numbers.{decimal, padded}
 use Rattle.lent.proofs.Digits.{decimal-one, decimal-more, decimal-length-one, padded-some, digits_three}
 use Rattle.text.specs.Text.{wide_space}
@@ -25,7 +26,6 @@ use Rattle.jkf.specs.declared.Time.{Time}
 use Rattle.jkf.specs.declared.Time.TheVariants.{Untimed, Timed}
 use Rattle.jkf.specs.declared.Move.{Move}
 use Rattle.jkf.specs.declared.Target.TheVariants.{Same, Square}
-use Rattle.jkf.specs.declared.Origin.TheVariants.{Unknown, From}
 use Rattle.jkf.specs.declared.Entry.TheVariants.{Moved}
 use Rattle.spell.specs.Words.{same_word, promotes, declines}
 use Rattle.converter.specs.Entries.{target_text, promote_text, origin_text, move_text, move_width, clock_text, time_text, play_text, width_of, entry_line, time_padding, within}
@@ -115,10 +115,6 @@ pick_neither false w e = (refl, e)
 within_is : (x : ℕ) → (1 ≤ x) × (x ≤ 9) → within x ≡ true
 within_is x (h, k) = rw (le-leb 1 x h, le-leb x 9 k)
 
--- and back
-pub within_of : {x : ℕ} → within x ≡ true → (1 ≤ x) × (x ≤ 9)
-within_of {x} t = let (p, q) = pick_both (leb 1 x) (leb x 9) t in (leb-true 1 x p, leb-true x 9 q)
-
 -- the plain text says every row so
 pub plain_so : (row : List ℕ) → SaidSo Plain row
 unfolding said_mark said_origin promote_text
@@ -187,9 +183,9 @@ module _ (row : List ℕ) (u : UsualRow row) where
       refl refl
 
   -- its origin is known
-  origin_is : origin_in row ≡ From (get_or row 6 0) (get_or row 7 0)
+  origin_is : origin_in row ≡ Some (get_or row 6 0, get_or row 7 0)
   unfolding origin_in
-  origin_is = by_marks (λ (m : ℕ). pick (eqb (m % 2) 1) (From (get_or row 6 0) (get_or row 7 0)) Unknown ≡ From (get_or row 6 0) (get_or row 7 0)) refl refl
+  origin_is = by_marks (λ (m : ℕ). pick {A = Option (ℕ × ℕ)} (eqb (m % 2) 1) (Some (get_or row 6 0, get_or row 7 0)) None ≡ Some (get_or row 6 0, get_or row 7 0)) refl refl
 
   -- its target is 同
   same_is : get_or row 8 0 ≡ 23 → target_in row ≡ Same

@@ -2,6 +2,7 @@
 --     front, behind   the room for the first of two pieces, and for the second once the first is written
 --     then-fits       a second piece, for which there is room
 -- Assumes nothing.
+use Rattle.std.specs.Prelude.{Option, Some, None}
 use Prim.Native.Nat.{ℕ, ◌≤◌}
 use native.Mathlib.Omega.{arith}
 use mathlib.Core.Path.{◌≡◌, refl, ap, ◌∙◌}
@@ -18,8 +19,6 @@ use Rattle.spell.specs.Spell.{spelled}
 use Rattle.jkf.specs.Entries.{special_of, time_of}
 use Rattle.jkf.proofs.Specials.{special_past}
 use Rattle.jkf.specs.declared.Clock.TheVariants.{Hms, Ms}
-use Rattle.jkf.specs.declared.Origin.{Origin}
-use Rattle.jkf.specs.declared.Origin.TheVariants.{Unknown, From}
 use Rattle.jkf.specs.declared.Move.{Move}
 use Rattle.jkf.specs.declared.Entry.{Entry}
 use Rattle.text.specs.Text.{same}
@@ -74,9 +73,9 @@ pub promote_narrow : (promote : ℕ) → promote_width promote ≤ 2
 promote_narrow promote = by_pick (λ (w : ℕ). w ≤ 2) (eqb promote 2) 2 0 (λ _. omega arith) (λ _. omega arith)
 
 -- an origin is at most 4 wide
-pub origin-narrow : (from : Origin) → origin_width from ≤ 4
-origin-narrow Unknown = omega arith
-origin-narrow (From x y) = omega arith
+pub origin-narrow : (from : Option (ℕ × ℕ)) → origin_width from ≤ 4
+origin-narrow None = omega arith
+origin-narrow (Some (x, y)) = omega arith
 
 -- n is none of some numbers: what the last arm of a match knows
 abbrev pub NoneOf : List ℕ → ℕ → Type 0

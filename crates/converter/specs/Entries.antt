@@ -1,7 +1,7 @@
 -- The entries of a line as they are written: all that is said of them here; what is said of an entry depends on the mode (Said.antt).
 -- (01, Writing; Numbers of refusal: width)
 -- Assumes nothing: these are definitions.
-use Rattle.std.specs.Prelude.{ℕ, ◌+◌, ◌*◌, ◌-◌, ◌/◌, List, [], ◌∷◌, ◌++◌, Bool, true, false, length, get_or, replicate, eqb, leb}
+use Rattle.std.specs.Prelude.{ℕ, ◌+◌, ◌*◌, ◌-◌, ◌/◌, List, [], ◌∷◌, ◌++◌, Bool, true, false, length, get_or, replicate, eqb, leb, Option, Some, None}
 use Rattle.lists.specs.Pick.{pick}
 use Rattle.lent.specs.Numbers.{decimal, padded}
 use Rattle.text.specs.Text.{wide_space, same}
@@ -15,8 +15,6 @@ use Rattle.jkf.specs.declared.Time.{Time}
 use Rattle.jkf.specs.declared.Time.TheVariants.{Untimed, Timed}
 use Rattle.jkf.specs.declared.Target.{Target}
 use Rattle.jkf.specs.declared.Target.TheVariants.{Same, Square}
-use Rattle.jkf.specs.declared.Origin.{Origin}
-use Rattle.jkf.specs.declared.Origin.TheVariants.{Unknown, From}
 use Rattle.jkf.specs.declared.Move.{Move}
 use Rattle.jkf.specs.declared.Entry.{Entry}
 use Rattle.jkf.specs.declared.Entry.TheVariants.{Slot, Moved, End}
@@ -36,9 +34,9 @@ unfoldable pub promote_text : ℕ → List ℕ
 promote_text promote = pick (eqb promote 2) promotes (pick (eqb promote 1) declines [])
 
 -- Two numbers in brackets, or 打 where the origin is not known.
-unfoldable pub origin_text : Origin → List ℕ
-origin_text Unknown = drops
-origin_text (From x y) = (((40 ∷ []) ++ decimal x) ++ decimal y) ++ (41 ∷ [])
+unfoldable pub origin_text : Option (ℕ × ℕ) → List ℕ
+origin_text None = drops
+origin_text (Some (x, y)) = (((40 ∷ []) ++ decimal x) ++ decimal y) ++ (41 ∷ [])
 
 unfoldable pub move_text : Move → List ℕ
 move_text m = ((target_text m.to ++ spelled move_kinds m.piece) ++ promote_text m.promote) ++ origin_text m.from
@@ -54,9 +52,9 @@ abbrev pub promote_width : ℕ → ℕ
 promote_width promote = pick (eqb promote 2) 2 0
 
 -- Two digits between brackets, or the one character 打.
-abbrev pub origin_width : Origin → ℕ
-origin_width Unknown = 2
-origin_width (From x y) = 4
+abbrev pub origin_width : Option (ℕ × ℕ) → ℕ
+origin_width None = 2
+origin_width (Some (x, y)) = 4
 
 -- 4 for the place.
 unfoldable pub move_width : Move → ℕ

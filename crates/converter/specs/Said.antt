@@ -1,13 +1,11 @@
 -- What each mode says of a record. How it is said is the same in all modes.                            (01, Writing, and what is lost; 02, xi)
 -- Assumes nothing: these are definitions.
-use Rattle.std.specs.Prelude.{ℕ, ◌-◌, List, [], ◌∷◌, map, length, eqb}
+use Rattle.std.specs.Prelude.{ℕ, ◌-◌, List, [], ◌∷◌, map, length, eqb, Option, Some, None}
 use Rattle.lists.specs.Pick.{pick}
 use Rattle.jkf.specs.declared.Clock.{Clock}
 use Rattle.jkf.specs.declared.Clock.TheVariants.{Hms, Ms}
 use Rattle.jkf.specs.declared.Time.{Time}
 use Rattle.jkf.specs.declared.Time.TheVariants.{Untimed, Timed}
-use Rattle.jkf.specs.declared.Origin.{Origin}
-use Rattle.jkf.specs.declared.Origin.TheVariants.{Unknown, From}
 use Rattle.jkf.specs.declared.Move.{Move}
 use Rattle.jkf.specs.declared.Entry.{Entry}
 use Rattle.jkf.specs.declared.Entry.TheVariants.{Slot, Moved, End}
@@ -48,12 +46,12 @@ said_total Whole c = c
 said_total Shared c = c
 
 -- An origin of (0,0), which is how 打 is read, as one that is not known, which is written 打.
-unfoldable pub as_drop : Origin → Origin
-as_drop Unknown = Unknown
-as_drop (From x y) = pick (eqb x 0) (pick (eqb y 0) Unknown (From x y)) (From x y)
+unfoldable pub as_drop : Option (ℕ × ℕ) → Option (ℕ × ℕ)
+as_drop None = None
+as_drop (Some (x, y)) = pick (eqb x 0) (pick (eqb y 0) None (Some (x, y))) (Some (x, y))
 
 -- The shared text has it so, since other programs take no (00).
-unfoldable pub said_origin : Mode → Origin → Origin
+unfoldable pub said_origin : Mode → Option (ℕ × ℕ) → Option (ℕ × ℕ)
 said_origin Plain o = o
 said_origin Whole o = o
 said_origin Shared o = as_drop o

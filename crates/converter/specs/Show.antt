@@ -1,6 +1,6 @@
 -- The text of what is said of a record, or why there is none.                                          (01, Writing, and what is lost; 02, xi)
 -- Assumes nothing: these are definitions.
-use Rattle.std.specs.Prelude.{ℕ, zero, suc, ◌+◌, ◌/◌, ◌%◌, List, [], ◌∷◌, ◌++◌, drop, get_or, eqb, ltb}
+use Rattle.std.specs.Prelude.{ℕ, zero, suc, ◌+◌, ◌/◌, ◌%◌, List, [], ◌∷◌, ◌++◌, drop, get_or, eqb, ltb, Option, Some, None}
 use Rattle.lists.specs.Pick.{pick}
 use Rattle.lent.specs.Numbers.{decimal}
 use Rattle.jkf.specs.declared.Answer.{Answer}
@@ -14,8 +14,6 @@ use Rattle.converter.specs.Entries.{remarks_text, entries_text, can_write}
 use Rattle.converter.specs.Said.{left_out, said_record}
 use Rattle.converter.specs.declared.Mode.{Mode}
 use Rattle.converter.specs.declared.Mode.TheVariants.{Plain, Whole, Shared}
-use Rattle.converter.specs.declared.Obstacle.{Obstacle}
-use Rattle.converter.specs.declared.Obstacle.TheVariants.{At, Clear}
 
 -- ---- the lines
 
@@ -58,38 +56,38 @@ record_text r = (headers_text r.headers ++ position_text r.position) ++ lines_te
 
 -- ---- what stands in the way
 
-abbrev pub on_obstacle : {A : Type 0} → Obstacle → (ℕ → ℕ → A) → A → A
-on_obstacle (At a b) f d = f a b
-on_obstacle Clear f d = d
+abbrev pub on_obstacle : {A : Type 0} → Option (ℕ × ℕ) → (ℕ → ℕ → A) → A → A
+on_obstacle (Some (a, b)) f d = f a b
+on_obstacle None f d = d
 
 -- The first of n hand counts from the i-th on that is over 99: its side, and its kind from 0.          (01, Numbers of refusal: 8)
-unfoldable pub hand_obstacle : List ℕ → ℕ → ℕ → Obstacle
-hand_obstacle hands i zero = Clear
+unfoldable pub hand_obstacle : List ℕ → ℕ → ℕ → Option (ℕ × ℕ)
+hand_obstacle hands i zero = None
 hand_obstacle hands i (suc n) =
-    let r = hand_obstacle hands (i + 1) n in pick (ltb 99 (get_or hands i 0)) (At (i / 7) (i % 7)) r
+    let r = hand_obstacle hands (i + 1) n in pick (ltb 99 (get_or hands i 0)) (Some (i / 7, i % 7)) r
 
 -- Counts are looked at where there is a diagram.
-unfoldable pub hands_obstacle : Position → Obstacle
-hands_obstacle p = pick (eqb p.board 0) Clear (hand_obstacle p.hands 0 14)
+unfoldable pub hands_obstacle : Position → Option (ℕ × ℕ)
+hands_obstacle p = pick (eqb p.board 0) None (hand_obstacle p.hands 0 14)
 
 -- The first entry of a line, counted from i on, that cannot be written.                                (01, Numbers of refusal: 9)
-unfoldable pub entry_obstacle : ℕ → ℕ → List Noted → Obstacle
-entry_obstacle line i [] = Clear
-entry_obstacle line i (e ∷ es) = let r = entry_obstacle line (i + 1) es in pick (can_write e.what) r (At line i)
+unfoldable pub entry_obstacle : ℕ → ℕ → List Noted → Option (ℕ × ℕ)
+entry_obstacle line i [] = None
+entry_obstacle line i (e ∷ es) = let r = entry_obstacle line (i + 1) es in pick (can_write e.what) r (Some (line, i))
 
 -- The first in some lines, counted from k on.
-unfoldable pub line_obstacle : ℕ → List Line → Obstacle
-line_obstacle k [] = Clear
-line_obstacle k (l ∷ ls) = let r = line_obstacle (k + 1) ls in on_obstacle (entry_obstacle k 0 l.entries) (λ a b. At a b) r
+unfoldable pub line_obstacle : ℕ → List Line → Option (ℕ × ℕ)
+line_obstacle k [] = None
+line_obstacle k (l ∷ ls) = let r = line_obstacle (k + 1) ls in on_obstacle (entry_obstacle k 0 l.entries) (λ a b. Some (a, b)) r
 
 -- The first of some variations, counted from k on, that starts at 0.                                   (02, xi: refusal 20)
-unfoldable pub zero_start : ℕ → List Line → Obstacle
-zero_start k [] = Clear
-zero_start k (l ∷ ls) = let r = zero_start (k + 1) ls in pick (eqb l.start 0) (At k 0) r
+unfoldable pub zero_start : ℕ → List Line → Option (ℕ × ℕ)
+zero_start k [] = None
+zero_start k (l ∷ ls) = let r = zero_start (k + 1) ls in pick (eqb l.start 0) (Some (k, 0)) r
 
 -- The plain text leaves such lines out; the others lose none.
-unfoldable pub start_obstacle : Mode → List Line → Obstacle
-start_obstacle Plain ls = Clear
+unfoldable pub start_obstacle : Mode → List Line → Option (ℕ × ℕ)
+start_obstacle Plain ls = None
 start_obstacle Whole ls = zero_start 1 (drop 1 ls)
 start_obstacle Shared ls = zero_start 1 (drop 1 ls)
 

@@ -57,11 +57,5 @@ pub(crate) fn leading_number(t: &[u8]) -> u8
     ensures { (result ≡ leading_number t.now) × (result ≤ 12) }
 {
     let n = likely_number(t);
-    if n == 0 {
-        return 0;
-    }
-    if is_key(t, n) {
-        return n;
-    }
-    0
+    if n != 0 && is_key(t, n) { n } else { 0 }
 }

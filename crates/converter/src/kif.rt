@@ -7,16 +7,17 @@ ghost use Rattle.jkf.specs.Entries.{special_of};
 ghost use Rattle.block.specs.Encode.{concat};
 ghost use Rattle.jkf.specs.Trees.{not_before};
 ghost use Rattle.block.specs.Decode.{run, moves_in, lines_in, move_place, parent_of, comment_of, line_in, decode};
-ghost use Rattle.block.specs.inner.Sounds.{Sound};
 ghost use Rattle.converter.specs.Entries.{target_text, promote_text, origin_text, move_text, kind_width, promote_width, origin_width, move_width, special_width, figure_text, clock_text, time_padding, time_text, play_text, width_of, entry_line, star_text, remark_text, remarks_text, noted_text, entries_text};
 ghost use Rattle.converter.specs.Said.{said_entry, said_lines};
 ghost use Rattle.converter.specs.Show.{main_text, variation_head, variation_text, lines_text};
-ghost use Rattle.converter.specs.inner.Lines.{noted_said, line_said, ShownLines};
+ghost use Rattle.converter.specs.inner.Lines.{noted_said, line_said};
 
 use crate::Mode;
+use crate::checks::ShownBlock;
 use crate::said::said_entry;
-use crate::usuals::{is_usual, put_usual};
-use jkf::{Clock, Entry, Move, Origin, Target, Time};
+use crate::usuals::{UsualEntry, put_usual};
+use block::SoundBlock;
+use jkf::{Clock, Entry, Move, Target, Time};
 
 // So many bytes and so many lines were written.
 #[derive(Clone, Copy)]
@@ -63,13 +64,13 @@ fn put_from(out: &mut [u8], x: u8, y: u8) -> usize
     lent::put_at(out, e, b")")
 }
 
-fn put_origin(out: &mut [u8], from: Origin) -> usize
+fn put_origin(out: &mut [u8], from: Option<(u8, u8)>) -> usize
     requires { length (origin_text from) ≤ length out.old }
     ensures { Wrote (origin_text from) out.old out.new result }
 {
     match from {
-        Origin::Unknown => lent::put_bytes(out, b"\xe6\x89\x93"),
-        Origin::From(x, y) => put_from(out, x, y),
+        None => lent::put_bytes(out, b"\xe6\x89\x93"),
+        Some((x, y)) => put_from(out, x, y),
     }
 }
 
@@ -77,12 +78,10 @@ fn put_move(out: &mut [u8], m: Move) -> usize
     requires { length (move_text m) ≤ length out.old }
     ensures { Wrote (move_text m) out.old out.new result }
 {
-    let to = m.to;
-    let from = m.from;
-    let a = put_target(out, to);
+    let a = put_target(out, m.to);
     let b = a + spell::put_kind(&mut out[a..], m.piece);
     let c = b + put_promote(&mut out[b..], m.promote);
-    c + put_origin(&mut out[c..], from)
+    c + put_origin(&mut out[c..], m.from)
 }
 
 // The move or ending of an entry.
@@ -93,17 +92,17 @@ fn put_play(out: &mut [u8], e: Entry) -> usize
     match e {
         Entry::Slot => 0,
         Entry::Moved(m) => put_move(out, m),
-        Entry::End(s, _) => spell::put_special(out, jkf::number_of(s)),
+        Entry::End(s, _) => spell::put_special(out, u8::from(s)),
     }
 }
 
 fn kind_width(kind: u8) -> usize
     ensures { result ≡ kind_width kind }
 {
-    if kind < 10 {
-        return 2;
+    match kind {
+        10..=12 => 4,
+        _ => 2,
     }
-    if kind <= 12 { 4 } else { 2 }
 }
 
 fn promote_width(promote: u8) -> usize
@@ -112,12 +111,12 @@ fn promote_width(promote: u8) -> usize
     if promote == 2 { 2 } else { 0 }
 }
 
-fn origin_width(from: Origin) -> usize
+fn origin_width(from: Option<(u8, u8)>) -> usize
     ensures { result ≡ origin_width from }
 {
     match from {
-        Origin::Unknown => 2,
-        Origin::From(_, _) => 4,
+        None => 2,
+        Some((_, _)) => 4,
     }
 }
 
@@ -125,8 +124,7 @@ fn origin_width(from: Origin) -> usize
 pub(crate) fn move_width(m: Move) -> usize
     ensures { (result ≡ move_width m) × (result ≤ 14) }
 {
-    let from = m.from;
-    4 + kind_width(m.piece) + promote_width(m.promote) + origin_width(from)
+    4 + kind_width(m.piece) + promote_width(m.promote) + origin_width(m.from)
 }
 
 // How wide a special is, by its number: 中断, and what is written so, counts nothing.
@@ -151,7 +149,7 @@ pub(crate) fn width_of(e: Entry) -> usize
     match e {
         Entry::Slot => 0,
         Entry::Moved(m) => move_width(m),
-        Entry::End(s, _) => special_width(jkf::number_of(s)),
+        Entry::End(s, _) => special_width(u8::from(s)),
     }
 }
 
@@ -214,10 +212,7 @@ fn put_padding(out: &mut [u8], width: usize) -> usize
     requires { length (time_padding width ++ (40 ∷ [])) ≤ length out.old }
     ensures { Wrote (time_padding width ++ (40 ∷ [])) out.old out.new result }
 {
-    if 13 <= width {
-        return lent::put_bytes(out, b"(");
-    }
-    let n = lent::put_run(out, b' ', 13 - width);
+    let n = lent::put_run(out, b' ', 13usize.saturating_sub(width));
     lent::put_at(out, n, b"(")
 }
 
@@ -246,10 +241,10 @@ fn put_row(out: &mut [u8], ply: usize, row: &[u8], mode: Mode) -> usize
     requires { length (entry_line ply (said_entry mode (entry_in row.now))) ≤ length out.old }
     ensures { Wrote (entry_line ply (said_entry mode (entry_in row.now))) out.old out.new result }
 {
-    if ply < 1000 {
-        if is_usual(row, mode) {
-            return put_usual(out, ply, row);
-        }
+    if ply < 1000
+        && let Some(e) = UsualEntry::of(row, mode)
+    {
+        return put_usual(out, ply, e);
     }
     put_entry_line(out, ply, said_entry(mode, block::entry_in(row)))
 }
@@ -281,18 +276,16 @@ fn put_remarks(out: &mut [u8], b: &[u8], first: usize, count: usize) -> usize
     ensures { Wrote (remarks_text (run (comment_of b.now) first count)) out.old out.new result }
 {
     let mut at = 0;
-    let mut i = 0;
-    while i < count {
+    for i in 0..count {
         at += put_remark(&mut out[at..], block::comment_of(b, (first + i) as u16));
-        i += 1;
     }
     at
 }
 
 // Entry k with its comments; the rows of the entries are given.
-fn put_noted(out: &mut [u8], b: &[u8], rows: &[u8], mode: Mode, ply: usize, k: usize) -> usize
-    requires { Sound b.now × (k < moves_in b.now) × (length (noted_text ply (noted_said mode b.now k)) ≤ length out.old) × (rows.now ≡ drop (move_place b.now 0) b.now) }
-    ensures { Wrote (noted_text ply (noted_said mode b.now k)) out.old out.new result }
+fn put_noted(out: &mut [u8], b: SoundBlock, rows: &[u8], mode: Mode, ply: usize, k: usize) -> usize
+    requires { (k < moves_in b.bytes.now) × (length (noted_text ply (noted_said mode b.bytes.now k)) ≤ length out.old) × (rows.now ≡ drop (move_place b.bytes.now 0) b.bytes.now) }
+    ensures { Wrote (noted_text ply (noted_said mode b.entry.bytes.now k)) out.old out.new result }
 {
     let row = lent::rest(rows, 20 * k);
     let n = put_row(out, ply, row, mode);
@@ -300,27 +293,25 @@ fn put_noted(out: &mut [u8], b: &[u8], rows: &[u8], mode: Mode, ply: usize, k: u
     if count == 0 {
         return n;
     }
-    n + put_remarks(&mut out[n..], b, lent::get16(row, 16), count)
+    n + put_remarks(&mut out[n..], b.bytes, lent::get16(row, 16), count)
 }
 
 // So many entries from one on, numbered from a ply on.
 fn put_entries(
     out: &mut [u8],
-    b: &[u8],
+    b: SoundBlock,
     mode: Mode,
     ply: usize,
     first: usize,
     count: usize,
 ) -> usize
-    requires { Sound b.now × (first + count ≤ moves_in b.now) × (ply < 65536) × (length (entries_text ply (run (noted_said mode b.now) first count)) ≤ length out.old) }
-    ensures { Wrote (entries_text ply (run (noted_said mode b.now) first count)) out.old out.new result }
+    requires { (first + count ≤ moves_in b.bytes.now) × (ply < 65536) × (length (entries_text ply (run (noted_said mode b.bytes.now) first count)) ≤ length out.old) }
+    ensures { Wrote (entries_text ply (run (noted_said mode b.entry.bytes.now) first count)) out.old out.new result }
 {
-    let rows = block::row_of(b, 0);
+    let rows = block::row_of(b.bytes, 0);
     let mut at = 0;
-    let mut i = 0;
-    while i < count {
+    for i in 0..count {
         at += put_noted(&mut out[at..], b, rows, mode, ply + i, first + i);
-        i += 1;
     }
     at
 }
@@ -336,29 +327,29 @@ fn put_variation_head(out: &mut [u8], start: usize) -> usize
 }
 
 // Line k, which is a variation.
-fn put_variation(out: &mut [u8], b: &[u8], mode: Mode, k: usize) -> usize
-    requires { Sound b.now × (k < lines_in b.now) × (length (variation_text (line_said mode b.now k)) ≤ length out.old) }
-    ensures { Wrote (variation_text (line_said mode b.now k)) out.old out.new result }
+fn put_variation(out: &mut [u8], b: SoundBlock, mode: Mode, k: usize) -> usize
+    requires { (k < lines_in b.bytes.now) × (length (variation_text (line_said mode b.bytes.now k)) ≤ length out.old) }
+    ensures { Wrote (variation_text (line_said mode b.entry.bytes.now k)) out.old out.new result }
 {
     let i = k as u16;
-    let start = block::start_of(b, i);
+    let start = block::start_of(b.bytes, i);
     let n = put_variation_head(out, start);
     n + put_entries(
         &mut out[n..],
         b,
         mode,
         start,
-        block::first_entry(b, i),
-        block::entry_count(b, i),
+        block::first_entry(b.bytes, i),
+        block::entry_count(b.bytes, i),
     )
 }
 
 // Line k and all that hangs from it, of which n lines are unwritten.   (the Rust's write_move_lines)
 #[cycle(put_line_put_under)]
-fn put_line(out: &mut [u8], b: &[u8], mode: Mode, k: usize, n: usize) -> Written
-    requires { Sound b.now × (0 < k) × (0 < n) × (k + n ≤ lines_in b.now) × (length (concat variation_text (run (line_said mode b.now) k n)) ≤ length out.old) }
-    ensures lines_value { result.lines ≡ 1 + not_before k (run (line_in b.now) (k + 1) (n - 1)) }
-    ensures wrote { Wrote (concat variation_text (run (line_said mode b.now) k result.lines)) out.old out.new result.bytes }
+fn put_line(out: &mut [u8], b: SoundBlock, mode: Mode, k: usize, n: usize) -> Written
+    requires { (0 < k) × (0 < n) × (k + n ≤ lines_in b.bytes.now) × (length (concat variation_text (run (line_said mode b.bytes.now) k n)) ≤ length out.old) }
+    ensures lines_value { result.lines ≡ 1 + not_before k (run (line_in b.entry.bytes.now) (k + 1) (n - 1)) }
+    ensures wrote { Wrote (concat variation_text (run (line_said mode b.entry.bytes.now) k result.lines)) out.old out.new result.bytes }
 {
     let m = put_variation(out, b, mode, k);
     let r = put_under(&mut out[m..], b, mode, k, k + 1, n - 1);
@@ -370,15 +361,12 @@ fn put_line(out: &mut [u8], b: &[u8], mode: Mode, k: usize, n: usize) -> Written
 
 // The lines on line p from line k on, each with all that hangs from it, of which n lines are unwritten.
 #[cycle(put_line_put_under)]
-fn put_under(out: &mut [u8], b: &[u8], mode: Mode, p: usize, k: usize, n: usize) -> Written
-    requires { Sound b.now × (0 < k) × (k + n ≤ lines_in b.now) × (0 < n → parent_of b.now k ≤ p) × (length (concat variation_text (run (line_said mode b.now) k n)) ≤ length out.old) }
-    ensures lines_value { result.lines ≡ not_before p (run (line_in b.now) k n) }
-    ensures wrote { Wrote (concat variation_text (run (line_said mode b.now) k result.lines)) out.old out.new result.bytes }
+fn put_under(out: &mut [u8], b: SoundBlock, mode: Mode, p: usize, k: usize, n: usize) -> Written
+    requires { (0 < k) × (k + n ≤ lines_in b.bytes.now) × (0 < n → parent_of b.bytes.now k ≤ p) × (length (concat variation_text (run (line_said mode b.bytes.now) k n)) ≤ length out.old) }
+    ensures lines_value { result.lines ≡ not_before p (run (line_in b.entry.bytes.now) k n) }
+    ensures wrote { Wrote (concat variation_text (run (line_said mode b.entry.bytes.now) k result.lines)) out.old out.new result.bytes }
 {
-    if n == 0 {
-        return Written { bytes: 0, lines: 0 };
-    }
-    if block::parent_of(b, k as u16) != p {
+    if n == 0 || block::parent_of(b.bytes, k as u16) != p {
         return Written { bytes: 0, lines: 0 };
     }
     let f = put_line(out, b, mode, k, n);
@@ -391,28 +379,35 @@ fn put_under(out: &mut [u8], b: &[u8], mode: Mode, p: usize, k: usize, n: usize)
 }
 
 // Line 0: the comments of its slot, and its entries from 1 on.
-fn put_main(out: &mut [u8], b: &[u8], mode: Mode) -> usize
-    requires { Sound b.now × (length (main_text (line_said mode b.now 0)) ≤ length out.old) }
-    ensures { Wrote (main_text (line_said mode b.now 0)) out.old out.new result }
+fn put_main(out: &mut [u8], b: SoundBlock, mode: Mode) -> usize
+    requires { length (main_text (line_said mode b.bytes.now 0)) ≤ length out.old }
+    ensures { Wrote (main_text (line_said mode b.entry.bytes.now 0)) out.old out.new result }
 {
     let n = put_remarks(
         out,
-        b,
-        block::first_comment(b, 0),
-        block::comment_count(b, 0),
+        b.bytes,
+        block::first_comment(b.bytes, 0),
+        block::comment_count(b.bytes, 0),
     );
-    n + put_entries(&mut out[n..], b, mode, 1, 1, block::entry_count(b, 0) - 1)
+    n + put_entries(
+        &mut out[n..],
+        b,
+        mode,
+        1,
+        1,
+        block::entry_count(b.bytes, 0) - 1,
+    )
 }
 
 // The lines that are shown.   (the Rust's write_moves)
-pub(crate) fn put_moves(out: &mut [u8], b: &[u8], mode: Mode, lines: usize) -> usize
-    requires { ShownLines b.now lines × (length (lines_text (said_lines mode (decode b.now).lines)) ≤ length out.old) }
-    ensures { Wrote (lines_text (said_lines mode (decode b.now).lines)) out.old out.new result }
+pub(crate) fn put_moves(out: &mut [u8], s: ShownBlock, mode: Mode) -> usize
+    requires { length (lines_text (said_lines mode (decode s.block.bytes.now).lines)) ≤ length out.old }
+    ensures { Wrote (lines_text (said_lines mode (decode s.entry.block.bytes.now).lines)) out.old out.new result }
 {
     let n = lent::put_bytes(
         out,
         b"\xe6\x89\x8b\xe6\x95\xb0----\xe6\x8c\x87\xe6\x89\x8b---------\xe6\xb6\x88\xe8\xb2\xbb\xe6\x99\x82\xe9\x96\x93--\n",
     );
-    let m = n + put_main(&mut out[n..], b, mode);
-    m + put_under(&mut out[m..], b, mode, 0, 1, lines - 1).bytes
+    let m = n + put_main(&mut out[n..], s.block, mode);
+    m + put_under(&mut out[m..], s.block, mode, 0, 1, s.lines - 1).bytes
 }

@@ -7,30 +7,29 @@ ghost use Rattle.block.specs.EntryBytes.{entry_in};
 ghost use Rattle.jkf.specs.Entries.{special_of};
 ghost use Rattle.block.specs.Encode.{concat};
 ghost use Rattle.block.specs.Decode.{run, moves_in, lines_in, move_place, entry_count, comment_of, decode};
-ghost use Rattle.block.specs.inner.Sounds.{Sound};
 ghost use Rattle.converter.specs.Headers.{headers_text};
 ghost use Rattle.converter.specs.inner.Places.{stored_headers};
 ghost use Rattle.converter.specs.Diagrams.{position_text};
 ghost use Rattle.converter.specs.Entries.{target_text, promote_text, origin_text, move_text, special_text, clock_text, time_text, play_text, entry_line, remark_text, remarks_text, noted_text, entries_text};
 ghost use Rattle.converter.specs.Said.{said_entry, said_record};
 ghost use Rattle.converter.specs.Show.{main_text, variation_text, record_text};
-ghost use Rattle.converter.specs.inner.Lines.{noted_said, line_said, ShownLines};
+ghost use Rattle.converter.specs.inner.Lines.{noted_said, line_said};
 
 use crate::Mode;
-use crate::checks::within;
+use crate::checks::{ShownBlock, within};
 use crate::kif::width_of;
 use crate::said::said_entry;
 use crate::starts::put_position;
-use crate::usuals::{is_usual, usual_length};
-use jkf::{Clock, Entry, Move, Origin, Position, Target, Time};
+use crate::usuals::{UsualEntry, usual_length};
+use block::SoundBlock;
+use jkf::{Clock, Entry, Move, Position, Target, Time};
 
 // A number to a width.
 fn padded_length(v: u64, width: usize) -> usize
     requires { (v < 131072) × (width ≤ 4) }
     ensures { ((fill : ℕ) → result ≡ length (padded width fill v)) × (result ≤ 6) }
 {
-    let n = lent::decimal_len(v);
-    if n < width { width } else { n }
+    lent::decimal_len(v).max(width)
 }
 
 // A file or a rank.
@@ -52,42 +51,36 @@ fn target_length(to: Target) -> usize
 fn kind_length(kind: u8) -> usize
     ensures { (result ≡ length (spelled move_kinds kind)) × (result ≤ 6) }
 {
-    if kind < 1 {
-        return 0;
+    match kind {
+        1..=9 | 13..=14 => 3,
+        10..=12 => 6,
+        _ => 0,
     }
-    if kind < 10 {
-        return 3;
-    }
-    if kind < 13 {
-        return 6;
-    }
-    if kind < 15 { 3 } else { 0 }
 }
 
 fn promote_length(promote: u8) -> usize
     ensures { (result ≡ length (promote_text promote)) × (result ≤ 6) }
 {
-    if promote == 2 {
-        return 3;
+    match promote {
+        1 => 6,
+        2 => 3,
+        _ => 0,
     }
-    if promote == 1 { 6 } else { 0 }
 }
 
-fn origin_length(from: Origin) -> usize
+fn origin_length(from: Option<(u8, u8)>) -> usize
     ensures { (result ≡ length (origin_text from)) × (result ≤ 8) }
 {
     match from {
-        Origin::Unknown => 3,
-        Origin::From(x, y) => 2 + lent::decimal_len(x as u64) + lent::decimal_len(y as u64),
+        None => 3,
+        Some((x, y)) => 2 + lent::decimal_len(x as u64) + lent::decimal_len(y as u64),
     }
 }
 
 fn move_length(m: Move) -> usize
     ensures { (result ≡ length (move_text m)) × (result ≤ 26) }
 {
-    let to = m.to;
-    let from = m.from;
-    target_length(to) + kind_length(m.piece) + promote_length(m.promote) + origin_length(from)
+    target_length(m.to) + kind_length(m.piece) + promote_length(m.promote) + origin_length(m.from)
 }
 
 // A special by its number.
@@ -110,7 +103,7 @@ fn play_length(e: Entry) -> usize
     match e {
         Entry::Slot => 0,
         Entry::Moved(m) => move_length(m),
-        Entry::End(s, _) => special_length(jkf::number_of(s)),
+        Entry::End(s, _) => special_length(u8::from(s)),
     }
 }
 
@@ -138,8 +131,7 @@ fn time_length(width: usize, time: Time) -> usize
     match time {
         Time::Untimed => 0,
         Time::Timed(now, total) => {
-            let n = 1 + clock_length(now) + clock_length(total);
-            if width < 13 { 13 - width + n } else { n }
+            13usize.saturating_sub(width) + 1 + clock_length(now) + clock_length(total)
         }
     }
 }
@@ -156,10 +148,10 @@ fn row_length(ply: usize, row: &[u8], mode: Mode) -> usize
     requires { ply < 131072 }
     ensures { (result ≡ length (entry_line ply (said_entry mode (entry_in row.now)))) × (result ≤ 72) }
 {
-    if ply < 1000 {
-        if is_usual(row, mode) {
-            return usual_length(row);
-        }
+    if ply < 1000
+        && let Some(e) = UsualEntry::of(row, mode)
+    {
+        return usual_length(e);
     }
     entry_length(ply, said_entry(mode, block::entry_in(row)))
 }
@@ -179,18 +171,16 @@ fn remarks_length(b: &[u8], first: usize, count: usize) -> usize
     ensures { (result ≡ length (remarks_text (run (comment_of b.now) first count))) × (result ≤ 65537 * count) }
 {
     let mut n = 0;
-    let mut i = 0;
-    while i < count {
+    for i in 0..count {
         n += remark_length(block::comment_of(b, (first + i) as u16));
-        i += 1;
     }
     n
 }
 
 // Entry k with its comments; the rows of the entries are given.
-fn noted_length(b: &[u8], rows: &[u8], mode: Mode, ply: usize, k: usize) -> usize
-    requires { Sound b.now × (k < moves_in b.now) × (ply < 131072) × (rows.now ≡ drop (move_place b.now 0) b.now) }
-    ensures { (result ≡ length (noted_text ply (noted_said mode b.now k))) × (result ≤ 4295032904) }
+fn noted_length(b: SoundBlock, rows: &[u8], mode: Mode, ply: usize, k: usize) -> usize
+    requires { (k < moves_in b.bytes.now) × (ply < 131072) × (rows.now ≡ drop (move_place b.bytes.now 0) b.bytes.now) }
+    ensures { (result ≡ length (noted_text ply (noted_said mode b.entry.bytes.now k))) × (result ≤ 4295032904) }
 {
     let row = lent::rest(rows, 20 * k);
     let n = row_length(ply, row, mode);
@@ -198,62 +188,59 @@ fn noted_length(b: &[u8], rows: &[u8], mode: Mode, ply: usize, k: usize) -> usiz
     if count == 0 {
         return n;
     }
-    n + remarks_length(b, lent::get16(row, 16), count)
+    n + remarks_length(b.bytes, lent::get16(row, 16), count)
 }
 
 // So many entries from one on, numbered from a ply on.
-fn entries_length(b: &[u8], mode: Mode, ply: usize, first: usize, count: usize) -> usize
-    requires { Sound b.now × (first + count ≤ moves_in b.now) × (ply < 65536) }
-    ensures { (result ≡ length (entries_text ply (run (noted_said mode b.now) first count))) × (result ≤ 4295032904 * count) }
+fn entries_length(b: SoundBlock, mode: Mode, ply: usize, first: usize, count: usize) -> usize
+    requires { (first + count ≤ moves_in b.bytes.now) × (ply < 65536) }
+    ensures { (result ≡ length (entries_text ply (run (noted_said mode b.entry.bytes.now) first count))) × (result ≤ 4295032904 * count) }
 {
-    let rows = block::row_of(b, 0);
+    let rows = block::row_of(b.bytes, 0);
     let mut n = 0;
-    let mut i = 0;
-    while i < count {
+    for i in 0..count {
         n += noted_length(b, rows, mode, ply + i, first + i);
-        i += 1;
     }
     n
 }
 
 // Line k, which is a variation.
-fn variation_length(b: &[u8], mode: Mode, k: usize) -> usize
-    requires { Sound b.now × (k < lines_in b.now) }
-    ensures { (result ≡ length (variation_text (line_said mode b.now k))) × (result ≤ 19 + 4295032904 * entry_count b.now k) }
+fn variation_length(b: SoundBlock, mode: Mode, k: usize) -> usize
+    requires { k < lines_in b.bytes.now }
+    ensures { (result ≡ length (variation_text (line_said mode b.entry.bytes.now k))) × (result ≤ 19 + 4295032904 * entry_count b.entry.bytes.now k) }
 {
     let i = k as u16;
-    let start = block::start_of(b, i);
+    let start = block::start_of(b.bytes, i);
     14 + lent::decimal_len(start as u64)
         + entries_length(
             b,
             mode,
             start,
-            block::first_entry(b, i),
-            block::entry_count(b, i),
+            block::first_entry(b.bytes, i),
+            block::entry_count(b.bytes, i),
         )
 }
 
 // The variations that are shown.
-fn variations_length(b: &[u8], mode: Mode, lines: usize) -> usize
-    requires { Sound b.now × (1 ≤ lines) × (lines ≤ lines_in b.now) }
-    ensures { (result ≡ length (concat variation_text (run (line_said mode b.now) 1 (lines - 1)))) × (result ≤ 300000000000000) }
+fn variations_length(s: ShownBlock, mode: Mode) -> usize
+    ensures { (result ≡ length (concat variation_text (run (line_said mode s.entry.block.bytes.now) 1 (s.entry.lines - 1)))) × (result ≤ 300000000000000) }
 {
     let mut n = 0;
-    let mut k = 1;
-    while k < lines {
-        n += variation_length(b, mode, k);
-        k += 1;
+    for k in 1..s.lines {
+        n += variation_length(s.block, mode, k);
     }
     n
 }
 
 // Line 0.
-fn main_length(b: &[u8], mode: Mode) -> usize
-    requires { Sound b.now }
-    ensures { (result ≡ length (main_text (line_said mode b.now 0))) × (result ≤ 300000000000000) }
+fn main_length(b: SoundBlock, mode: Mode) -> usize
+    ensures { (result ≡ length (main_text (line_said mode b.entry.bytes.now 0))) × (result ≤ 300000000000000) }
 {
-    remarks_length(b, block::first_comment(b, 0), block::comment_count(b, 0))
-        + entries_length(b, mode, 1, 1, block::entry_count(b, 0) - 1)
+    remarks_length(
+        b.bytes,
+        block::first_comment(b.bytes, 0),
+        block::comment_count(b.bytes, 0),
+    ) + entries_length(b, mode, 1, 1, block::entry_count(b.bytes, 0) - 1)
 }
 
 // The position, written to be counted.
@@ -265,18 +252,17 @@ pub(crate) fn position_length(p: Position) -> usize
 }
 
 // The header: each entry has a ： and an LF.
-fn headers_length(b: &[u8]) -> usize
-    requires { Sound b.now }
-    ensures { (result ≡ length (headers_text (stored_headers b.now))) × (result ≤ 10000000000) }
+fn headers_length(b: SoundBlock) -> usize
+    ensures { (result ≡ length (headers_text (stored_headers b.entry.bytes.now))) × (result ≤ 10000000000) }
 {
-    block::header_bytes(b) + 4 * block::headers_in(b)
+    block::header_bytes(b.bytes) + 4 * block::headers_in(b.bytes)
 }
 
-// The whole text, of which so many lines are shown.
-pub(crate) fn text_length(b: &[u8], mode: Mode, lines: usize) -> usize
-    requires { ShownLines b.now lines }
-    ensures { result ≡ length (record_text (said_record mode (decode b.now))) }
+// The whole text.
+pub(crate) fn text_length(s: ShownBlock, mode: Mode) -> usize
+    ensures { result ≡ length (record_text (said_record mode (decode s.entry.block.bytes.now))) }
 {
-    let head = headers_length(b) + position_length(block::position_of(b));
-    head + 40 + main_length(b, mode) + variations_length(b, mode, lines)
+    let b = s.block;
+    let head = headers_length(b) + position_length(block::position_of(b.bytes));
+    head + 40 + main_length(b, mode) + variations_length(s, mode)
 }

@@ -4,7 +4,7 @@ ghost use Rattle.converter.specs.declared.Mode.TheVariants.{Plain};
 ghost use Rattle.converter.specs.Said.{hour, minute, second, as_drop, said_mark, said_origin, said_time, said_move, said_entry};
 
 use crate::Mode;
-use jkf::{Clock, Entry, Move, Origin, Time};
+use jkf::{Clock, Entry, Move, Time};
 
 // The plain text has no 不成.
 fn said_mark(mode: Mode, promote: u8) -> u8
@@ -12,8 +12,7 @@ fn said_mark(mode: Mode, promote: u8) -> u8
 {
     match mode {
         Mode::Plain => { if promote == 1 { 0 } else { promote } }
-        Mode::Whole => promote,
-        Mode::Shared => promote,
+        Mode::Whole | Mode::Shared => promote,
     }
 }
 
@@ -63,35 +62,31 @@ fn said_time(mode: Mode, time: Time) -> Time
 {
     match mode {
         Mode::Plain => plain_time(time),
-        Mode::Whole => time,
-        Mode::Shared => time,
+        Mode::Whole | Mode::Shared => time,
     }
 }
 
 // An origin of (0,0) as one that is not known.
-fn as_drop(from: Origin) -> Origin
+fn as_drop(from: Option<(u8, u8)>) -> Option<(u8, u8)>
     ensures { result ≡ as_drop from }
 {
     match from {
-        Origin::Unknown => Origin::Unknown,
-        Origin::From(x, y) => {
-            if x == 0 {
-                if y == 0 {
-                    return Origin::Unknown;
-                }
+        None => None,
+        Some((x, y)) => {
+            if x == 0 && y == 0 {
+                return None;
             }
-            Origin::From(x, y)
+            Some((x, y))
         }
     }
 }
 
 // The shared text has 打 for an origin of (0,0).
-fn said_origin(mode: Mode, from: Origin) -> Origin
+fn said_origin(mode: Mode, from: Option<(u8, u8)>) -> Option<(u8, u8)>
     ensures { result ≡ said_origin mode from }
 {
     match mode {
-        Mode::Plain => from,
-        Mode::Whole => from,
+        Mode::Plain | Mode::Whole => from,
         Mode::Shared => as_drop(from),
     }
 }
@@ -99,16 +94,11 @@ fn said_origin(mode: Mode, from: Origin) -> Origin
 fn said_move(mode: Mode, m: Move) -> Move
     ensures { result ≡ said_move mode m }
 {
-    let to = m.to;
-    let from = m.from;
-    let time = m.time;
     Move {
-        color: m.color,
-        piece: m.piece,
         promote: said_mark(mode, m.promote),
-        to,
-        from: said_origin(mode, from),
-        time: said_time(mode, time),
+        from: said_origin(mode, m.from),
+        time: said_time(mode, m.time),
+        ..m
     }
 }
 

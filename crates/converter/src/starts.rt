@@ -6,12 +6,12 @@ ghost use Rattle.spell.specs.Tables.{kinds, numerals};
 ghost use Rattle.spell.specs.Spell.{spelled};
 ghost use Rattle.spell.specs.Count.{count_text};
 ghost use Rattle.block.specs.Encode.{concat};
-ghost use Rattle.block.specs.inner.Sounds.{Sound};
 ghost use Rattle.converter.specs.Headers.{header_line, lines_of, headers_text, range};
 ghost use Rattle.converter.specs.inner.Places.{stored_headers, Placed};
 ghost use Rattle.converter.specs.Diagrams.{preset_line, held_text, all_held, or_none, hand_line_text, cell_text, cells_text, board_row, board_rows, board_text, turn_text, diagram_text, position_text};
 
 use crate::keys::leading_number;
+use block::SoundBlock;
 use jkf::Position;
 
 // The line of a header entry.
@@ -26,19 +26,16 @@ fn put_header(out: &mut [u8], key: &[u8], value: &[u8]) -> usize
 }
 
 // Where the leading keys stand: one more than the header entry's number, 0 for none.
-fn leading_places(b: &[u8]) -> [u16; 12]
-    requires { Sound b.now }
-    ensures { Placed b.now result }
+fn leading_places(b: SoundBlock) -> [u16; 12]
+    ensures { Placed b.entry.bytes.now result }
 {
-    let count = block::headers_in(b);
-    let texts = block::texts_of(b);
+    let count = block::headers_in(b.bytes);
+    let texts = block::texts_of(b.bytes);
     let mut places = [0u16; 12];
-    let mut k = 0;
-    while k < count {
-        let n = lent::wide(leading_number(block::key_in(b, texts, k as u16)));
-        k += 1;
+    for k in 0..count {
+        let n = lent::wide(leading_number(block::key_in(b.bytes, texts, k as u16)));
         if 0 < n {
-            places[n - 1] = k as u16;
+            places[n - 1] = (k + 1) as u16;
         }
     }
     places
@@ -51,9 +48,7 @@ fn put_leading(out: &mut [u8], b: &[u8], places: &[u16]) -> usize
 {
     let texts = block::texts_of(b);
     let mut at = 0;
-    let mut n = 0;
-    while n < 12 {
-        let place = places[n];
+    for &place in places {
         if 0 < place {
             let i = place - 1;
             at += put_header(
@@ -62,7 +57,6 @@ fn put_leading(out: &mut [u8], b: &[u8], places: &[u16]) -> usize
                 block::value_in(b, texts, i),
             );
         }
-        n += 1;
     }
     at
 }
@@ -75,26 +69,24 @@ fn put_others(out: &mut [u8], b: &[u8]) -> usize
     let count = block::headers_in(b);
     let texts = block::texts_of(b);
     let mut at = 0;
-    let mut k = 0;
-    while k < count {
+    for k in 0..count {
         let i = k as u16;
         let key = block::key_in(b, texts, i);
         if leading_number(key) == 0 {
             at += put_header(&mut out[at..], key, block::value_in(b, texts, i));
         }
-        k += 1;
     }
     at
 }
 
 // The header.   (the Rust's write_header)
-pub(crate) fn put_headers(out: &mut [u8], b: &[u8]) -> usize
-    requires { Sound b.now × (length (headers_text (stored_headers b.now)) ≤ length out.old) }
-    ensures { Wrote (headers_text (stored_headers b.now)) out.old out.new result }
+pub(crate) fn put_headers(out: &mut [u8], b: SoundBlock) -> usize
+    requires { length (headers_text (stored_headers b.bytes.now)) ≤ length out.old }
+    ensures { Wrote (headers_text (stored_headers b.entry.bytes.now)) out.old out.new result }
 {
     let places = leading_places(b);
-    let n = put_leading(out, b, &places);
-    n + put_others(&mut out[n..], b)
+    let n = put_leading(out, b.bytes, &places);
+    n + put_others(&mut out[n..], b.bytes)
 }
 
 // A preset.   (the Rust's write_initial_preset)
@@ -137,12 +129,9 @@ fn put_all_held(out: &mut [u8], hands: &[u8], side: usize) -> usize
     ensures { Wrote (all_held hands.now side) out.old out.new result }
 {
     let mut at = 0;
-    let mut i = 0;
-    while i < 7 {
-        let kind = 7 - i;
+    for kind in (1..8).rev() {
         let count = lent::peek(hands, 7 * side + kind - 1);
         at += put_held(&mut out[at..], kind as u8, count);
-        i += 1;
     }
     at
 }
@@ -184,16 +173,11 @@ fn put_cell(out: &mut [u8], v: u8) -> usize
     requires { length (cell_text v) ≤ length out.old }
     ensures { Wrote (cell_text v) out.old out.new result }
 {
-    if v == 0 {
-        return lent::put_bytes(out, b" \xe3\x83\xbb");
+    match v {
+        0 => lent::put_bytes(out, b" \xe3\x83\xbb"),
+        1..=14 => put_piece(out, b' ', v),
+        _ => put_piece(out, b'v', v.saturating_sub(16)),
     }
-    if v <= 14 {
-        return put_piece(out, b' ', v);
-    }
-    if v < 16 {
-        return put_piece(out, b'v', 0);
-    }
-    put_piece(out, b'v', v - 16)
 }
 
 // The cells of a rank, file 9 first.
@@ -202,10 +186,8 @@ fn put_cells(out: &mut [u8], cells: &[u8], rank: usize) -> usize
     ensures { Wrote (cells_text cells.now rank) out.old out.new result }
 {
     let mut at = 0;
-    let mut i = 0;
-    while i < 9 {
-        at += put_cell(&mut out[at..], lent::peek(cells, 9 * (8 - i) + rank));
-        i += 1;
+    for file in (0..9).rev() {
+        at += put_cell(&mut out[at..], lent::peek(cells, 9 * file + rank));
     }
     at
 }
@@ -235,10 +217,8 @@ fn put_rows(out: &mut [u8], cells: &[u8]) -> usize
     ensures { Wrote (board_rows cells.now) out.old out.new result }
 {
     let mut at = 0;
-    let mut rank = 0;
-    while rank < 9 {
+    for rank in 0..9 {
         at += put_row(&mut out[at..], cells, rank);
-        rank += 1;
     }
     at
 }
@@ -273,11 +253,9 @@ fn put_upper(out: &mut [u8], p: Position) -> usize
     requires { length ((preset_line 16 ++ hand_line_text p.hands 1) ++ board_text p.cells) ≤ length out.old }
     ensures { Wrote ((preset_line 16 ++ hand_line_text p.hands 1) ++ board_text p.cells) out.old out.new result }
 {
-    let hands = p.hands;
-    let cells = p.cells;
     let n = put_preset_line(out, 16);
-    let m = n + put_hand_line(&mut out[n..], &hands, 1);
-    m + put_board(&mut out[m..], &cells)
+    let m = n + put_hand_line(&mut out[n..], &p.hands, 1);
+    m + put_board(&mut out[m..], &p.cells)
 }
 
 // The diagram.   (the Rust's write_initial_data)
@@ -285,9 +263,8 @@ fn put_diagram(out: &mut [u8], p: Position) -> usize
     requires { length (diagram_text p) ≤ length out.old }
     ensures { Wrote (diagram_text p) out.old out.new result }
 {
-    let hands = p.hands;
     let n = put_upper(out, p);
-    let m = n + put_hand_line(&mut out[n..], &hands, 0);
+    let m = n + put_hand_line(&mut out[n..], &p.hands, 0);
     m + put_turn(&mut out[m..], p.turn)
 }
 

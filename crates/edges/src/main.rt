@@ -5,43 +5,42 @@ ghost use Rattle.std.specs.Prelude.{◌≡◌, true, false, ◌≤◌, length, e
 ghost use Rattle.text.specs.Text.{on_place, on_number};
 ghost use Rattle.spell.specs.Spell.{on_spelled};
 
-use spell::Spelled;
-use text::{Cursor, Number, Place};
+use text::{Cursor, FigureError};
 
-fn is_absent(p: Place) -> bool
+fn is_absent(p: Option<Cursor>) -> bool
     ensures { result ≡ on_place p (λ c. false) true }
 {
     match p {
-        Place::Past(_) => false,
-        Place::Absent => true,
+        Some(_) => false,
+        None => true,
     }
 }
 
-fn is_past(p: Place, at: usize) -> bool
+fn is_past(p: Option<Cursor>, at: usize) -> bool
     ensures { result ≡ on_place p (λ c. eqb c.at at) false }
 {
     match p {
-        Place::Past(c) => c.at == at,
-        Place::Absent => false,
+        Some(c) => c.at == at,
+        None => false,
     }
 }
 
-fn is_value(n: Number) -> bool
+fn is_value(n: Result<(u64, Cursor), FigureError>) -> bool
     ensures { result ≡ on_number n (λ m c. true) false }
 {
     match n {
-        Number::Value(_, _) => true,
-        Number::NoDigit => false,
-        Number::TooLarge => false,
+        Ok((_, _)) => true,
+        Err(FigureError::Absent) => false,
+        Err(FigureError::TooLarge) => false,
     }
 }
 
-fn is_not(n: Spelled) -> bool
+fn is_not(n: Option<(u8, Cursor)>) -> bool
     ensures { result ≡ on_spelled n (λ m c. false) true }
 {
     match n {
-        Spelled::As(_, _) => false,
-        Spelled::Not => true,
+        Some((_, _)) => false,
+        None => true,
     }
 }
 

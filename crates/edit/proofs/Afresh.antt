@@ -5,6 +5,7 @@
 --     back-parent                  and a line has its parent again exactly if no equal stands before it
 --     back-2                       so all have exactly if no entry has two
 -- Assumes nothing.
+use Rattle.std.specs.Prelude.{Option}
 use Prim.Native.Nat.{ℕ, zero, suc, ◌+◌, ◌-◌, ◌≤◌, ◌<◌}
 use native.Mathlib.Omega.{arith}
 use native.Mathlib.Decide.{dec_lt}
@@ -19,7 +20,6 @@ use borrow.Author.Tests.{eqb-true}
 use Rattle.lists.specs.Pick.{pick}
 use Rattle.jkf.specs.Model.{Line, Record}
 use Rattle.jkf.specs.Attaching.{near, on_hang, all, first, hung_from, Play, starts, counts, parent_in, attach, all_hung}
-use Rattle.jkf.specs.declared.Hang.{Hang}
 use Rattle.jkf.specs.inner.Climbing.{NoEqual}
 use Rattle.jkf.proofs.Nears.{Hangs, hangs-on}
 use Rattle.jkf.proofs.OneTwo.{Found, found_says, near-kept, kept_near, still_found, two_found}
@@ -34,7 +34,7 @@ pub hung_all : (f c : ℕ → ℕ) (n k : ℕ) → ((j : ℕ) → k ≤ j → j 
 unfolding hung_from
 hung_all f c zero k h = refl
 hung_all f c (suc n) k h =
-    ap (λ (r : Hang). on_hang r (λ p e. hung_from f c (k + 1) n) (first k (f k))) (hangs-on f c k (h k (omega arith) (omega arith)))
+    ap (λ (r : Option (ℕ × ℕ)). on_hang r (λ p e. hung_from f c (k + 1) n) (first k (f k))) (hangs-on f c k (h k (omega arith) (omega arith)))
     ∙ hung_all f c n (k + 1) (λ j a b. h j (omega arith) (omega arith))
 
 module _ (ls : List Line) where

@@ -1,5 +1,6 @@
 -- An edited block, filled in part by part, is the block of the edited record; or it is refused by its length.
 -- Assumes nothing.
+use Rattle.std.specs.Prelude.{Ok, Err}
 use Prim.Native.Nat.{ℕ, zero, suc, ◌+◌, ◌-◌, ◌≤◌}
 use native.Mathlib.Omega.{arith}
 use mathlib.Core.Path.{◌≡◌, refl, sym, ap, ap₂, ◌∙◌, subst}
@@ -29,7 +30,6 @@ use Rattle.filling.specs.Filling.{unless_refused, at_front, are_small, length_of
 use Rattle.filling.specs.inner.Parts.{sizes_of, Opens}
 use Rattle.filling.specs.declared.Sizes.{Sizes}
 use Rattle.filling.specs.declared.Walk.{Walk}
-use Rattle.filling.specs.declared.Opening.TheVariants.{Begun, Refused}
 use Rattle.filling.proofs.Growing.{all_then}
 use Rattle.filling.proofs.Putting.{length_is, opens, refuses, unrefused}
 use Rattle.filling.proofs.Wholes.{opened-lines, opened_block}
@@ -115,14 +115,14 @@ module _ (version : ℕ) (b : List ℕ) (s : Sound b) (p q : ℕ) (vs : List Lin
     done = record { answer = Done (length block) second; buffer = at_front block o }
 
     -- refused
-    pub refused_stored : {a : Answer} {o₁ : List ℕ} → Refused a ≡ opening z (length o) → o₁ ≡ opened version z here o
+    pub refused_stored : {a : Answer} {o₁ : List ℕ} → Err a ≡ opening z (length o) → o₁ ≡ opened version z here o
         → (a ≡ (edit_stored block second o).answer) × (o₁ ≡ (edit_stored block second o).buffer)
     unfolding edit_stored
     refused_stored {a} {o₁} e f =
         subst (λ (n : ℕ). (a ≡ (unless_refused n o done).answer) × (o₁ ≡ (unless_refused n o done).buffer)) block_long (refuses version z here o e f done)
 
     -- or begun, its header entries put, and then its lines
-    pub begun_stored : {w v : Walk} {n : ℕ} {o₁ o₂ o₃ : List ℕ} → Begun w n ≡ opening z (length o) → o₁ ≡ opened version z here o
+    pub begun_stored : {w v : Walk} {n : ℕ} {o₁ o₂ o₃ : List ℕ} → Ok (w, n) ≡ opening z (length o) → o₁ ≡ opened version z here o
         → v ≡ (headers_put b w o₁).walk → o₂ ≡ (headers_put b w o₁).buffer → o₃ ≡ (put_wholes ls v o₂).buffer
         → (Done n second ≡ (edit_stored block second o).answer) × (o₃ ≡ (edit_stored block second o).buffer)
     unfolding edit_stored

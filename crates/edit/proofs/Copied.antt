@@ -13,15 +13,12 @@ use Rattle.block.specs.Decode.{run, move_place, first_comment, comment_count, ke
 use Rattle.block.proofs.Tabling.{concat-append, concat-none, concat-more, concat_longer}
 use Rattle.filling.specs.Filling.{Grown, header, put_all, put_comments, put_entry, put_noted}
 use Rattle.filling.specs.declared.Walk.{Walk}
-use Rattle.filling.proofs.Growing.{noted_done, Doing, doing_start, doing_step, doing_as, doing_done}
-use Rattle.edit.proofs.Rests.{rest, rest_all, rest_none, rest_next}
+use Rattle.filling.proofs.Growing.{noted_done, Doing, doing_step, doing_as, doing_done}
+use Rattle.edit.proofs.Rests.{rest, rest_none, rest_next}
 
 -- ---- a run
 
 module _ {X : Type 0} {one : X → Walk → List ℕ → Grown} (g : ℕ → X) (k n : ℕ) where
-  pub run-start : {w : Walk} {o : List ℕ} → Doing one (run g k n) (rest g k n 0) w w o o
-  run-start = doing_as (rest_all g k n) doing_start
-
   module _ {i : ℕ} {w₀ w : Walk} {o₀ o : List ℕ} (d : Doing one (run g k n) (rest g k n i) w₀ w o₀ o) where
     pub run_step : {w' : Walk} {o' : List ℕ} (x : X) → x ≡ g (k + i) → i < n → length (one x w o).buffer ≡ length o → w' ≡ (one x w o).walk → o' ≡ (one x w o).buffer
         → Doing one (run g k n) (rest g k n (i + 1)) w₀ w' o₀ o'

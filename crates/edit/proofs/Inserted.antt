@@ -7,6 +7,7 @@
 --     put_first                  the new line is the first on its entry
 --     put_only                   and no other place is so
 -- Assumes nothing.
+use Rattle.std.specs.Prelude.{Some}
 use Prim.Native.Nat.{ℕ, zero, suc, ◌+◌, ◌-◌, ◌≤◌, ◌<◌}
 use native.Mathlib.Omega.{arith}
 use mathlib.Core.Path.{◌≡◌, refl, sym, ap, ◌∙◌, subst}
@@ -21,7 +22,6 @@ use Rattle.lists.proofs.Laws.{by_pick}
 use Rattle.jkf.specs.Model.{Line, Record}
 use Rattle.jkf.specs.Attaching.{near, hangs, Play}
 use Rattle.jkf.specs.Trees.{NoTwo}
-use Rattle.jkf.specs.declared.Hang.TheVariants.{On}
 use Rattle.jkf.proofs.Nears.{near_is, hangs-made}
 use Rattle.jkf.proofs.Branching.{Branched}
 use Rattle.block.specs.Formed.{line_of}
@@ -122,7 +122,7 @@ module _ (version : ℕ) (ls : List Line) (k : ℕ) (v : Play) (ok : PutsIn vers
   pub put_keeps : (i : ℕ) → line_of ls' (renumbered n i) ≡ reparented (renumbered n) (line_of ls i)
   put_keeps = put-kept (put-lines ls n (line_on k v) later at.fits)
 
-  pub put-hangs : hangs (starts_in ls') (counts_in ls') v.start n ≡ On k (v.start - starts_in ls k)
+  pub put-hangs : hangs (starts_in ls') (counts_in ls') v.start n ≡ Some (k, v.start - starts_in ls k)
   put-hangs =
       let s = put-start ls n (line_on k v) later at.fits in
       let c = put_count ls n (line_on k v) later at.fits in

@@ -1,5 +1,6 @@
 -- The sizes of an edited block, counted part by part: the entries before line p, the new ones, and those from line q on.
 -- Assumes nothing.
+use Rattle.std.specs.Prelude.{Option, Some, None}
 use Prim.Native.Nat.{ℕ, ◌+◌, ◌-◌, ◌≤◌}
 use native.Mathlib.Nat.{zero-add}
 use native.Mathlib.Omega.{arith}
@@ -19,7 +20,7 @@ use Rattle.plays.specs.Counted.{extent_at, extent_of}
 use Rattle.plays.specs.declared.Extent.{Extent}
 use Rattle.edit.specs.Edit.{variation_of, line_on}
 use Rattle.edit.specs.declared.Added.{Added}
-use Rattle.edit.specs.declared.Added.TheVariants.{Nothing, Variation}
+use Rattle.edit.specs.declared.Added.{Added}
 use Rattle.edit.specs.inner.Splicing.{numbered_in, new_lines, Counted, comments_within, bytes_within, sizes_after}
 use Rattle.edit.proofs.Texts.{text-small}
 
@@ -84,9 +85,9 @@ added_none = refl
 
 -- whatever is put in
 module _ (t : List ℕ) {z : Sizes} where
-  pub added_small : (a : Added) → Counted a t → z ≡ sizes_of [] (new_lines a t) → (z.entries ≤ 65535) × (z.comments ≤ 65535) × (z.bytes ≤ 65535)
-  added_small Nothing c e = rw (e ∙ sym added_none) (omega arith, omega arith, omega arith)
-  added_small (Variation k ply x) c e = rw (e ∙ sym (added_one k t c.1)) (extent_small t x c.1 c.2)
+  pub added_small : (a : Option Added) → Counted a t → z ≡ sizes_of [] (new_lines a t) → (z.entries ≤ 65535) × (z.comments ≤ 65535) × (z.bytes ≤ 65535)
+  added_small None c e = rw (e ∙ sym added_none) (omega arith, omega arith, omega arith)
+  added_small (Some r) c e = rw (e ∙ sym (added_one r.line t c.1)) (extent_small t r.extent c.1 c.2)
 
 -- ---- all
 

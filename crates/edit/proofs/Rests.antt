@@ -12,13 +12,6 @@ module _ {X : Type 0} (g : ℕ → X) (k n : ℕ) where
   abbrev pub rest : ℕ → List X
   rest i = run g (k + i) (n - i)
 
-  -- at first, all
-  pub rest_all : run g k n ≡ rest 0
-  rest_all =
-      let a : k ≡ k + 0 = omega arith in
-      let b : n ≡ n - 0 = omega arith in
-      ap₂ (run g) a b
-
   -- at the end, nothing
   pub rest_none : (i : ℕ) → n ≤ i → rest i ≡ []
   rest_none i h = run_end g (k + i) n i h

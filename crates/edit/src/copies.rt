@@ -2,11 +2,11 @@
 ghost use Rattle.std.specs.Prelude.{◌≡◌, ◌+◌, ◌*◌, ◌≤◌, ◌<◌, length};
 ghost use Rattle.block.specs.Encode.{comment_text};
 ghost use Rattle.block.specs.Decode.{run, moves_in, comment_of, noted_in};
-ghost use Rattle.block.specs.inner.Sounds.{Sound};
 ghost use Rattle.filling.specs.Filling.{put_comments, put_noted, put_entries};
 ghost use Rattle.edit.specs.inner.Splicing.{comments_within, bytes_within, headers_put};
 
 use crate::Comments;
+use block::SoundBlock;
 use filling::Walk;
 
 // So many comments from one on.
@@ -16,42 +16,38 @@ fn copy_comments(b: &[u8], first: usize, count: usize, w: Walk, out: &mut [u8]) 
     ensures out_after { out.new ≡ (put_comments (run (comment_of b.now) first count) w out.old).buffer }
 {
     let mut v = w;
-    let mut i = 0;
-    while i < count {
+    for i in 0..count {
         v = filling::put_comment(out, v, block::comment_of(b, (first + i) as u16));
-        i += 1;
     }
     v
 }
 
 // Entry k with its comments.
-fn copy_entry(b: &[u8], k: usize, w: Walk, out: &mut [u8]) -> Walk
-    requires { Sound b.now × (k < moves_in b.now) }
-    ensures value { result ≡ (put_noted (noted_in b.now k) w out.old).walk }
-    ensures out_after { out.new ≡ (put_noted (noted_in b.now k) w out.old).buffer }
+fn copy_entry(b: SoundBlock, k: usize, w: Walk, out: &mut [u8]) -> Walk
+    requires { k < moves_in b.bytes.now }
+    ensures value { result ≡ (put_noted (noted_in b.entry.bytes.now k) w out.old).walk }
+    ensures out_after { out.new ≡ (put_noted (noted_in b.entry.bytes.now k) w out.old).buffer }
 {
     let i = k as u16;
     let v = copy_comments(
-        b,
-        block::first_comment(b, i),
-        block::comment_count(b, i),
+        b.bytes,
+        block::first_comment(b.bytes, i),
+        block::comment_count(b.bytes, i),
         w,
         out,
     );
-    filling::put_entry(out, v, block::entry_of(b, i), w.noted)
+    filling::put_entry(out, v, block::entry_of(b.bytes, i), w.noted)
 }
 
 // So many entries from entry k on.
-pub(crate) fn copy_entries(b: &[u8], k: usize, count: usize, w: Walk, out: &mut [u8]) -> Walk
-    requires { Sound b.now × (k + count ≤ moves_in b.now) }
-    ensures value { result ≡ (put_entries (run (noted_in b.now) k count) w out.old).walk }
-    ensures out_after { out.new ≡ (put_entries (run (noted_in b.now) k count) w out.old).buffer }
+pub(crate) fn copy_entries(b: SoundBlock, k: usize, count: usize, w: Walk, out: &mut [u8]) -> Walk
+    requires { k + count ≤ moves_in b.bytes.now }
+    ensures value { result ≡ (put_entries (run (noted_in b.entry.bytes.now) k count) w out.old).walk }
+    ensures out_after { out.new ≡ (put_entries (run (noted_in b.entry.bytes.now) k count) w out.old).buffer }
 {
     let mut v = w;
-    let mut i = 0;
-    while i < count {
+    for i in 0..count {
         v = copy_entry(b, k + i, v, out);
-        i += 1;
     }
     v
 }
@@ -63,11 +59,9 @@ pub(crate) fn copy_headers(b: &[u8], w: Walk, out: &mut [u8]) -> Walk
 {
     let count = block::headers_in(b);
     let mut v = w;
-    let mut k = 0;
-    while k < count {
+    for k in 0..count {
         let i = k as u16;
         v = filling::put_header(out, v, block::key_of(b, i), block::value_of(b, i));
-        k += 1;
     }
     v
 }
@@ -78,29 +72,25 @@ fn comment_bytes(b: &[u8], first: usize, count: usize) -> usize
     ensures { (result ≡ length (comment_text (run (comment_of b.now) first count))) × (result ≤ 65535 * count) }
 {
     let mut n = 0;
-    let mut i = 0;
-    while i < count {
+    for i in 0..count {
         n += block::comment_of(b, (first + i) as u16).len();
-        i += 1;
     }
     n
 }
 
 // How many comments so many entries from entry k on have, and how many bytes these have.
-pub(crate) fn count_entries(b: &[u8], k: usize, count: usize) -> Comments
-    requires { Sound b.now × (k + count ≤ moves_in b.now) }
-    ensures count_value { (result.count ≡ comments_within b.now k count) × (result.bytes ≡ bytes_within b.now k count) }
+pub(crate) fn count_entries(b: SoundBlock, k: usize, count: usize) -> Comments
+    requires { k + count ≤ moves_in b.bytes.now }
+    ensures count_value { (result.count ≡ comments_within b.entry.bytes.now k count) × (result.bytes ≡ bytes_within b.entry.bytes.now k count) }
     ensures count_bound { (result.count ≤ 65535 * count) × (result.bytes ≤ 4294967295 * count) }
 {
     let mut comments = 0;
     let mut bytes = 0;
-    let mut i = 0;
-    while i < count {
+    for i in 0..count {
         let e = (k + i) as u16;
-        let c = block::comment_count(b, e);
+        let c = block::comment_count(b.bytes, e);
         comments += c;
-        bytes += comment_bytes(b, block::first_comment(b, e), c);
-        i += 1;
+        bytes += comment_bytes(b.bytes, block::first_comment(b.bytes, e), c);
     }
     Comments {
         count: comments,

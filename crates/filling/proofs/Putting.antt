@@ -1,5 +1,6 @@
 -- What was tested and stored, held against what one part more makes of a walk and a buffer.
 -- Assumes nothing.
+use Rattle.std.specs.Prelude.{Result, Ok, Err}
 use Prim.Native.Nat.{ℕ, ◌+◌, ◌-◌, ◌≤◌, ◌<◌}
 use native.Mathlib.Omega.{arith}
 use mathlib.Core.Path.{◌≡◌, refl, sym, ap, ap₂, ◌∙◌}
@@ -8,7 +9,7 @@ use mathlib.Core.Bool.{Bool, true, false}
 use lib.ListN.{length, take, drop, length-drop}
 use lib.Seq.{length-take-le, drop-drop}
 use lib.Dec.{eqb, leb, ltb}
-use borrow.Author.Tests.{leb-true, leb-false, le-leb, lt-leb, lt-ltb, le-ltb, ltb-true, ltb-false}
+use borrow.Author.Tests.{leb-true, le-leb, lt-ltb, le-ltb, ltb-true, ltb-false}
 use Rattle.lists.specs.Pick.{pick}
 use Rattle.lists.proofs.Laws.{pick_both}
 use borrow.Rule.Slice.PartMut.{mid_of, put_mid}
@@ -28,23 +29,8 @@ use Rattle.block.proofs.EntriesBack.{entry_length}
 use Rattle.block.proofs.Lengths.{head-length}
 use Rattle.filling.specs.declared.Sizes.{Sizes}
 use Rattle.filling.specs.declared.Walk.{Walk}
-use Rattle.filling.specs.declared.Opening.{Opening}
-use Rattle.filling.specs.declared.Opening.TheVariants.{Begun, Refused}
 use Rattle.filling.specs.Filling.{if_fits, unless_refused, are_small, length_of, begun, opening, head_for, front_put, opened, header, has_header, put_header, put_line, has_comment, put_comment, has_entry, entered, put_entry}
 use Rattle.filling.specs.inner.Parts.{on_opening, Opens}
-
--- ---- whether something has room
-
-module _ (at n end : ℕ) where
-  pub room-none : end < at → false ≡ leb (at + n) end
-  room-none h = sym (lt-leb (at + n) end (omega arith))
-
-  pub room_left : at ≤ end → leb n (end - at) ≡ leb (at + n) end
-  room_left h = go (leb (at + n) end) refl
-    where
-      go : (t : Bool) → leb (at + n) end ≡ t → leb n (end - at) ≡ t
-      go true e = le-leb n (end - at) (omega (arith, leb-true (at + n) end e))
-      go false e = lt-leb n (end - at) (omega (arith, leb-false (at + n) end e))
 
 -- ---- how long a block is
 
@@ -115,34 +101,37 @@ module _ (version : ℕ) (z : Sizes) (p : Position) (o : List ℕ) where
 -- ---- whether it is admitted
 
 module _ (z : Sizes) (room : ℕ) where
-  pub admit_long : 65535 < length_of z → Refused (BlockTooLong (length_of z)) ≡ opening z room
+  pub admit_long : 65535 < length_of z → Err (BlockTooLong (length_of z)) ≡ opening z room
   unfolding opening
   admit_long h = rw (lt-ltb 65535 (length_of z) h)
 
   module _ (h : length_of z ≤ 65535) where
-    pub admit_short : room < length_of z → Refused (BufferShort (length_of z)) ≡ opening z room
+    pub admit_short : room < length_of z → Err (BufferShort (length_of z)) ≡ opening z room
     unfolding opening
     admit_short k = rw (le-ltb 65535 (length_of z) h, lt-ltb room (length_of z) k)
 
-    pub admit_done : {w : Walk} → length_of z ≤ room → w ≡ begun z → Begun w (length_of z) ≡ opening z room
+    pub admit_done : {w : Walk} → length_of z ≤ room → w ≡ begun z → Ok (w, length_of z) ≡ opening z room
     unfolding opening
-    admit_done k e = rw (le-ltb 65535 (length_of z) h, le-ltb room (length_of z) k) (ap (λ (v : Walk). Begun v (length_of z)) e)
+    admit_done k e = rw (le-ltb 65535 (length_of z) h, le-ltb room (length_of z) k) (ap (λ (v : Walk). Ok (v, length_of z)) e)
 
 -- a beginning and a refusal told apart, and what each holds
+abbrev Opening : Type 0
+Opening = Result (Walk × ℕ) Answer
+
 which_of : Opening → ℕ
 which_of r = on_opening r (λ w n. 0) (λ a. 1)
 
-pub not_begun : {A : Type 0} {w : Walk} {n : ℕ} {a : Answer} → Begun w n ≡ Refused a → A
+pub not_begun : {A : Type 0} {w : Walk} {n : ℕ} {a : Answer} → ◌≡◌ {A = Opening} (Ok (w, n)) (Err a) → A
 unfolding which_of
 not_begun e = let z : ◌≡◌ {A = ℕ} 0 1 = ap which_of e in absurd (omega arith)
 
-pub begun-walk : {w v : Walk} {n m : ℕ} → Begun w n ≡ Begun v m → w ≡ v
+pub begun-walk : {w v : Walk} {n m : ℕ} → ◌≡◌ {A = Opening} (Ok (w, n)) (Ok (v, m)) → w ≡ v
 begun-walk {w} e = ap (λ (r : Opening). on_opening r (λ v m. v) (λ a. w)) e
 
-pub begun-total : {w v : Walk} {n m : ℕ} → Begun w n ≡ Begun v m → n ≡ m
+pub begun-total : {w v : Walk} {n m : ℕ} → ◌≡◌ {A = Opening} (Ok (w, n)) (Ok (v, m)) → n ≡ m
 begun-total e = ap (λ (r : Opening). on_opening r (λ v m. m) (λ a. 0)) e
 
-pub refused-answer : {a b : Answer} → Refused a ≡ Refused b → a ≡ b
+pub refused-answer : {a b : Answer} → ◌≡◌ {A = Opening} (Err a) (Err b) → a ≡ b
 refused-answer {a} e = ap (λ (r : Opening). on_opening r (λ v m. a) (λ b. b)) e
 
 pub record IsBegun (z : Sizes) (k : ℕ) (w : Walk) (n : ℕ) : Type 0 where
@@ -153,7 +142,7 @@ pub record IsBegun (z : Sizes) (k : ℕ) (w : Walk) (n : ℕ) : Type 0 where
 
 -- a block is begun only where it fits, and refused only where it does not
 module _ (z : Sizes) (room : ℕ) where
-  pub is_begun : {w : Walk} {n : ℕ} → Begun w n ≡ opening z room → IsBegun z room w n
+  pub is_begun : {w : Walk} {n : ℕ} → Ok (w, n) ≡ opening z room → IsBegun z room w n
   is_begun {w} {n} e = go (ltb 65535 (length_of z)) refl
     where
       fit : length_of z ≤ 65535 → (t : Bool) → ltb room (length_of z) ≡ t → IsBegun z room w n
@@ -167,7 +156,7 @@ module _ (z : Sizes) (room : ℕ) where
       go true k = not_begun (e ∙ sym (admit_long z room (ltb-true 65535 (length_of z) k)))
       go false k = fit (ltb-false 65535 (length_of z) k) (ltb room (length_of z)) refl
 
-  pub is_refused : {A : Type 0} {a : Answer} → Refused a ≡ opening z room → (f : Answer → A) (r : A) → f a ≡ if_fits (length_of z) room f r
+  pub is_refused : {A : Type 0} {a : Answer} → Err a ≡ opening z room → (f : Answer → A) (r : A) → f a ≡ if_fits (length_of z) room f r
   is_refused {A} {a} e f r = go (ltb 65535 (length_of z)) refl
     where
       fit : length_of z ≤ 65535 → (t : Bool) → ltb room (length_of z) ≡ t → f a ≡ if_fits (length_of z) room f r
@@ -183,7 +172,7 @@ pub fits : {A : Type 0} {n room : ℕ} (f : Answer → A) (r : A) → n ≤ 6553
 fits {A} {n} {room} f r h k = rw (le-ltb 65535 n h, le-ltb room n k)
 
 module _ (version : ℕ) (z : Sizes) (p : Position) (o : List ℕ) where
-  pub left_shut : {a : Answer} → Refused a ≡ opening z (length o) → o ≡ opened version z p o
+  pub left_shut : {a : Answer} → Err a ≡ opening z (length o) → o ≡ opened version z p o
   unfolding opened
   left_shut e = is_refused z (length o) e (λ a. o) (front_put version z p o)
 
@@ -191,12 +180,12 @@ module _ (version : ℕ) (z : Sizes) (p : Position) (o : List ℕ) where
   unfolding opened
   front-opened h k = rw (le-ltb 65535 (length_of z) h, le-ltb (length o) (length_of z) k)
 
-  pub opens : {w : Walk} {n : ℕ} {o₁ : List ℕ} → Begun w n ≡ opening z (length o) → o₁ ≡ opened version z p o → Opens version z p w n o o₁
+  pub opens : {w : Walk} {n : ℕ} {o₁ : List ℕ} → Ok (w, n) ≡ opening z (length o) → o₁ ≡ opened version z p o → Opens version z p w n o o₁
   opens e f =
       let q = is_begun z (length o) e in
       record { walk = q.walk; total = q.total; short = q.short; room = q.room; front = f ∙ sym (front-opened q.short q.room) }
 
-  pub refuses : {a : Answer} {o₁ : List ℕ} → Refused a ≡ opening z (length o) → o₁ ≡ opened version z p o → (r : Outcome)
+  pub refuses : {a : Answer} {o₁ : List ℕ} → Err a ≡ opening z (length o) → o₁ ≡ opened version z p o → (r : Outcome)
       → (a ≡ (unless_refused (length_of z) o r).answer) × (o₁ ≡ (unless_refused (length_of z) o r).buffer)
   refuses e f r =
       let q = is_refused z (length o) e (λ a. refuse a o) r in

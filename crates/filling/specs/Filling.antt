@@ -1,6 +1,6 @@
 -- A block being filled: its length, its front, and what one part more makes of it.              (01, The block; Numbers of refusal: 4, 5)
 -- Assumes nothing: these are definitions.
-use Rattle.std.specs.Prelude.{ℕ, ◌+◌, ◌*◌, ◌-◌, ◌/◌, List, [], ◌∷◌, ◌++◌, Bool, false, length, drop, eqb, leb, ltb}
+use Rattle.std.specs.Prelude.{ℕ, ◌+◌, ◌*◌, ◌-◌, ◌/◌, List, [], ◌∷◌, ◌++◌, Bool, false, length, drop, eqb, leb, ltb, Option, Some, None, Result, Ok, Err}
 use Rattle.lists.specs.Pick.{pick}
 use Rattle.lent.specs.Bytes.{fitting}
 use Rattle.lent.specs.Stored.{put}
@@ -8,8 +8,6 @@ use Rattle.jkf.specs.Answers.{Outcome, refuse}
 use Rattle.jkf.specs.Model.{Header, Noted}
 use Rattle.jkf.specs.Attaching.{on_hang}
 use Rattle.jkf.specs.Following.{hangs_by}
-use Rattle.jkf.specs.declared.Hang.{Hang}
-use Rattle.jkf.specs.declared.Hang.TheVariants.{On}
 use Rattle.jkf.specs.declared.Answer.{Answer}
 use Rattle.jkf.specs.declared.Answer.TheVariants.{BlockTooLong, BufferShort}
 use Rattle.jkf.specs.declared.Entry.{Entry}
@@ -19,10 +17,6 @@ use Rattle.block.specs.PositionBytes.{position_bytes}
 use Rattle.block.specs.Encode.{head_bytes, block_length, line_bytes, header_row, comment_row}
 use Rattle.filling.specs.declared.Sizes.{Sizes}
 use Rattle.filling.specs.declared.Walk.{Walk}
-use Rattle.filling.specs.declared.Hooked.{Hooked}
-use Rattle.filling.specs.declared.Hooked.TheVariants.{Put, Loose}
-use Rattle.filling.specs.declared.Opening.{Opening}
-use Rattle.filling.specs.declared.Opening.TheVariants.{Begun, Refused}
 
 -- ---- the answer
 
@@ -72,8 +66,8 @@ begun z =
     }
 
 -- A refusal or a beginning.
-unfoldable pub opening : Sizes → ℕ → Opening
-opening z room = if_fits (length_of z) room Refused (Begun (begun z) (length_of z))
+unfoldable pub opening : Sizes → ℕ → Result (Walk × ℕ) Answer
+opening z room = if_fits (length_of z) room Err (Ok (begun z, length_of z))
 
 -- The head, and the position behind it.
 abbrev pub head_for : ℕ → Sizes → List ℕ
@@ -203,14 +197,14 @@ put_entry e first w o =
 -- ---- a line, hung on those before it                                                              (01, Attaching rule)
 
 -- Where the next line hangs: the first on none, told as entry 0 of line 0; any other on a line before it.
-unfoldable pub hanging_of : ℕ → ℕ → Walk → List ℕ → Hang
+unfoldable pub hanging_of : ℕ → ℕ → Walk → List ℕ → Option (ℕ × ℕ)
 hanging_of rows start w o =
-    let k = (w.lines - rows) / 8 in let h = hangs_by (drop rows o) start k in pick (eqb k 0) (On 0 0) h
+    let k = (w.lines - rows) / 8 in let h = hangs_by (drop rows o) start k in pick (eqb k 0) (Some (0, 0)) h
 
 -- Its row behind them, with the parent that was found; or that it hangs on none.
-unfoldable pub hooked_of : ℕ → ℕ → ℕ → Walk → List ℕ → Hooked
+unfoldable pub hooked_of : ℕ → ℕ → ℕ → Walk → List ℕ → Option Walk
 hooked_of rows start first w o =
-    on_hang (hanging_of rows start w o) (λ p e. Put (put_line start p first w o).walk) Loose
+    on_hang (hanging_of rows start w o) (λ p e. Some (put_line start p first w o).walk) None
 
 unfoldable pub hooked_in : ℕ → ℕ → ℕ → Walk → List ℕ → List ℕ
 hooked_in rows start first w o =

@@ -7,7 +7,6 @@ mod opens;
 mod puts;
 
 pub use hangs::hang_line;
-use jkf::Answer;
 pub use opens::{admit, open};
 pub use puts::{put_comment, put_entry, put_header, put_line};
 
@@ -33,18 +32,4 @@ pub struct Walk {
     pub entries: usize,
     pub noted: usize,
     pub bytes: usize,
-}
-
-// A block whose front is filled in, and its length; or why it is not begun.
-#[derive(Clone, Copy)]
-pub enum Opening {
-    Begun(Walk, u64),
-    Refused(Answer),
-}
-
-// The block with one line more, or that it hangs on none.
-#[derive(Clone, Copy)]
-pub enum Hooked {
-    Put(Walk),
-    Loose,
 }

@@ -2,7 +2,7 @@
 ghost use Rattle.std.specs.Prelude.{◌≡◌, true, ◌≤◌, length, leb};
 ghost use Rattle.filling.specs.Filling.{are_small, length_of, begun, opening, front_put, opened};
 
-use crate::{Opening, Sizes, Walk};
+use crate::{Sizes, Walk};
 use jkf::{Answer, Position};
 
 // Whether a size is small enough to be added up.
@@ -15,19 +15,11 @@ fn is_small(n: usize) -> bool
 fn are_small(z: Sizes) -> bool
     ensures { result ≡ are_small z }
 {
-    if !is_small(z.headers) {
-        return false;
-    }
-    if !is_small(z.lines) {
-        return false;
-    }
-    if !is_small(z.entries) {
-        return false;
-    }
-    if !is_small(z.comments) {
-        return false;
-    }
-    is_small(z.bytes)
+    is_small(z.headers)
+        && is_small(z.lines)
+        && is_small(z.entries)
+        && is_small(z.comments)
+        && is_small(z.bytes)
 }
 
 // Where the parts of a block begin whose sizes can be added up.
@@ -56,23 +48,23 @@ fn length_of(z: Sizes) -> usize
     ensures { result ≡ length_of z }
 {
     if !are_small(z) {
-        return 18446744073709551615;
+        return usize::MAX;
     }
     begin(z).text + z.bytes
 }
 
 // Refusals 4 and 5 of a block of these sizes; where it is neither too long nor has too little room, where its parts begin.
-pub fn admit(z: Sizes, room: usize) -> Opening
+pub fn admit(z: Sizes, room: usize) -> Result<(Walk, u64), Answer>
     ensures { result ≡ opening z room }
 {
     let total = length_of(z);
     if 65535 < total {
-        return Opening::Refused(Answer::BlockTooLong(total as u64));
+        return Err(Answer::BlockTooLong(total as u64));
     }
     if room < total {
-        return Opening::Refused(Answer::BufferShort(total as u64));
+        return Err(Answer::BufferShort(total as u64));
     }
-    Opening::Begun(begin(z), total as u64)
+    Ok((begin(z), total as u64))
 }
 
 // The head and the position of a block that is not too long.
@@ -97,15 +89,16 @@ fn put_front(out: &mut [u8], version: u16, z: Sizes, total: u64, position: Posit
 }
 
 // Refusals 4 and 5; a block that is admitted has its front filled in.
-pub fn open(out: &mut [u8], version: u16, z: Sizes, position: Position) -> Opening
+pub fn open(
+    out: &mut [u8],
+    version: u16,
+    z: Sizes,
+    position: Position,
+) -> Result<(Walk, u64), Answer>
     ensures value { result ≡ opening z (length out.old) }
     ensures out_after { out.new ≡ opened version z position out.old }
 {
-    match admit(z, out.len()) {
-        Opening::Refused(a) => Opening::Refused(a),
-        Opening::Begun(w, n) => {
-            put_front(out, version, z, n, position);
-            Opening::Begun(w, n)
-        }
-    }
+    let (w, n) = admit(z, out.len())?;
+    put_front(out, version, z, n, position);
+    Ok((w, n))
 }

@@ -5,33 +5,22 @@ ghost use Rattle.filling.specs.Filling.{header, has_header, has_comment, has_ent
 use crate::Walk;
 use jkf::Entry;
 
-// Whether n more from a place on come to an end or less.
+// Whether n more from a place on come to an end or less: what is left is compared, so that nothing overflows.
 fn has_room(at: usize, n: usize, end: usize) -> bool
     ensures { result ≡ leb (at + n) end }
 {
-    if end < at {
-        return false;
-    }
-    n <= end - at
+    at <= end && n <= end - at
 }
 
 // Whether a key and a value of so many bytes have room.
 fn has_header(w: Walk, key: usize, value: usize, room: usize) -> bool
     ensures { result ≡ has_header key value w room }
 {
-    if !has_room(w.headers, 8, room) {
-        return false;
-    }
-    if !has_room(w.text, key, room) {
-        return false;
-    }
-    if !has_room(w.text + key, value, room) {
-        return false;
-    }
-    if !has_room(w.bytes, key, 18446744073709551615) {
-        return false;
-    }
-    has_room(w.bytes + key, value, 18446744073709551615)
+    has_room(w.headers, 8, room)
+        && has_room(w.text, key, room)
+        && has_room(w.text + key, value, room)
+        && has_room(w.bytes, key, usize::MAX)
+        && has_room(w.bytes + key, value, usize::MAX)
 }
 
 // A header entry: its row where the header rows end, its key and its value where the texts end.
@@ -54,16 +43,6 @@ pub fn put_header(out: &mut [u8], w: Walk, key: &[u8], value: &[u8]) -> Walk
     }
 }
 
-// How many more one is than the other; 0 where it is less.
-pub(crate) fn less(a: usize, b: usize) -> usize
-    ensures { result ≡ a - b }
-{
-    if a < b {
-        return 0;
-    }
-    a - b
-}
-
 // The row of the line that has the entries from number first on and starts at a ply, where the line rows end.
 pub fn put_line(out: &mut [u8], w: Walk, start: u64, parent: u64, first: usize) -> Walk
     ensures value { result ≡ (put_line start parent first w out.old).walk }
@@ -72,7 +51,7 @@ pub fn put_line(out: &mut [u8], w: Walk, start: u64, parent: u64, first: usize) 
     if !has_room(w.lines, 8, out.len()) {
         return w;
     }
-    let count = less(w.entries, first);
+    let count = w.entries.saturating_sub(first);
     let lines = block::put_line_row(out, w.lines, start, first, count, parent);
     Walk { lines, ..w }
 }
@@ -81,16 +60,10 @@ pub fn put_line(out: &mut [u8], w: Walk, start: u64, parent: u64, first: usize) 
 fn has_comment(w: Walk, n: usize, room: usize) -> bool
     ensures { result ≡ has_comment n w room }
 {
-    if !has_room(w.comments, 4, room) {
-        return false;
-    }
-    if !has_room(w.text, n, room) {
-        return false;
-    }
-    if !has_room(w.noted, 1, 18446744073709551615) {
-        return false;
-    }
-    has_room(w.bytes, n, 18446744073709551615)
+    has_room(w.comments, 4, room)
+        && has_room(w.text, n, room)
+        && has_room(w.noted, 1, usize::MAX)
+        && has_room(w.bytes, n, usize::MAX)
 }
 
 // A comment: its row where the comment rows end, its bytes where the texts end.
@@ -119,10 +92,7 @@ pub fn put_comment(out: &mut [u8], w: Walk, c: &[u8]) -> Walk
 fn has_entry(w: Walk, room: usize) -> bool
     ensures { result ≡ has_entry w room }
 {
-    if !has_room(w.moves, 20, room) {
-        return false;
-    }
-    has_room(w.entries, 1, 18446744073709551615)
+    has_room(w.moves, 20, room) && has_room(w.entries, 1, usize::MAX)
 }
 
 // One entry more, and the place past it.
@@ -145,7 +115,7 @@ pub fn put_entry(out: &mut [u8], w: Walk, e: Entry, first: usize) -> Walk
     if !has_entry(w, out.len()) {
         return w;
     }
-    let count = less(w.noted, first);
+    let count = w.noted.saturating_sub(first);
     if count == 0 {
         return entered(w, block::put_entry_row(out, w.moves, e, 0, 0));
     }

@@ -1,11 +1,10 @@
 -- Where a line hangs is decided by the lines before it, so lines hang one after the other: the first n, and then the others.
 -- Assumes nothing.
+use Rattle.std.specs.Prelude.{Option, Some, None}
 use Prim.Native.Nat.{ℕ, zero, suc, ◌+◌, ◌<◌}
 use native.Mathlib.Omega.{arith}
 use mathlib.Core.Path.{◌≡◌, refl, sym, ap, ◌∙◌}
 use Rattle.jkf.specs.Attaching.{near, hang_on, hangs, on_hang, Hung, all, first, hung_from}
-use Rattle.jkf.specs.declared.Hang.{Hang}
-use Rattle.jkf.specs.declared.Hang.TheVariants.{On, Nowhere}
 use Rattle.jkf.proofs.Nears.{near_same, near_before}
 
 -- ---- the rule looks at the lines before only
@@ -37,19 +36,19 @@ module _ (f c : ℕ → ℕ) where
       let z : suc n + m ≡ suc (n + m) = omega arith in
       ap (hung_from f c i) z ∙ go (hangs f c (f i) i) h (hung_split n (i + 1))
     where
-      go : (r : Hang) → on_hang r (λ p e. hung_from f c (i + 1) n) (first i (f i)) ≡ all
+      go : (r : Option (ℕ × ℕ)) → on_hang r (λ p e. hung_from f c (i + 1) n) (first i (f i)) ≡ all
           → (hung_from f c (i + 1) n ≡ all → (k : ℕ) → hung_from f c (i + 1) (n + k) ≡ hung_from f c (i + 1 + n) k)
           → on_hang r (λ p e. hung_from f c (i + 1) (n + m)) (first i (f i)) ≡ hung_from f c (i + suc n) m
-      go (On p e) h ih = let y : i + 1 + n ≡ i + suc n = omega arith in ih h m ∙ ap (λ (j : ℕ). hung_from f c j m) y
-      go Nowhere h ih = not_all h
+      go (Some (p, e)) h ih = let y : i + 1 + n ≡ i + suc n = omega arith in ih h m ∙ ap (λ (j : ℕ). hung_from f c j m) y
+      go None h ih = not_all h
 
   -- one line more hangs
-  pub hung_more : (n i p e : ℕ) → hung_from f c i n ≡ all → hangs f c (f (i + n)) (i + n) ≡ On p e → hung_from f c i (n + 1) ≡ all
+  pub hung_more : (n i p e : ℕ) → hung_from f c i n ≡ all → hangs f c (f (i + n)) (i + n) ≡ Some (p, e) → hung_from f c i (n + 1) ≡ all
   unfolding hung_from
   hung_more n i p e h q = hung_split n i h 1 ∙ rw q
 
   -- or is the first that does not
-  pub hung-lost : (n i m : ℕ) → hung_from f c i n ≡ all → hangs f c (f (i + n)) (i + n) ≡ Nowhere → hung_from f c i (n + suc m) ≡ first (i + n) (f (i + n))
+  pub hung-lost : (n i m : ℕ) → hung_from f c i n ≡ all → hangs f c (f (i + n)) (i + n) ≡ None → hung_from f c i (n + suc m) ≡ first (i + n) (f (i + n))
   unfolding hung_from
   hung-lost n i m h q = hung_split n i h (suc m) ∙ rw q
 
@@ -61,7 +60,7 @@ module _ (f c : ℕ → ℕ) where
       let z : suc n + m ≡ suc (n + m) = omega arith in
       go (hangs f c (f i) i) (sym (ap (hung_from f c i) z) ∙ h) (hung_front n (i + 1) m)
     where
-      go : (r : Hang) → on_hang r (λ p e. hung_from f c (i + 1) (n + m)) (first i (f i)) ≡ all → (hung_from f c (i + 1) (n + m) ≡ all → hung_from f c (i + 1) n ≡ all)
+      go : (r : Option (ℕ × ℕ)) → on_hang r (λ p e. hung_from f c (i + 1) (n + m)) (first i (f i)) ≡ all → (hung_from f c (i + 1) (n + m) ≡ all → hung_from f c (i + 1) n ≡ all)
           → on_hang r (λ p e. hung_from f c (i + 1) n) (first i (f i)) ≡ all
-      go (On p e) h ih = ih h
-      go Nowhere h ih = not_all h
+      go (Some (p, e)) h ih = ih h
+      go None h ih = not_all h

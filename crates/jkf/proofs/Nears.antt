@@ -8,6 +8,7 @@
 --     hangs-made                         the rule at what the code has read
 --     Hangs, hangs-says, hangs-on        that a line hangs
 -- Assumes nothing.
+use Rattle.std.specs.Prelude.{Some, None}
 use Prim.Native.Nat.{ℕ, zero, suc, ◌+◌, ◌-◌, ◌≤◌, ◌<◌}
 use native.Mathlib.Omega.{arith}
 use native.Mathlib.Decide.{dec_lt}
@@ -22,7 +23,6 @@ use Rattle.lists.proofs.Laws.{by_pick}
 use Rattle.lent.specs.Bytes.{le16}
 use Rattle.jkf.specs.Attaching.{near, hang_on, hangs, on_hang}
 use Rattle.jkf.specs.Following.{start_at, count_at, parent_at, follow, followed, hangs_by, Linked}
-use Rattle.jkf.specs.declared.Hang.TheVariants.{On, Nowhere}
 
 -- past the end of a table every number is 0
 pub past_end : (b : List ℕ) (at : ℕ) → length b ≤ at → 0 ≡ le16 b at
@@ -208,7 +208,7 @@ pub record Hangs (start count : ℕ → ℕ) (k : ℕ) : Type 0 where
 on_line : {A : Type 0} (s p t n : ℕ) (f : ℕ → ℕ → A) (d x : A) → (d ≡ x → ⊥) → on_hang (hang_on s p t n) f d ≡ x → (t ≤ s) × (s - t < n) × (f p (s - t) ≡ x)
 on_line s p t n f d x off h = go (leb t s) refl (ltb (s - t) n) refl h
   where
-    go : (a : Bool) → leb t s ≡ a → (b : Bool) → ltb (s - t) n ≡ b → on_hang (pick a (pick b (On p (s - t)) Nowhere) Nowhere) f d ≡ x
+    go : (a : Bool) → leb t s ≡ a → (b : Bool) → ltb (s - t) n ≡ b → on_hang (pick a (pick b (Some (p, s - t)) None) None) f d ≡ x
         → (t ≤ s) × (s - t < n) × (f p (s - t) ≡ x)
     go true e true e' h = (leb-true t s e, ltb-true (s - t) n e', h)
     go true e false e' h = absurd (off h)
@@ -225,6 +225,6 @@ module _ (start count : ℕ → ℕ) (k : ℕ) where
       (record { from = a; within = b }, e)
 
   -- and so the attaching rule finds its parent
-  pub hangs-on : Hangs start count k → hangs start count (start k) k ≡ On (near start (start k) k) (start k - start (near start (start k) k))
+  pub hangs-on : Hangs start count k → hangs start count (start k) k ≡ Some (near start (start k) k, start k - start (near start (start k) k))
   unfolding hangs
   hangs-on h = rw (le-leb _ _ h.from, lt-ltb _ _ h.within)

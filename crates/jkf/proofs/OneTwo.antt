@@ -6,6 +6,7 @@
 --     branched-as      whatever its version, what is asked of version 2 holds of lines that hang
 --     still-found      of lines sound as version 2 the attaching rule finds a parent for each: reading their text never meets refusal 6
 -- Assumes nothing.
+use Rattle.std.specs.Prelude.{Option}
 use Prim.Native.Nat.{ℕ, zero, suc, ◌-◌, ◌≤◌, ◌<◌}
 use native.Mathlib.Omega.{arith}
 use native.Mathlib.Decide.{dec_lt}
@@ -17,7 +18,6 @@ use borrow.Author.Tests.{eqb-true, eq-eqb}
 use Rattle.lists.specs.Test.{◌equals◌, ◌and◌, flag, claim}
 use Rattle.lists.proofs.Tests.{says, answers}
 use Rattle.jkf.specs.Attaching.{near, on_hang}
-use Rattle.jkf.specs.declared.Hang.{Hang}
 use Rattle.jkf.proofs.Nears.{near_before, near-low, near_last, near_miss, near_is, Hangs, hangs_says, hangs-on}
 use Rattle.lists.specs.Pick.{pick}
 use Rattle.jkf.specs.Trees.{searched, chosen, HangAs, HangsFrom, itself, through, NoTwo}
@@ -54,7 +54,7 @@ module _ (start count parent : ℕ → ℕ) where
   says_found n w k l =
       test_by k (flag (start 0 equals 0 and parent 0 equals 0)) (flag (searched start count parent k))
       (λ e. answers (start 0 equals 0 and parent 0 equals 0) (w.origin, w.root))
-      (λ z. ap (λ (h : Hang). on_hang h (λ p e. eqb (parent k) p) false) (hangs-on start count k (w.hangs k z l)) ∙ eq-eqb _ _ (w.near k z l))
+      (λ z. ap (λ (h : Option (ℕ × ℕ)). on_hang h (λ p e. eqb (parent k) p) false) (hangs-on start count k (w.hangs k z l)) ∙ eq-eqb _ _ (w.near k z l))
 
   -- ---- from version 1
 

@@ -1,11 +1,9 @@
 -- Where a variation hangs. The starts and entry counts of the lines are functions, so that a table's rows, a block's and a list's share the
 -- rule; and a list of lines of play, each hung by it.                                                                                    (01, Attaching rule)
 -- Assumes nothing: these are definitions.
-use Rattle.std.specs.Prelude.{ℕ, zero, suc, ◌+◌, ◌-◌, List, [], ◌∷◌, length, get_or, leb, ltb}
+use Rattle.std.specs.Prelude.{ℕ, zero, suc, ◌+◌, ◌-◌, List, [], ◌∷◌, length, get_or, leb, ltb, Option, Some, None}
 use Rattle.lists.specs.Pick.{pick}
 use Rattle.jkf.specs.Model.{Noted, Line}
-use Rattle.jkf.specs.declared.Hang.{Hang}
-use Rattle.jkf.specs.declared.Hang.TheVariants.{On, Nowhere}
 
 -- Of lines 0 to k - 1 the last whose start is at or below s; line 0 where there is none.
 unfoldable pub near : (ℕ → ℕ) → ℕ → ℕ → ℕ
@@ -13,16 +11,16 @@ near start s zero = 0
 near start s (suc j) = let r = near start s j in pick (leb (start j) s) j r
 
 -- On the line p with start t and n entries: the entry is the start less the line's, if there is that entry.
-abbrev pub hang_on : ℕ → ℕ → ℕ → ℕ → Hang
-hang_on s p t n = pick (leb t s) (pick (ltb (s - t) n) (On p (s - t)) Nowhere) Nowhere
+abbrev pub hang_on : ℕ → ℕ → ℕ → ℕ → Option (ℕ × ℕ)
+hang_on s p t n = pick (leb t s) (pick (ltb (s - t) n) (Some (p, s - t)) None) None
 
 -- Where line k with start s hangs.
-unfoldable pub hangs : (ℕ → ℕ) → (ℕ → ℕ) → ℕ → ℕ → Hang
+unfoldable pub hangs : (ℕ → ℕ) → (ℕ → ℕ) → ℕ → ℕ → Option (ℕ × ℕ)
 hangs start count s k = hang_on s (near start s k) (start (near start s k)) (count (near start s k))
 
-abbrev pub on_hang : {A : Type 0} → Hang → (ℕ → ℕ → A) → A → A
-on_hang (On p e) f d = f p e
-on_hang Nowhere f d = d
+abbrev pub on_hang : {A : Type 0} → Option (ℕ × ℕ) → (ℕ → ℕ → A) → A → A
+on_hang (Some (p, e)) f d = f p e
+on_hang None f d = d
 
 -- All of n lines from k on hang, or the first that does not, with its start: refusal 6's figures.
 pub data Hung : Type 0 where

@@ -1,10 +1,9 @@
 -- The search for a parent along the stored parents, in a table of lines in lent memory.               (01, Attaching rule)
 -- Assumes nothing: these are definitions.
-use Rattle.std.specs.Prelude.{ℕ, zero, suc, ◌+◌, ◌*◌, ◌-◌, ◌<◌, ◌≡◌, List, leb, ltb}
+use Rattle.std.specs.Prelude.{ℕ, zero, suc, ◌+◌, ◌*◌, ◌-◌, ◌<◌, ◌≡◌, List, leb, ltb, Option}
 use Rattle.lists.specs.Pick.{pick}
 use Rattle.lent.specs.Bytes.{le16}
 use Rattle.jkf.specs.Attaching.{near, hang_on}
-use Rattle.jkf.specs.declared.Hang.{Hang}
 
 -- A table of lines in lent memory: rows of eight bytes, start, first entry, entry count, parent.     (01, The block: line)
 abbrev pub start_at : List ℕ → ℕ → ℕ
@@ -32,5 +31,5 @@ follow lines s (suc n) j =
 abbrev pub followed : List ℕ → ℕ → ℕ → ℕ
 followed lines s k = follow lines s k (k - 1)
 
-unfoldable pub hangs_by : List ℕ → ℕ → ℕ → Hang
+unfoldable pub hangs_by : List ℕ → ℕ → ℕ → Option (ℕ × ℕ)
 hangs_by lines s k = hang_on s (followed lines s k) (start_at lines (followed lines s k)) (count_at lines (followed lines s k))

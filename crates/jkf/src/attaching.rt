@@ -3,8 +3,6 @@ ghost use Rattle.std.specs.Prelude.{◌≡◌};
 ghost use Rattle.jkf.specs.Attaching.{near};
 ghost use Rattle.jkf.specs.Following.{start_at, count_at, Linked, followed, hangs_by};
 
-use crate::Hang;
-
 // The start of line k; 0 past the table.
 fn start(lines: &[u8], k: usize) -> u64
     ensures { result ≡ start_at lines.now k }
@@ -29,9 +27,7 @@ fn count(lines: &[u8], k: usize) -> u64
 pub fn nearest_in_turn(lines: &[u8], k: usize, s: u64) -> usize
     ensures { result ≡ near (start_at lines.now) s k }
 {
-    let mut j = k;
-    while 0 < j {
-        j -= 1;
+    for j in (0..k).rev() {
         if start(lines, j) <= s {
             return j;
         }
@@ -49,6 +45,7 @@ pub fn nearest(lines: &[u8], k: usize, s: u64) -> usize
         return 0;
     }
     let mut j = k - 1;
+    // no range: a parent says which line is next
     while s < start(lines, j) {
         let p = lent::get16(lines, 8 * j + 6);
         if j <= p {
@@ -60,16 +57,11 @@ pub fn nearest(lines: &[u8], k: usize, s: u64) -> usize
 }
 
 // Where a line that starts at s hangs, after k lines.   (the Rust's attach)
-pub fn hang_of(lines: &[u8], k: usize, s: u64) -> Hang
+#[tactic(auto, unfolding(crate::specs::Following::hangs_by))]
+pub fn hang_of(lines: &[u8], k: usize, s: u64) -> Option<(u64, u64)>
     ensures { result ≡ hangs_by lines.now s k }
 {
     let p = nearest(lines, k, s);
-    let t = start(lines, p);
-    if s < t {
-        return Hang::Nowhere;
-    }
-    if s - t < count(lines, p) {
-        return Hang::On(p as u64, s - t);
-    }
-    Hang::Nowhere
+    let e = s.checked_sub(start(lines, p))?;
+    (e < count(lines, p)).then_some((p as u64, e))
 }

@@ -8,7 +8,7 @@ ghost use Rattle.std.specs.Prelude.{◌≡◌};
 ghost use Rattle.jkf.specs.Answers.{figures, figured};
 
 pub use attaching::{hang_of, nearest, nearest_in_turn};
-pub use entries::{number_of, special_of, time_of};
+pub use entries::time_of;
 
 // What a call of 01 answers: done, with two figures, or one of the 17 refusals.
 #[derive(Clone, Copy)]
@@ -42,28 +42,31 @@ pub struct Figures {
 }
 
 // The number and figures of an answer.
-pub fn figures_of(a: Answer) -> Figures
-    ensures { result ≡ figures a }
-{
-    match a {
-        Answer::Done(x, y) => figured(0, x, y),
-        Answer::TextTooLong(n) => figured(1, n, 0),
-        Answer::NotUtf8(n) => figured(2, n, 0),
-        Answer::HandLine(n) => figured(3, n, 0),
-        Answer::BlockTooLong(n) => figured(4, n, 0),
-        Answer::BufferShort(n) => figured(5, n, 0),
-        Answer::NoEntry(x, y) => figured(6, x, y),
-        Answer::NotSound => figured(7, 0, 0),
-        Answer::HandCount(x, y) => figured(8, x, y),
-        Answer::CannotWrite(x, y) => figured(9, x, y),
-        Answer::NoSuchPart(n) => figured(10, n, 0),
-        Answer::NotOneVariation => figured(11, 0, 0),
-        Answer::OutsideLine(x, y) => figured(12, x, y),
-        Answer::EntryTaken(x, y) => figured(13, x, y),
-        Answer::NoStart(n) => figured(15, n, 0),
-        Answer::NoSuchEntry(x, y) => figured(16, x, y),
-        Answer::PlayStopped(x, y) => figured(17, x, y),
-        Answer::StartsAtZero(n) => figured(20, n, 0),
+impl From<Answer> for Figures {
+    ghost from_gives = { λ a f. f ≡ figures a };
+
+    #[tactic(auto, unfolding(crate::specs::Answers::figures))]
+    fn from(a: Answer) -> Figures {
+        match a {
+            Answer::Done(x, y) => figured(0, x, y),
+            Answer::TextTooLong(n) => figured(1, n, 0),
+            Answer::NotUtf8(n) => figured(2, n, 0),
+            Answer::HandLine(n) => figured(3, n, 0),
+            Answer::BlockTooLong(n) => figured(4, n, 0),
+            Answer::BufferShort(n) => figured(5, n, 0),
+            Answer::NoEntry(x, y) => figured(6, x, y),
+            Answer::NotSound => figured(7, 0, 0),
+            Answer::HandCount(x, y) => figured(8, x, y),
+            Answer::CannotWrite(x, y) => figured(9, x, y),
+            Answer::NoSuchPart(n) => figured(10, n, 0),
+            Answer::NotOneVariation => figured(11, 0, 0),
+            Answer::OutsideLine(x, y) => figured(12, x, y),
+            Answer::EntryTaken(x, y) => figured(13, x, y),
+            Answer::NoStart(n) => figured(15, n, 0),
+            Answer::NoSuchEntry(x, y) => figured(16, x, y),
+            Answer::PlayStopped(x, y) => figured(17, x, y),
+            Answer::StartsAtZero(n) => figured(20, n, 0),
+        }
     }
 }
 
@@ -103,7 +106,7 @@ pub enum Clock {
     Ms(u8, u8),
 }
 
-// The time of an entry: what it took and the total, or none.   (the Rust's Option<Time>)
+// The time of an entry: what it took and the total, or none. An enum of its own, as 01 names its form.   (the Rust's Option<Time>)
 #[derive(Clone, Copy)]
 pub enum Time {
     Untimed,
@@ -117,21 +120,16 @@ pub enum Target {
     Square(u8, u8),
 }
 
-// Where it comes from, if that is known.
-#[derive(Clone, Copy)]
-pub enum Origin {
-    Unknown,
-    From(u8, u8),
-}
-
 // A move: its colour (0 Black, 1 White), the kind from 1, and 0 for no mark, 1 for 不成, 2 for 成.   (the Rust's MoveMoveFormat)
 #[derive(Clone, Copy)]
 pub struct Move {
+    // numbers and no enums, as in a position: a block may have any bytes here, and the calls promise what they answer for each
     pub color: u8,
     pub piece: u8,
     pub promote: u8,
     pub to: Target,
-    pub from: Origin,
+    // None where it is not known
+    pub from: Option<(u8, u8)>,
     pub time: Time,
 }
 
@@ -141,13 +139,6 @@ pub enum Entry {
     Slot,
     Moved(Move),
     End(Special, Time),
-}
-
-// Where a variation hangs: on a line and an entry of it, or nowhere.
-#[derive(Clone, Copy)]
-pub enum Hang {
-    On(u64, u64),
-    Nowhere,
 }
 
 // The position that a record starts from: a preset alone, or a diagram with hands and the side to move.   (the Rust's Initial)

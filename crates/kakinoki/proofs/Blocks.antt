@@ -1,5 +1,6 @@
 -- The turns of the loop of `informations`, over plain values.
 -- Assumes nothing.
+use Rattle.std.specs.Prelude.{Option}
 use Prim.Native.Nat.{ℕ, ◌+◌, ◌≤◌, ◌<◌}
 use native.Mathlib.Omega.{arith}
 use mathlib.Core.Path.{◌≡◌, refl, sym, ap, ◌∙◌}
@@ -16,7 +17,6 @@ use Rattle.kakinoki.specs.Informations.{header_at, Said, information_at, is_line
 use Rattle.kakinoki.specs.inner.Blocks.{block_at}
 use Rattle.kakinoki.specs.declared.Told.{Told}
 use Rattle.kakinoki.specs.declared.Information.{Information}
-use Rattle.kakinoki.specs.declared.Fault.{Fault}
 use Rattle.kakinoki.specs.declared.InformationBlock.{InformationBlock}
 use Rattle.kakinoki.proofs.Items.{line_at, item, item_more, item_stop, item_goes}
 use Rattle.kakinoki.proofs.Places.{places_more, places_stop, block_five, block_within}
@@ -30,7 +30,7 @@ low-length [] = refl
 low-length (x ∷ a) = omega (arith, low-length a)
 
 -- a block
-abbrev pub made : Told → ℕ → Fault → Cursor → InformationBlock
+abbrev pub made : Told → ℕ → Option ℕ → Cursor → InformationBlock
 made t n f c = record { told = t; headers = n; fault = f; next = c }
 
 -- from `start` to `at` the block has said t, and n header lines are found and kept in o; what is said from `at` on is still to come
@@ -105,6 +105,6 @@ module _ {s : List ℕ} {start : ℕ} {o₀ : List ℕ} {t : Told} {n at : ℕ} 
           let u : t ≡ tell_all untold (informations_at s start).state = sym (w.says ∙ ap (λ (b : Ended (List Said)). tell_all t b.state) m) in
           let v : at ≡ (informations_at s start).at = sym (w.ends ∙ ap (λ (b : Ended (List Said)). b.at) m) in
           let e : n ≡ length (header_places_at s start) = omega (arith, w.counts) in
-          ap (λ (x : Fault). made t n x (cursor at)) f ∙ ap (λ (x : Told). made x n (fault_at s at) (cursor at)) u
+          ap (λ (x : Option ℕ). made t n x (cursor at)) f ∙ ap (λ (x : Told). made x n (fault_at s at) (cursor at)) u
           ∙ ap (λ (x : ℕ). made (tell_all untold (informations_at s start).state) x (fault_at s at) (cursor at)) e
           ∙ ap (λ (x : ℕ). made (tell_all untold (informations_at s start).state) (length (header_places_at s start)) (fault_at s x) (cursor x)) v

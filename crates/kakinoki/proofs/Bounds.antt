@@ -1,5 +1,6 @@
 -- The moves begin within the text: a diagram that is there ends past a line break, and an information block within the text.
 -- Assumes nothing.
+use Rattle.std.specs.Prelude.{Some}
 use Prim.Native.Nat.{ℕ, ◌≤◌}
 use native.Mathlib.Omega.{arith}
 use mathlib.Core.Path.{◌≡◌}
@@ -9,7 +10,6 @@ use lib.ListN.{length}
 use Rattle.lists.proofs.Laws.{by_pick}
 use Rattle.text.specs.Text.{tag_at, break_at}
 use Rattle.text.specs.declared.Cursor.{Cursor}
-use Rattle.text.specs.declared.Place.TheVariants.{Past}
 use Rattle.text.proofs.Laws.{break_after, place_back}
 use Rattle.text.proofs.Answers.{by_past}
 use Rattle.spell.specs.Words.{files_tag, rule_tag}
@@ -18,7 +18,7 @@ use Rattle.kakinoki.specs.Starts.{first_block, diagram, second_place, start_read
 use Rattle.kakinoki.specs.declared.Board.{Board}
 use Rattle.kakinoki.proofs.Places.{block_within}
 
-ruled_within : (t s : List ℕ) (at : ℕ) (c : Cursor) → ruled_at t s at ≡ Past c → c.at ≤ length s
+ruled_within : (t s : List ℕ) (at : ℕ) (c : Cursor) → ruled_at t s at ≡ Some c → c.at ≤ length s
 ruled_within t s at c e =
     let (d, p, q) = place_back (tag_at t s at) (λ d. break_at s d.at) c e in
     (break_after s d.at c q).within

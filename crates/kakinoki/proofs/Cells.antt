@@ -1,5 +1,6 @@
 -- Laws of a diagram: how its cells and rows are read one after another, and that its cells are cells.
 -- Assumes nothing.
+use Rattle.std.specs.Prelude.{Option, Some, None}
 use Prim.Native.Nat.{ℕ, zero, suc, ◌+◌, ◌*◌, ◌-◌, ◌≤◌, ◌<◌}
 use native.Mathlib.Omega.{arith}
 use mathlib.Core.Path.{◌≡◌, refl}
@@ -11,8 +12,6 @@ use Rattle.lists.proofs.Laws.{by_pick}
 use Rattle.text.specs.Text.{cursor, tag_at}
 use Rattle.text.specs.declared.Cursor.{Cursor}
 use Rattle.text.proofs.Answers.{by_place}
-use Rattle.spell.specs.declared.Spelled.{Spelled}
-use Rattle.spell.specs.declared.Spelled.TheVariants.{As, Not}
 use Rattle.spell.proofs.Answers.{OnSpelled, is_as, is_not, by_spelled}
 use Rattle.block.specs.Sound.{is_cell}
 use Rattle.kakinoki.specs.Boards.{board, no_cells, no_board, white_at, cell_at, cells_from, row_end_at, row_at, rows_from, ruled_at, board_at}
@@ -24,13 +23,13 @@ use Rattle.kakinoki.proofs.Reach.{kind_known, spelled-map}
 -- ---- the cells of a row
 
 module _ (s : List ℕ) (rank : ℕ) where
-  pub cells-more : (n at : ℕ) (cells : List ℕ) (v : ℕ) (c : Cursor) → 0 < n → cell_at s at ≡ As v c
+  pub cells-more : (n at : ℕ) (cells : List ℕ) (v : ℕ) (c : Cursor) → 0 < n → cell_at s at ≡ Some (v, c)
       → cells_from s rank n at cells ≡ cells_from s rank (n - 1) c.at (set cells (9 * (n - 1) + rank) v)
   unfolding cells_from
   cells-more zero at cells v c h e = absurd (omega arith)
   cells-more (suc n) at cells v c h e = let z : suc n - 1 ≡ n = omega arith in rw (e, z)
 
-  pub cells-none : (n at : ℕ) (cells : List ℕ) → 0 < n → cell_at s at ≡ Not → cells_from s rank n at cells ≡ no_board
+  pub cells-none : (n at : ℕ) (cells : List ℕ) → 0 < n → cell_at s at ≡ None → cells_from s rank n at cells ≡ no_board
   unfolding cells_from
   cells-none zero at cells h e = absurd (omega arith)
   cells-none (suc n) at cells h e = rw e
@@ -81,7 +80,7 @@ cell_known s at =
     (tag_at empty_tag s at)
     (λ c. is_as refl)
   where
-    Q : Spelled → Type 0
+    Q : Option (ℕ × Cursor) → Type 0
     Q = OnSpelled (λ v c. Cell v)
 
 -- ---- the cells of a board are 81 cells

@@ -1,5 +1,6 @@
 -- A diagram that is there goes on past its place.
 -- Assumes nothing.
+use Rattle.std.specs.Prelude.{Option, Some}
 use Prim.Native.Nat.{ℕ, zero, suc, ◌+◌, ◌*◌, ◌≤◌, ◌<◌}
 use native.Mathlib.Omega.{arith}
 use mathlib.Core.Path.{◌≡◌, refl}
@@ -9,12 +10,9 @@ use lib.ListN.{length, set}
 use Rattle.lists.proofs.Laws.{by_pick}
 use Rattle.text.specs.Text.{tag_at, break_at}
 use Rattle.text.specs.declared.Cursor.{Cursor}
-use Rattle.text.specs.declared.Place.{Place}
-use Rattle.text.specs.declared.Place.TheVariants.{Past}
 use Rattle.text.proofs.Laws.{no_past, break_after, tag_after, place_back}
 use Rattle.text.proofs.Answers.{by_past}
 use Rattle.spell.specs.Tables.{numerals}
-use Rattle.spell.specs.declared.Spelled.{Spelled}
 use Rattle.spell.proofs.Answers.{OnSpelled, is_as, is_not, by_spelled}
 use Rattle.kakinoki.specs.Boards.{no_cells, no_board, white_at, cell_at, cells_from, row_end_at, row_at, rows_from, ruled_at, board_at}
 use Rattle.spell.specs.Words.{files_tag, rule_tag, empty_tag}
@@ -39,10 +37,10 @@ cell_from s at =
     (tag_at empty_tag s at)
     (λ c w. let a = tag_after empty_tag s at c (omega arith) w in is_as (omega (arith, a.past)))
   where
-    Q : Spelled → Type 0
+    Q : Option (ℕ × Cursor) → Type 0
     Q = OnSpelled (λ v c. at ≤ c.at)
 
-    behind : (t : List ℕ) (c d : Cursor) → 0 < length t → tag_at t s at ≡ Past c → c.at < d.at → at ≤ d.at
+    behind : (t : List ℕ) (c d : Cursor) → 0 < length t → tag_at t s at ≡ Some c → c.at < d.at → at ≤ d.at
     behind t c d n w h = let a = tag_after t s at c n w in omega (arith, a.past)
 
 cells-from : (s : List ℕ) (rank n at : ℕ) (cells : List ℕ) → Onward at (cells_from s rank n at cells)
@@ -51,7 +49,7 @@ cells-from s rank zero at cells = λ t. omega arith
 cells-from s rank (suc n) at cells =
     by_spelled (Onward at) none (cell_from s at) (λ v c h t. omega (arith, cells-from s rank n c.at (set cells (9 * n + rank) v) t))
 
-row-end-from : (s : List ℕ) (at : ℕ) (c : Cursor) → row_end_at s at ≡ Past c → at ≤ c.at
+row-end-from : (s : List ℕ) (at : ℕ) (c : Cursor) → row_end_at s at ≡ Some c → at ≤ c.at
 unfolding row_end_at
 row-end-from s at c =
     by_past Q (no_past c) (tag_at (124 ∷ []) s at)
@@ -60,8 +58,8 @@ row-end-from s at c =
     let b = break_after s e.at c q in
     omega (arith, t.past, a.past, b.past)))
   where
-    Q : Place → Type 0
-    Q p = p ≡ Past c → at ≤ c.at
+    Q : Option Cursor → Type 0
+    Q p = p ≡ Some c → at ≤ c.at
 
 row_from : (s : List ℕ) (rank at : ℕ) (cells : List ℕ) → Onward at (row_at s rank at cells)
 unfolding row_at
@@ -82,7 +80,7 @@ rows-from s rank (suc n) at cells =
     by_pick (Onward at) b.there _ no_board
     (λ t u. omega (arith, row_from s rank at cells t, rows-from s (rank + 1) n b.next.at b.cells u)) (λ _. none)
 
-ruled_from : (t s : List ℕ) (at : ℕ) (c : Cursor) → 0 < length t → ruled_at t s at ≡ Past c → at ≤ c.at
+ruled_from : (t s : List ℕ) (at : ℕ) (c : Cursor) → 0 < length t → ruled_at t s at ≡ Some c → at ≤ c.at
 ruled_from t s at c n e =
     let (d, p, q) = place_back _ (λ d. break_at s d.at) c e in
     let a = tag_after t s at d n p in

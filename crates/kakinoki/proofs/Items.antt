@@ -1,5 +1,6 @@
 -- Information lines one after the other: each goes on past its place, and no further than the text.
 -- Assumes nothing.
+use Rattle.std.specs.Prelude.{Option, Some, None}
 use Prim.Native.Nat.{ℕ, ◌+◌, ◌*◌, ◌≤◌, ◌<◌}
 use native.Mathlib.Omega.{arith}
 use mathlib.Core.Path.{◌≡◌, refl}
@@ -17,7 +18,6 @@ use Rattle.kakinoki.specs.Informations.{on_held, on_key_value, empty_hand, hand_
 use Rattle.kakinoki.specs.declared.Held.{Held}
 use Rattle.kakinoki.specs.declared.Held.TheVariants.{By, Unreadable, NoHand}
 use Rattle.kakinoki.specs.declared.KeyValue.{KeyValue}
-use Rattle.kakinoki.specs.declared.KeyValue.TheVariants.{Pair, NoPair}
 use Rattle.kakinoki.specs.declared.Info.{Info}
 use Rattle.kakinoki.specs.declared.Info.TheVariants.{Preset, Turn, Hands, Keyed, Refused, Nothing}
 use Rattle.kakinoki.specs.declared.Information.{Information}
@@ -40,9 +40,9 @@ module _ (s : List ℕ) (at : ℕ) where
   unfolding keyed_at
   keyed_tells = go (key_value_at s at) refl
     where
-      go : (r : KeyValue) → key_value_at s at ≡ r → Told (on_key_value r (λ from to next. information Keyed empty_hand next) (information Nothing empty_hand (cursor at)))
-      go (Pair from to next) e = pair_known s at from to next e
-      go NoPair e = tt
+      go : (r : Option KeyValue) → key_value_at s at ≡ r → Told (on_key_value r (λ from to next. information Keyed empty_hand next) (information Nothing empty_hand (cursor at)))
+      go (Some r) e = pair_known s at r.from r.to r.next e
+      go None e = tt
 
   hands-tell : Told (hands_or_keyed_at s at)
   unfolding hands_or_keyed_at

@@ -1,5 +1,6 @@
 -- How far a line goes: past its place, and no further than the text.
 -- Assumes nothing.
+use Rattle.std.specs.Prelude.{Option, Some, None}
 use Prim.Native.Nat.{ℕ, ◌+◌, ◌≤◌, ◌<◌}
 use native.Mathlib.Omega.{arith}
 use mathlib.Core.Path.{◌≡◌, refl, sym, ap}
@@ -14,12 +15,9 @@ use Rattle.lists.proofs.Laws.{by_pick}
 use Rattle.lists.proofs.Repeats.{ItemGoes, many_more, many_stop, many-from}
 use Rattle.text.specs.Text.{cursor, on_place, stands_at, tag_at, break_at, tail_at, line_end_at, padding_at, wide_colon, key_at}
 use Rattle.text.specs.declared.Cursor.{Cursor}
-use Rattle.text.specs.declared.Place.{Place}
-use Rattle.text.specs.declared.Place.TheVariants.{Past, Absent}
 use Rattle.text.proofs.Laws.{After, no_past, break_after, tail_from, line-end_after, tag_after, place_back}
 use Rattle.text.proofs.Answers.{by_past}
 use Rattle.spell.specs.Tables.{presets, sides}
-use Rattle.spell.specs.declared.Spelled.{Spelled}
 use Rattle.spell.proofs.Answers.{OnSpelled, is_as, is_not, by_spelled}
 use Rattle.kakinoki.specs.Informations.{on_key_value, hash_line_at, hash_item, hash_lines_at, padded_end_at, ends_line, preset_line_at, turn_line_at, empty_hand, piece_step, pieces_at, hand_at, held_at, hand_line_at, value_at, key_value_at}
 use Rattle.spell.specs.Words.{preset_tag, turn_tag, hands_tag, none_tag}
@@ -28,13 +26,12 @@ use Rattle.kakinoki.specs.declared.HandSaid.{HandSaid}
 use Rattle.kakinoki.specs.declared.Held.{Held}
 use Rattle.kakinoki.specs.declared.Held.TheVariants.{By, Unreadable, NoHand}
 use Rattle.kakinoki.specs.declared.KeyValue.{KeyValue}
-use Rattle.kakinoki.specs.declared.KeyValue.TheVariants.{Pair, NoPair}
 use Rattle.kakinoki.proofs.Pieces.{piece_goes}
 use Rattle.kakinoki.proofs.Reach.{repeat_keeps, padding_on, spelled-map, first_after, onward}
 
 -- ---- # lines
 
-hash_after : (s : List ℕ) (at : ℕ) (c : Cursor) → hash_line_at s at ≡ Past c → After at (length s) c
+hash_after : (s : List ℕ) (at : ℕ) (c : Cursor) → hash_line_at s at ≡ Some c → After at (length s) c
 unfolding hash_line_at
 hash_after s at c e =
     let (d, p, q) = place_back _ (λ d. line_end_at s d.at) c e in
@@ -45,21 +42,21 @@ hash_after s at c e =
 hash_goes : (s : List ℕ) → ItemGoes (hash_item s) (length s)
 hash_goes s at next a e = go (hash_line_at s at) refl e
   where
-    go : (r : Place) → hash_line_at s at ≡ r → on_place r (λ c. more c.at tt) stop ≡ more next a → (at < next) × (next ≤ length s)
-    go (Past c) p e =
+    go : (r : Option Cursor) → hash_line_at s at ≡ r → on_place r (λ c. more c.at tt) stop ≡ more next a → (at < next) × (next ≤ length s)
+    go (Some c) p e =
         let h = hash_after s at c p in
         let n : c.at ≡ next = cc in
         (omega (arith, h.past), omega (arith, h.within))
-    go Absent p e = let z : ◌≡◌ {A = ℕ} 0 1 = cc in absurd (omega arith)
+    go None p e = let z : ◌≡◌ {A = ℕ} 0 1 = cc in absurd (omega arith)
 
 module _ (s : List ℕ) (at : ℕ) where
   -- one more is passed, within the text
-  pub hash_more : (c : Cursor) → hash_line_at s at ≡ Past c → After at (length s) c × (hash_lines_at s at ≡ hash_lines_at s c.at)
+  pub hash_more : (c : Cursor) → hash_line_at s at ≡ Some c → After at (length s) c × (hash_lines_at s at ≡ hash_lines_at s c.at)
   unfolding hash_lines_at
   hash_more c e =
       (hash_after s at c e, ap (λ (r : Ended (List (Unit {0}))). r.at) (many_more (hash_item s) (length s) (hash_goes s) at c.at tt (rw e)))
 
-  pub hash_stop : hash_line_at s at ≡ Absent → hash_lines_at s at ≡ at
+  pub hash_stop : hash_line_at s at ≡ None → hash_lines_at s at ≡ at
   unfolding hash_lines_at
   hash_stop e = ap (λ (r : Ended (List (Unit {0}))). r.at) (many_stop (hash_item s) (length s) at (rw e))
 
@@ -69,7 +66,7 @@ module _ (s : List ℕ) (at : ℕ) where
 
 -- ---- padding and a break
 
-padded_after : (s : List ℕ) (at : ℕ) (c : Cursor) → padded_end_at s at ≡ Past c → After at (length s) c
+padded_after : (s : List ℕ) (at : ℕ) (c : Cursor) → padded_end_at s at ≡ Some c → After at (length s) c
 unfolding padded_end_at
 padded_after s at c e =
     let p = (padding_on s at).from in
@@ -79,7 +76,7 @@ padded_after s at c e =
 -- ---- preset and turn
 
 module _ (s : List ℕ) where
-  abbrev pub Passes : ℕ → Spelled → Type 0
+  abbrev pub Passes : ℕ → Option (ℕ × Cursor) → Type 0
   Passes at = OnSpelled (λ n c. After at (length s) c)
 
   ends_after : (n at : ℕ) → Passes at (ends_line s n at)
@@ -142,9 +139,9 @@ hand-line_after s at =
 
 -- ---- key and value
 
-abbrev OnPair : (Cursor → Cursor → Cursor → Type 0) → KeyValue → Type 0
-OnPair P (Pair from to next) = P from to next
-OnPair P NoPair = Unit {0}
+abbrev OnPair : (Cursor → Cursor → Cursor → Type 0) → Option KeyValue → Type 0
+OnPair P (Some p) = P p.from p.to p.next
+OnPair P None = Unit {0}
 
 -- where a value stands whose ： is at a place
 record Valued (s : List ℕ) (at : ℕ) (from to next : Cursor) : Type 0 where
@@ -153,11 +150,11 @@ record Valued (s : List ℕ) (at : ℕ) (from to next : Cursor) : Type 0 where
   past : to.at < next.at
   within : next.at ≤ length s
 
-tag_is : (t s : List ℕ) (at : ℕ) (c : Cursor) → tag_at t s at ≡ Past c → c.at ≡ at + length t
+tag_is : (t s : List ℕ) (at : ℕ) (c : Cursor) → tag_at t s at ≡ Some c → c.at ≡ at + length t
 unfolding tag_at
 tag_is t s at c e =
-    by_pick (λ (r : Place). r ≡ Past c → c.at ≡ at + length t) (stands_at t s at) (Past (cursor (at + length t))) Absent
-    (λ _ q. ap (λ (r : Place). on_place r (λ d. d.at) 0) (sym q)) (λ _ q. no_past c q) e
+    by_pick (λ (r : Option Cursor). r ≡ Some c → c.at ≡ at + length t) (stands_at t s at) (Some (cursor (at + length t))) None
+    (λ _ q. ap (λ (r : Option Cursor). on_place r (λ d. d.at) 0) (sym q)) (λ _ q. no_past c q) e
 
 value_known : (s : List ℕ) (at : ℕ) → OnPair (Valued s at) (value_at s at)
 unfolding value_at
@@ -168,33 +165,33 @@ value_known s at =
     (λ next r. let b = break_after s to.at next r in
     record { colon = tag_is wide_colon s at from p; onward = tail_from s from.at to q; past = b.past; within = b.within })))
   where
-    Q : KeyValue → Type 0
+    Q : Option KeyValue → Type 0
     Q = OnPair (Valued s at)
 
 -- a header line stands at a place, and the text goes on at `next`
 pub record HeaderLine (s : List ℕ) (at : ℕ) (next : Cursor) : Type 0 where
   pub from : Cursor
   pub to : Cursor
-  pub is : key_value_at s at ≡ Pair from to next
+  pub is : key_value_at s at ≡ Some (record { from = from; to = to; next = next })
   pub named : 0 < length (key_at s at)
   pub colon : from.at ≡ at + length (key_at s at) + 3
   pub onward : from.at ≤ to.at
   pub past : to.at < next.at
   pub within : next.at ≤ length s
 
-pub pair_known : (s : List ℕ) (at : ℕ) (from to next : Cursor) → key_value_at s at ≡ Pair from to next → HeaderLine s at next
+pub pair_known : (s : List ℕ) (at : ℕ) (from to next : Cursor) → key_value_at s at ≡ Some (record { from = from; to = to; next = next }) → HeaderLine s at next
 unfolding key_value_at
 pair_known s at from to next e = go (eqb (length (key_at s at)) 0) refl (value_at s (at + length (key_at s at))) refl (value_known s (at + length (key_at s at))) e
   where
-    go : (t : Bool) → eqb (length (key_at s at)) 0 ≡ t → (r : KeyValue) → value_at s (at + length (key_at s at)) ≡ r
-        → OnPair (Valued s (at + length (key_at s at))) r → pick t NoPair r ≡ Pair from to next → HeaderLine s at next
-    go true z r w v e = let f : ◌≡◌ {A = ℕ} 0 1 = ap (λ (k : KeyValue). on_key_value k (λ _ _ _. 1) 0) e in absurd (omega arith)
-    go false z (Pair from' to' next') w v e =
-        let n : next' ≡ next = cc in
+    go : (t : Bool) → eqb (length (key_at s at)) 0 ≡ t → (r : Option KeyValue) → value_at s (at + length (key_at s at)) ≡ r
+        → OnPair (Valued s (at + length (key_at s at))) r → pick t None r ≡ Some (record { from = from; to = to; next = next }) → HeaderLine s at next
+    go true z r w v e = let f : ◌≡◌ {A = ℕ} 0 1 = ap (λ (k : Option KeyValue). on_key_value k (λ _ _ _. 1) 0) e in absurd (omega arith)
+    go false z (Some r) w v e =
+        let n : r.next ≡ next = cc in
         let k : length (key_at s at) ≡ 0 → ⊥ = eqb-false _ _ z in
         record {
-          from = from';
-          to = to';
+          from = r.from;
+          to = r.to;
           is = rw (z, w, n);
           named = omega arith;
           colon = v.colon;
@@ -202,4 +199,4 @@ pair_known s at from to next e = go (eqb (length (key_at s at)) 0) refl (value_a
           past = rw n at v.past;
           within = rw n at v.within;
         }
-    go false z NoPair w v e = let f : ◌≡◌ {A = ℕ} 0 1 = ap (λ (k : KeyValue). on_key_value k (λ _ _ _. 1) 0) e in absurd (omega arith)
+    go false z None w v e = let f : ◌≡◌ {A = ℕ} 0 1 = ap (λ (k : Option KeyValue). on_key_value k (λ _ _ _. 1) 0) e in absurd (omega arith)

@@ -1,5 +1,6 @@
 -- Laws of the pieces of a hand: each goes on, and the counts that they make are seven bytes.
 -- Assumes nothing.
+use Rattle.std.specs.Prelude.{Option, Some, None}
 use Prim.Native.Nat.{ℕ, ◌+◌, ◌-◌, ◌≤◌, ◌<◌}
 use native.Mathlib.Omega.{arith}
 use mathlib.Core.Path.{◌≡◌, refl, sym, subst, ap, ◌∙◌}
@@ -19,7 +20,6 @@ use Rattle.spell.proofs.Answers.{by_spelled}
 use Rattle.kakinoki.specs.Informations.{on_piece, hand, piece_at, empty_hand, piece_step, pieces_at, hand_at}
 use Rattle.spell.specs.Words.{none_tag}
 use Rattle.kakinoki.specs.declared.Piece.{Piece}
-use Rattle.kakinoki.specs.declared.Piece.TheVariants.{Of, NoPiece}
 use Rattle.kakinoki.specs.declared.Hand.{Hand}
 use Rattle.kakinoki.proofs.Filled.{Filled, filled-set, filled_zeros}
 use Rattle.kakinoki.proofs.Reach.{Kind, kind_known, onward, count_after, padding_on, repeat_keeps}
@@ -27,9 +27,9 @@ use Rattle.kakinoki.proofs.Reach.{Kind, kind_known, onward, count_after, padding
 -- ---- one piece
 
 -- what holds of a piece that is there
-abbrev OnPiece : (ℕ → ℕ → Cursor → Type 0) → Piece → Type 0
-OnPiece P (Of k n c) = P k n c
-OnPiece P NoPiece = Unit {0}
+abbrev OnPiece : (ℕ → ℕ → Cursor → Type 0) → Option Piece → Type 0
+OnPiece P (Some p) = P p.kind p.count p.next
+OnPiece P None = Unit {0}
 
 -- padding after a place that was reached
 padded : {at : ℕ} {c : Cursor} (s : List ℕ) → After at (length s) c → After at (length s) (cursor (padding_at s c.at))
@@ -52,18 +52,18 @@ piece_taken s at =
     (λ n d a. further h (onward h.after (padded s a))))
 
 -- a piece that was read is past its place
-pub piece_known : (s : List ℕ) (at : ℕ) {k n : ℕ} {c : Cursor} → piece_at s at ≡ Of k n c → Kind s at k c
+pub piece_known : (s : List ℕ) (at : ℕ) {k n : ℕ} {c : Cursor} → piece_at s at ≡ Some (record { kind = k; count = n; next = c }) → Kind s at k c
 piece_known s at e = subst (OnPiece (λ k n c. Kind s at k c)) e (piece_taken s at)
 
 -- ---- a step
 
 module _ (s : List ℕ) (at : ℕ) (held : List ℕ) where
-  pub step_none : piece_at s at ≡ NoPiece → piece_step s at held ≡ stop
+  pub step_none : piece_at s at ≡ None → piece_step s at held ≡ stop
   unfolding piece_step
   step_none e = rw e
 
   -- w is the kind as a number to reckon with
-  module _ (w : ℕ) {k n : ℕ} {c : Cursor} (e : piece_at s at ≡ Of k n c) (i : w ≡ k) where
+  module _ (w : ℕ) {k n : ℕ} {c : Cursor} (e : piece_at s at ≡ Some (record { kind = k; count = n; next = c })) (i : w ≡ k) where
     -- a kind that cannot be held
     pub step_high : 7 < w → piece_step s at held ≡ stop
     unfolding piece_step
@@ -101,26 +101,26 @@ taken s at held to made = go (piece_at s at) refl
     none : Q stop
     none q = let z : ◌≡◌ {A = ℕ} 0 1 = cc in absurd (omega arith)
 
-    go : (p : Piece) → piece_at s at ≡ p
+    go : (p : Option Piece) → piece_at s at ≡ p
         → Q (on_piece p
         (λ k n c. pick (ltb 7 k) stop
         (pick (ltb (255 - get_or held (k - 1) 0) n) stop (more c.at (set held (k - 1) (get_or held (k - 1) 0 + n)))))
         stop)
-    go (Of k n c) e =
-        by_pick Q (ltb 7 k) stop _ (λ _. none)
-        (λ _. by_pick Q (ltb (255 - get_or held (k - 1) 0) n) stop _ (λ _. none)
+    go (Some r) e =
+        by_pick Q (ltb 7 r.kind) stop _ (λ _. none)
+        (λ _. by_pick Q (ltb (255 - get_or held (r.kind - 1) 0) r.count) stop _ (λ _. none)
         (λ f q. let a = (piece_known s at e).after in
         let p = a.past in
         let w = a.within in
-        let t : c.at ≡ to = cc in
-        let m : set held (k - 1) (get_or held (k - 1) 0 + n) ≡ made = cc in
-        let g : n ≤ 255 - get_or held (k - 1) 0 = ltb-false _ _ f in
+        let t : r.next.at ≡ to = cc in
+        let m : set held (r.kind - 1) (get_or held (r.kind - 1) 0 + r.count) ≡ made = cc in
+        let g : r.count ≤ 255 - get_or held (r.kind - 1) 0 = ltb-false _ _ f in
         record {
           past = omega arith;
           within = omega arith;
-          bytes = λ b. subst (Filled Byte 7) m (filled-set (k - 1) _ (omega (arith, room _ n (b.each (k - 1)) g)) b);
+          bytes = λ b. subst (Filled Byte 7) m (filled-set (r.kind - 1) _ (omega (arith, room _ r.count (b.each (r.kind - 1)) g)) b);
         }))
-    go NoPiece e = none
+    go None e = none
 
 pub piece_goes : (s : List ℕ) → Goes (piece_step s) (length s)
 piece_goes s at held to made e = let t = taken s at held to made e in (t.past, t.within)

@@ -1,5 +1,6 @@
 -- How far kinds, counts and padding go: past their place, and not past the end of the text. A kind is 1 to 14.
 -- Assumes nothing.
+use Rattle.std.specs.Prelude.{Option, Some, None}
 use Prim.Native.Nat.{ℕ, zero, suc, ◌+◌, ◌≤◌, max}
 use native.Mathlib.Omega.{arith}
 use mathlib.Core.Path.{◌≡◌, refl}
@@ -11,15 +12,12 @@ use Rattle.lists.specs.Repeat.{Step, more, stop, ended, on_step, repeat_from}
 use Rattle.lists.proofs.Laws.{by_pick}
 use Rattle.text.specs.Text.{tag_at, pad_width, width_step, past_all, padding_at}
 use Rattle.text.specs.declared.Cursor.{Cursor}
-use Rattle.text.specs.declared.Place.TheVariants.{Past}
 use Rattle.text.proofs.Laws.{After, tag_after}
 use Rattle.text.proofs.Answers.{by_past}
 use Rattle.text.proofs.Widths.{pad_within}
 use Rattle.spell.specs.Tables.{Spelling, kinds, numerals}
 use Rattle.spell.specs.Spell.{first_of, has_number}
 use Rattle.spell.specs.Count.{ten, tens_at, hand_count_at}
-use Rattle.spell.specs.declared.Spelled.{Spelled}
-use Rattle.spell.specs.declared.Spelled.TheVariants.{As, Not}
 use Rattle.spell.proofs.Answers.{OnSpelled, is_as, is_not, as_is, by_spelled, below, first-within, first_known, first_some}
 
 -- ---- repetitions
@@ -61,11 +59,11 @@ padding_on s at = repeat_keeps (width_step (pad_width s)) (λ to u. On (length s
 -- ---- answers
 
 -- what holds of an answer's values, whichever they are
-pub spelled-all : {P : ℕ → Cursor → Type 0} (r : Spelled) → ((n : ℕ) (c : Cursor) → r ≡ As n c → P n c) → OnSpelled P r
-spelled-all (As n c) k = is_as (k n c refl)
-spelled-all Not k = is_not
+pub spelled-all : {P : ℕ → Cursor → Type 0} (r : Option (ℕ × Cursor)) → ((n : ℕ) (c : Cursor) → r ≡ Some (n, c) → P n c) → OnSpelled P r
+spelled-all (Some (n, c)) k = is_as (k n c refl)
+spelled-all None k = is_not
 
-pub spelled-map : {P Q : ℕ → Cursor → Type 0} {r : Spelled} → ((n : ℕ) (c : Cursor) → P n c → Q n c) → OnSpelled P r → OnSpelled Q r
+pub spelled-map : {P Q : ℕ → Cursor → Type 0} {r : Option (ℕ × Cursor)} → ((n : ℕ) (c : Cursor) → P n c → Q n c) → OnSpelled P r → OnSpelled Q r
 spelled-map k (is_as {n} {c} h) = is_as (k n c h)
 spelled-map k is_not = is_not
 
@@ -103,7 +101,7 @@ module _ (s : List ℕ) where
   numeral_after : (at : ℕ) → OnSpelled (λ n c. After at (length s) c) (first_of numerals s at)
   numeral_after = first_after 10 numerals refl s
 
-  ten_after : (at : ℕ) (c : Cursor) → tag_at ten s at ≡ Past c → After at (length s) c
+  ten_after : (at : ℕ) (c : Cursor) → tag_at ten s at ≡ Some c → After at (length s) c
   ten_after at c e = tag_after ten s at c (omega arith) e
 
   tens_after : (at : ℕ) → OnSpelled (λ n c. After at (length s) c) (tens_at s at)
@@ -112,7 +110,7 @@ module _ (s : List ℕ) where
       by_spelled Q (by_past Q is_not (tag_at ten s at) (λ e w. is_as (ten_after at e w))) (numeral_after at)
       (λ d c a. by_past Q is_not (tag_at ten s c.at) (λ e w. is_as (onward a (ten_after c.at e w))))
     where
-      Q : Spelled → Type 0
+      Q : Option (ℕ × Cursor) → Type 0
       Q = OnSpelled (λ n c. After at (length s) c)
 
   -- a count is passed
@@ -122,5 +120,5 @@ module _ (s : List ℕ) where
       by_spelled Q (numeral_after at) (tens_after at)
       (λ t c a. by_spelled Q (is_as a) (numeral_after c.at) (λ d e b. is_as (onward a b)))
     where
-      Q : Spelled → Type 0
+      Q : Option (ℕ × Cursor) → Type 0
       Q = OnSpelled (λ n c. After at (length s) c)

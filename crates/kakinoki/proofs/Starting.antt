@@ -1,5 +1,6 @@
 -- What the parts before the moves make, over plain values.
 -- Assumes nothing.
+use Rattle.std.specs.Prelude.{Option}
 use Prim.Native.Nat.{ℕ, ◌+◌, ◌≤◌}
 use native.Mathlib.Omega.{arith}
 use mathlib.Core.Path.{◌≡◌, sym}
@@ -13,14 +14,13 @@ use Rattle.kakinoki.specs.inner.Blocks.{block_at}
 use Rattle.kakinoki.specs.Boards.{board_at}
 use Rattle.kakinoki.specs.Starts.{merged, position_said, second_place, header_places, start_read}
 use Rattle.kakinoki.specs.declared.Told.{Told}
-use Rattle.kakinoki.specs.declared.Fault.{Fault}
 use Rattle.kakinoki.specs.declared.InformationBlock.{InformationBlock}
 use Rattle.kakinoki.specs.declared.Board.{Board}
 use Rattle.kakinoki.specs.declared.Start.{Start}
 use Rattle.kakinoki.proofs.Places.{block_five, block_within}
 use Rattle.kakinoki.proofs.Blocks.{low-append}
 
-abbrev pub starting : Fault → Position → ℕ → Cursor → Start
+abbrev pub starting : Option ℕ → Position → ℕ → Cursor → Start
 starting f p n c = record { fault = f; position = p; headers = n; next = c }
 
 -- a block's header lines, which are no more than the bytes of the text

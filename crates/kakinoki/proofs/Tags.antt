@@ -1,5 +1,6 @@
 -- What the last arm of a `match` says, which is told the tags that are left.
 -- Assumes nothing.
+use Rattle.std.specs.Prelude.{None}
 use Prim.Native.Nat.{ℕ}
 use native.Mathlib.Omega.{arith}
 use mathlib.Core.Path.{◌≡◌, refl}
@@ -12,11 +13,10 @@ use Rattle.kakinoki.specs.Informations.{said_of, fault_of, tell, keyed_place}
 use Rattle.kakinoki.specs.declared.Info.{Info}
 use Rattle.kakinoki.specs.declared.Info.TheVariants.{Preset, Turn, Hands, Keyed, Refused, Nothing}
 use Rattle.kakinoki.specs.declared.Told.{Told}
-use Rattle.kakinoki.specs.declared.Fault.TheVariants.{NoFault}
 use Rattle.kakinoki.specs.contracts.Info.{the_type}
 
 -- all but a hand line that cannot be read
-pub fault_else : (i : Info) (at : ℕ) → OneOf (0 ∷ 1 ∷ 2 ∷ 3 ∷ 5 ∷ []) (tag_of the_type i) → fault_of i at ≡ NoFault
+pub fault_else : (i : Info) (at : ℕ) → OneOf (0 ∷ 1 ∷ 2 ∷ 3 ∷ 5 ∷ []) (tag_of the_type i) → fault_of i at ≡ None
 fault_else (Preset n) at h = refl
 fault_else (Turn n) at h = refl
 fault_else (Hands side) at h = refl

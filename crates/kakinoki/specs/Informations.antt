@@ -1,51 +1,41 @@
 -- Information lines and the blocks that they make.                                                   (01, Reading rules: information block)
 -- Assumes nothing: these are definitions.
-use Rattle.std.specs.Prelude.{ℕ, zero, suc, ◌+◌, ◌-◌, ◌%◌, List, [], ◌∷◌, ◌++◌, Bool, true, false, length, take, drop, get_or, set, eqb, ltb}
+use Rattle.std.specs.Prelude.{ℕ, zero, suc, ◌+◌, ◌-◌, ◌%◌, List, [], ◌∷◌, ◌++◌, Bool, true, false, length, take, drop, get_or, set, eqb, ltb, Option, Some, None}
 use Rattle.lists.specs.Pick.{pick}
 use Rattle.lists.specs.Repeat.{Step, more, stop, Ended, on_step, repeat_from, many_from}
 use Rattle.text.specs.Text.{cursor, on_place, tag_at, break_at, tail_at, line_end_at, padding_at, wide_colon, key_at}
 use Rattle.text.specs.declared.Cursor.{Cursor}
-use Rattle.text.specs.declared.Place.{Place}
-use Rattle.text.specs.declared.Place.TheVariants.{Absent}
 use Rattle.spell.specs.Words.{preset_tag, turn_tag, hands_tag, none_tag}
 use Rattle.spell.specs.Spell.{on_spelled, first_of}
 use Rattle.spell.specs.Tables.{kinds, presets, sides}
 use Rattle.spell.specs.Count.{hand_count_at}
-use Rattle.spell.specs.declared.Spelled.{Spelled}
-use Rattle.spell.specs.declared.Spelled.TheVariants.{As, Not}
 use Rattle.jkf.specs.Model.{Header}
 use Rattle.kakinoki.specs.declared.Piece.{Piece}
-use Rattle.kakinoki.specs.declared.Piece.TheVariants.{Of, NoPiece}
 use Rattle.kakinoki.specs.declared.Hand.{Hand}
 use Rattle.kakinoki.specs.declared.Held.{Held}
 use Rattle.kakinoki.specs.declared.Held.TheVariants.{By, Unreadable, NoHand}
 use Rattle.kakinoki.specs.declared.HandSaid.{HandSaid}
 use Rattle.kakinoki.specs.declared.KeyValue.{KeyValue}
-use Rattle.kakinoki.specs.declared.KeyValue.TheVariants.{Pair, NoPair}
 use Rattle.kakinoki.specs.declared.Info.{Info}
 use Rattle.kakinoki.specs.declared.Info.TheVariants.{Preset, Turn, Hands, Keyed, Refused, Nothing}
 use Rattle.kakinoki.specs.declared.Information.{Information}
-use Rattle.kakinoki.specs.declared.Named.{Named}
-use Rattle.kakinoki.specs.declared.Named.TheVariants.{Is, Unsaid}
 use Rattle.kakinoki.specs.declared.Told.{Told}
-use Rattle.kakinoki.specs.declared.Fault.{Fault}
-use Rattle.kakinoki.specs.declared.Fault.TheVariants.{NoFault, At}
 
 -- ---- words
 
 -- Answers taken apart: what to do with their values, and what stands for the other cases.
-abbrev pub on_piece : {A : Type 0} → Piece → (ℕ → ℕ → Cursor → A) → A → A
-on_piece (Of k n c) f d = f k n c
-on_piece NoPiece f d = d
+abbrev pub on_piece : {A : Type 0} → Option Piece → (ℕ → ℕ → Cursor → A) → A → A
+on_piece (Some r) f d = f r.kind r.count r.next
+on_piece None f d = d
 
 abbrev pub on_held : {A : Type 0} → Held → (ℕ → Cursor → A) → A → A → A
 on_held (By side c) f u d = f side c
 on_held Unreadable f u d = u
 on_held NoHand f u d = d
 
-abbrev pub on_key_value : {A : Type 0} → KeyValue → (Cursor → Cursor → Cursor → A) → A → A
-on_key_value (Pair from to next) f d = f from to next
-on_key_value NoPair f d = d
+abbrev pub on_key_value : {A : Type 0} → Option KeyValue → (Cursor → Cursor → Cursor → A) → A → A
+on_key_value (Some r) f d = f r.from r.to r.next
+on_key_value None f d = d
 
 abbrev pub hand : List ℕ → Cursor → Hand
 hand counts next = record { counts = counts; next = next }
@@ -56,8 +46,8 @@ hand_said held counts = record { held = held; counts = counts }
 -- ---- lines
 
 -- # and the rest of its line.                                                                        (the Rust's comment_line)
-unfoldable pub hash_line_at : List ℕ → ℕ → Place
-hash_line_at s at = on_place (tag_at (35 ∷ []) s at) (λ c. line_end_at s c.at) Absent
+unfoldable pub hash_line_at : List ℕ → ℕ → Option Cursor
+hash_line_at s at = on_place (tag_at (35 ∷ []) s at) (λ c. line_end_at s c.at) None
 
 abbrev pub hash_item : List ℕ → ℕ → Step (Unit {0})
 hash_item s at = on_place (hash_line_at s at) (λ c. more c.at tt) stop
@@ -67,29 +57,31 @@ unfoldable pub hash_lines_at : List ℕ → ℕ → ℕ
 hash_lines_at s at = (many_from (hash_item s) (length s) at).at
 
 -- Padding and a break.
-unfoldable pub padded_end_at : List ℕ → ℕ → Place
+unfoldable pub padded_end_at : List ℕ → ℕ → Option Cursor
 padded_end_at s at = break_at s (padding_at s at)
 
 -- A number, and the place past the padding and the break after it.
-abbrev pub ends_line : List ℕ → ℕ → ℕ → Spelled
-ends_line s n at = on_place (padded_end_at s at) (λ e. As n e) Not
+abbrev pub ends_line : List ℕ → ℕ → ℕ → Option (ℕ × Cursor)
+ends_line s n at = on_place (padded_end_at s at) (λ e. Some (n, e)) None
 
 -- 手合割： and one of the names.                                                                       (the Rust's information_line_preset)
-unfoldable pub preset_line_at : List ℕ → ℕ → Spelled
-preset_line_at s at = on_place (tag_at preset_tag s at) (λ c. on_spelled (first_of presets s c.at) (λ n d. ends_line s n d.at) Not) Not
+unfoldable pub preset_line_at : List ℕ → ℕ → Option (ℕ × Cursor)
+preset_line_at s at = on_place (tag_at preset_tag s at) (λ c. on_spelled (first_of presets s c.at) (λ n d. ends_line s n d.at) None) None
 
 -- A side and 番.                                                                                      (the Rust's information_line_color)
-unfoldable pub turn_line_at : List ℕ → ℕ → Spelled
-turn_line_at s at = on_spelled (first_of sides s at) (λ n c. on_place (tag_at turn_tag s c.at) (λ d. ends_line s n d.at) Not) Not
+unfoldable pub turn_line_at : List ℕ → ℕ → Option (ℕ × Cursor)
+turn_line_at s at = on_spelled (first_of sides s at) (λ n c. on_place (tag_at turn_tag s c.at) (λ d. ends_line s n d.at) None) None
 
 -- ---- hands                                                                                          (01, Reading rules: hands)
 
 -- A kind, a count or none for 1, padding.
-unfoldable pub piece_at : List ℕ → ℕ → Piece
+unfoldable pub piece_at : List ℕ → ℕ → Option Piece
 piece_at s at =
     on_spelled (first_of kinds s at)
-    (λ k c. on_spelled (hand_count_at s c.at) (λ n d. Of k n (cursor (padding_at s d.at))) (Of k 1 (cursor (padding_at s c.at))))
-    NoPiece
+    (λ k c. on_spelled (hand_count_at s c.at)
+    (λ n d. Some (record { kind = k; count = n; next = cursor (padding_at s d.at) }))
+    (Some (record { kind = k; count = 1; next = cursor (padding_at s c.at) })))
+    None
 
 abbrev pub empty_hand : List ℕ
 empty_hand = 0 ∷ 0 ∷ 0 ∷ 0 ∷ 0 ∷ 0 ∷ 0 ∷ []
@@ -125,15 +117,15 @@ hand_line_at s at =
 -- ---- key and value                                                                                  (01, Reading rules: key and value)
 
 -- ： at a place, the value with its tail, and the break.
-unfoldable pub value_at : List ℕ → ℕ → KeyValue
+unfoldable pub value_at : List ℕ → ℕ → Option KeyValue
 value_at s at =
     on_place (tag_at wide_colon s at)
-    (λ from. on_place (tail_at s from.at) (λ to. on_place (break_at s to.at) (λ next. Pair from to next) NoPair) NoPair)
-    NoPair
+    (λ from. on_place (tail_at s from.at) (λ to. on_place (break_at s to.at) (λ next. Some (record { from = from; to = to; next = next })) None) None)
+    None
 
 -- A key that is not empty, and its value.                                                             (the Rust's information_line_keyvalue)
-unfoldable pub key_value_at : List ℕ → ℕ → KeyValue
-key_value_at s at = let r = value_at s (at + length (key_at s at)) in pick (eqb (length (key_at s at)) 0) NoPair r
+unfoldable pub key_value_at : List ℕ → ℕ → Option KeyValue
+key_value_at s at = let r = value_at s (at + length (key_at s at)) in pick (eqb (length (key_at s at)) 0) None r
 
 -- The header entry of the line that begins at a place.
 abbrev pub text_between : List ℕ → Cursor → Cursor → List ℕ
@@ -203,29 +195,29 @@ unfoldable pub informations_at : List ℕ → ℕ → Ended (List Said)
 informations_at s at = many_from (information_item s) (length s) at
 
 -- What ends a block is a hand line that cannot be read, or it is not.
-abbrev pub fault_of : Info → ℕ → Fault
-fault_of (Preset n) at = NoFault
-fault_of (Turn n) at = NoFault
-fault_of (Hands side) at = NoFault
-fault_of Keyed at = NoFault
-fault_of Refused at = At at
-fault_of Nothing at = NoFault
+abbrev pub fault_of : Info → ℕ → Option ℕ
+fault_of (Preset n) at = None
+fault_of (Turn n) at = None
+fault_of (Hands side) at = None
+fault_of Keyed at = None
+fault_of Refused at = Some at
+fault_of Nothing at = None
 
 -- Where a hand line begins that cannot be read, at the end of a block.                                (01, Numbers of refusal: 3)
-unfoldable pub fault_at : List ℕ → ℕ → Fault
+unfoldable pub fault_at : List ℕ → ℕ → Option ℕ
 fault_at s at = fault_of (information_at s (hash_lines_at s at)).info (hash_lines_at s at)
 
 -- ---- what a block says                                                                              (01, Reading rules: in one block the last wins)
 
-abbrev pub told : Named → Named → List ℕ → List ℕ → Told
+abbrev pub told : Option ℕ → Option ℕ → List ℕ → List ℕ → Told
 told preset turn black white = record { preset = preset; turn = turn; black = black; white = white }
 
 abbrev pub untold : Told
-untold = told Unsaid Unsaid empty_hand empty_hand
+untold = told None None empty_hand empty_hand
 
 unfoldable pub tell : Told → Said → Told
-tell t (of_preset n) = told (Is n) t.turn t.black t.white
-tell t (of_turn n) = told t.preset (Is n) t.black t.white
+tell t (of_preset n) = told (Some n) t.turn t.black t.white
+tell t (of_turn n) = told t.preset (Some n) t.black t.white
 tell t (of_hands side counts) = pick (eqb side 0) (told t.preset t.turn counts t.white) (told t.preset t.turn t.black counts)
 tell t (of_pair h) = t
 

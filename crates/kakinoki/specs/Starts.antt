@@ -1,6 +1,6 @@
 -- What stands before the moves: a block, a board or none, a block.                                    (01, Reading rules: order)
 -- Assumes nothing: these are definitions.
-use Rattle.std.specs.Prelude.{ℕ, ◌+◌, List, [], ◌∷◌, ◌++◌, length, replicate, ltb}
+use Rattle.std.specs.Prelude.{ℕ, ◌+◌, List, [], ◌∷◌, ◌++◌, length, replicate, ltb, Option, Some, None}
 use Rattle.lists.specs.Pick.{pick}
 use Rattle.lists.specs.Repeat.{Ended}
 use Rattle.text.specs.Text.{cursor}
@@ -8,28 +8,24 @@ use Rattle.jkf.specs.declared.Position.{Position}
 use Rattle.jkf.specs.Model.{Header}
 use Rattle.kakinoki.specs.Informations.{Said, told, untold, tell_all, pairs_of, header_places_at, informations_at, fault_at}
 use Rattle.kakinoki.specs.Boards.{board_at, no_cells}
-use Rattle.kakinoki.specs.declared.Named.{Named}
-use Rattle.kakinoki.specs.declared.Named.TheVariants.{Is, Unsaid}
 use Rattle.kakinoki.specs.declared.Told.{Told}
 use Rattle.kakinoki.specs.declared.Board.{Board}
-use Rattle.kakinoki.specs.declared.Fault.{Fault}
-use Rattle.kakinoki.specs.declared.Fault.TheVariants.{NoFault, At}
 use Rattle.kakinoki.specs.declared.Start.{Start}
 
 -- What is named, or else a number.
-abbrev pub named : Named → ℕ → ℕ
-named (Is n) d = n
-named Unsaid d = d
+abbrev pub named : Option ℕ → ℕ → ℕ
+named (Some n) d = n
+named None d = d
 
 -- A fault taken apart.
-abbrev pub on_fault : {A : Type 0} → Fault → (ℕ → A) → A → A
-on_fault (At at) f d = f at
-on_fault NoFault f d = d
+abbrev pub on_fault : {A : Type 0} → Option ℕ → (ℕ → A) → A → A
+on_fault (Some at) f d = f at
+on_fault None f d = d
 
 -- The first that is named.
-abbrev pub either : Named → Named → Named
-either (Is n) b = Is n
-either Unsaid b = b
+abbrev pub either : Option ℕ → Option ℕ → Option ℕ
+either (Some n) b = Some n
+either None b = b
 
 -- Counts added one by one, which stop at 255.
 abbrev pub add_counts : ℕ → ℕ → ℕ

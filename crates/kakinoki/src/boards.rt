@@ -3,8 +3,7 @@ ghost use Rattle.std.specs.Prelude.{◌≡◌, ◌<◌};
 ghost use Rattle.kakinoki.specs.Boards.{no_cells, no_board, white_at, cell_at, cells_from, row_end_at, row_at, rows_from, ruled_at, board_at};
 
 use crate::Board;
-use spell::Spelled;
-use text::{Cursor, Place};
+use text::Cursor;
 
 fn no_board() -> Board
     ensures { result ≡ no_board }
@@ -17,29 +16,25 @@ fn no_board() -> Board
 }
 
 // A piece of White, after its v.
-fn white_piece(c: Cursor, s: &[u8]) -> Spelled
+fn white_piece(c: Cursor, s: &[u8]) -> Option<(u8, Cursor)>
     ensures { result ≡ white_at s.now c.at }
 {
-    let Place::Past(past) = c.tag(s, b"v") else {
-        return Spelled::Not;
-    };
-    let Spelled::As(kind, end) = spell::kind(past, s) else {
-        return Spelled::Not;
-    };
-    Spelled::As(kind + 16, end)
+    let past = c.tag(s, b"v")?;
+    let (kind, end) = spell::kind(past, s)?;
+    Some((kind + 16, end))
 }
 
 // A cell: empty, or a piece of a side.   (the Rust's board_piece)
-fn board_piece(c: Cursor, s: &[u8]) -> Spelled
+fn board_piece(c: Cursor, s: &[u8]) -> Option<(u8, Cursor)>
     ensures { result ≡ cell_at s.now c.at }
 {
-    let Place::Past(end) = c.tag(s, b" \xe3\x83\xbb") else {
-        let Place::Past(past) = c.tag(s, b" ") else {
+    let Some(end) = c.tag(s, b" \xe3\x83\xbb") else {
+        let Some(past) = c.tag(s, b" ") else {
             return white_piece(c, s);
         };
         return spell::kind(past, s);
     };
-    Spelled::As(0, end)
+    Some((0, end))
 }
 
 // Nine cells of a rank, from file 9 on.
@@ -49,10 +44,8 @@ fn board_cells(c: Cursor, s: &[u8], rank: usize, before: [u8; 81]) -> Board
 {
     let mut cells = before;
     let mut next = c;
-    let mut n = 9;
-    while 0 < n {
-        n -= 1;
-        let Spelled::As(v, past) = board_piece(next, s) else {
+    for n in (0..9).rev() {
+        let Some((v, past)) = board_piece(next, s) else {
             return no_board();
         };
         cells[9 * n + rank] = v;
@@ -66,14 +59,12 @@ fn board_cells(c: Cursor, s: &[u8], rank: usize, before: [u8; 81]) -> Board
 }
 
 // |, any rank figure, break.
-fn row_end(c: Cursor, s: &[u8]) -> Place
+fn row_end(c: Cursor, s: &[u8]) -> Option<Cursor>
     ensures { result ≡ row_end_at s.now c.at }
 {
-    let Place::Past(past) = c.tag(s, b"|") else {
-        return Place::Absent;
-    };
-    let Spelled::As(_, end) = spell::numeral(past, s) else {
-        return Place::Absent;
+    let past = c.tag(s, b"|")?;
+    let Some((_, end)) = spell::numeral(past, s) else {
+        return None;
     };
     end.line_ending(s)
 }
@@ -83,22 +74,17 @@ fn board_row(c: Cursor, s: &[u8], rank: usize, before: [u8; 81]) -> Board
     requires { rank < 9 }
     ensures { result ≡ row_at s.now rank c.at before }
 {
-    let Place::Past(inside) = c.tag(s, b"|") else {
+    let Some(inside) = c.tag(s, b"|") else {
         return no_board();
     };
     let row = board_cells(inside, s, rank, before);
     if !row.there {
         return no_board();
     }
-    let Place::Past(end) = row_end(row.next, s) else {
+    let Some(end) = row_end(row.next, s) else {
         return no_board();
     };
-    let cells = row.cells;
-    Board {
-        there: true,
-        cells,
-        next: end,
-    }
+    Board { next: end, ..row }
 }
 
 // Nine rows.
@@ -107,15 +93,13 @@ fn board_rows(c: Cursor, s: &[u8]) -> Board
 {
     let mut cells = [0u8; 81];
     let mut next = c;
-    let mut rank = 0;
-    while rank < 9 {
+    for rank in 0..9 {
         let row = board_row(next, s, rank, cells);
         if !row.there {
             return no_board();
         }
         cells = row.cells;
         next = row.next;
-        rank += 1;
     }
     Board {
         there: true,
@@ -125,12 +109,10 @@ fn board_rows(c: Cursor, s: &[u8]) -> Board
 }
 
 // A head or foot line.
-fn ruled(c: Cursor, s: &[u8], t: &[u8]) -> Place
+fn ruled(c: Cursor, s: &[u8], t: &[u8]) -> Option<Cursor>
     ensures { result ≡ ruled_at t.now s.now c.at }
 {
-    let Place::Past(end) = c.tag(s, t) else {
-        return Place::Absent;
-    };
+    let end = c.tag(s, t)?;
     end.line_ending(s)
 }
 
@@ -138,27 +120,22 @@ fn ruled(c: Cursor, s: &[u8], t: &[u8]) -> Place
 pub(crate) fn board(c: Cursor, s: &[u8]) -> Board
     ensures { result ≡ board_at s.now c.at }
 {
-    let Place::Past(files) = ruled(
+    let Some(files) = ruled(
         c,
         s,
         b"  \xef\xbc\x99 \xef\xbc\x98 \xef\xbc\x97 \xef\xbc\x96 \xef\xbc\x95 \xef\xbc\x94 \xef\xbc\x93 \xef\xbc\x92 \xef\xbc\x91",
     ) else {
         return no_board();
     };
-    let Place::Past(head) = ruled(files, s, b"+---------------------------+") else {
+    let Some(head) = ruled(files, s, b"+---------------------------+") else {
         return no_board();
     };
     let rows = board_rows(head, s);
     if !rows.there {
         return no_board();
     }
-    let Place::Past(end) = ruled(rows.next, s, b"+---------------------------+") else {
+    let Some(end) = ruled(rows.next, s, b"+---------------------------+") else {
         return no_board();
     };
-    let cells = rows.cells;
-    Board {
-        there: true,
-        cells,
-        next: end,
-    }
+    Board { next: end, ..rows }
 }

@@ -3,27 +3,27 @@ ghost use Rattle.std.specs.Prelude.{◌≡◌};
 ghost use Rattle.kakinoki.specs.Informations.{padded_end_at, piece_at, pieces_at, hand_at, held_at, hand_line_at};
 
 use crate::{Hand, HandSaid, Held, Piece};
-use spell::Spelled;
-use text::{Cursor, Place};
+use text::Cursor;
 
 // Past padding and a break.
-pub(crate) fn padded_end(c: Cursor, s: &[u8]) -> Place
+pub(crate) fn padded_end(c: Cursor, s: &[u8]) -> Option<Cursor>
     ensures { result ≡ padded_end_at s.now c.at }
 {
     c.padding(s).line_ending(s)
 }
 
 // A kind, a count or none for 1, padding.
-fn piece(c: Cursor, s: &[u8]) -> Piece
+#[tactic(auto, unfolding(crate::specs::Informations::piece_at))]
+fn piece(c: Cursor, s: &[u8]) -> Option<Piece>
     ensures { result ≡ piece_at s.now c.at }
 {
-    let Spelled::As(kind, past) = spell::kind(c, s) else {
-        return Piece::NoPiece;
-    };
-    let Spelled::As(n, end) = spell::count(past, s) else {
-        return Piece::Of(kind, 1, past.padding(s));
-    };
-    Piece::Of(kind, n, end.padding(s))
+    let (kind, past) = spell::kind(c, s)?;
+    let (count, end) = spell::count(past, s).unwrap_or((1, past));
+    Some(Piece {
+        kind,
+        count,
+        next: end.padding(s),
+    })
 }
 
 // As many pieces as can be held.
@@ -33,18 +33,18 @@ fn pieces(c: Cursor, s: &[u8]) -> Hand
     let mut counts = [0u8; 7];
     let mut next = c;
     loop {
-        let Piece::Of(kind, n, past) = piece(next, s) else {
+        let Some(held) = piece(next, s) else {
             return Hand { counts, next };
         };
-        if 7 < kind {
+        if 7 < held.kind {
             return Hand { counts, next };
         }
-        let k = lent::wide(kind) - 1;
-        if 255 - counts[k] < n {
+        let k = lent::wide(held.kind) - 1;
+        if 255 - counts[k] < held.count {
             return Hand { counts, next };
         }
-        counts[k] += n;
-        next = past;
+        counts[k] += held.count;
+        next = held.next;
     }
 }
 
@@ -52,7 +52,7 @@ fn pieces(c: Cursor, s: &[u8]) -> Hand
 fn hand(c: Cursor, s: &[u8]) -> Hand
     ensures { result ≡ hand_at s.now c.at }
 {
-    let Place::Past(end) = c.tag(s, b"\xe3\x81\xaa\xe3\x81\x97") else {
+    let Some(end) = c.tag(s, b"\xe3\x81\xaa\xe3\x81\x97") else {
         return pieces(c, s);
     };
     Hand {
@@ -66,7 +66,7 @@ fn held(side: u8, c: Cursor, s: &[u8]) -> HandSaid
     ensures { result ≡ held_at side s.now c.at }
 {
     let hand = hand(c, s);
-    let Place::Past(end) = padded_end(hand.next, s) else {
+    let Some(end) = padded_end(hand.next, s) else {
         return HandSaid {
             held: Held::Unreadable,
             counts: [0; 7],
@@ -87,11 +87,10 @@ pub(crate) fn hand_line(c: Cursor, s: &[u8]) -> HandSaid
         held: Held::NoHand,
         counts: [0; 7],
     };
-    let Spelled::As(side, past) = spell::side(c, s) else {
+    let Some((side, past)) = spell::side(c, s) else {
         return none;
     };
-    let Place::Past(inside) = past.tag(s, b"\xe3\x81\xae\xe6\x8c\x81\xe9\xa7\x92\xef\xbc\x9a")
-    else {
+    let Some(inside) = past.tag(s, b"\xe3\x81\xae\xe6\x8c\x81\xe9\xa7\x92\xef\xbc\x9a") else {
         return none;
     };
     held(side, inside, s)

@@ -7,17 +7,14 @@ ghost use Rattle.kakinoki.specs.Informations.{hash_line_at, hash_lines_at, ends_
 ghost use Rattle.kakinoki.specs.inner.Blocks.{block_at};
 
 use crate::hands::{hand_line, padded_end};
-use crate::{Fault, Held, Info, Information, InformationBlock, KeyValue, Named, Told};
-use spell::Spelled;
-use text::{Cursor, Place};
+use crate::{Held, Info, Information, InformationBlock, KeyValue, Told};
+use text::Cursor;
 
 // # and the rest of its line.   (the Rust's comment_line)
-fn hash_line(c: Cursor, s: &[u8]) -> Place
+fn hash_line(c: Cursor, s: &[u8]) -> Option<Cursor>
     ensures { result ≡ hash_line_at s.now c.at }
 {
-    let Place::Past(past) = c.tag(s, b"#") else {
-        return Place::Absent;
-    };
+    let past = c.tag(s, b"#")?;
     past.line_end(s)
 }
 
@@ -26,47 +23,35 @@ fn hash_lines(c: Cursor, s: &[u8]) -> Cursor
     ensures { result.at ≡ hash_lines_at s.now c.at }
 {
     let mut next = c;
-    loop {
-        let Place::Past(past) = hash_line(next, s) else {
-            return next;
-        };
+    while let Some(past) = hash_line(next, s) {
         next = past;
     }
+    next
 }
 
 // A number past the padding and the break after it.
-fn ends_line(n: u8, c: Cursor, s: &[u8]) -> Spelled
+fn ends_line(n: u8, c: Cursor, s: &[u8]) -> Option<(u8, Cursor)>
     ensures { result ≡ ends_line s.now n c.at }
 {
-    let Place::Past(end) = padded_end(c, s) else {
-        return Spelled::Not;
-    };
-    Spelled::As(n, end)
+    let end = padded_end(c, s)?;
+    Some((n, end))
 }
 
 // 手合割： and one of the names.   (the Rust's information_line_preset)
-fn preset_line(c: Cursor, s: &[u8]) -> Spelled
+fn preset_line(c: Cursor, s: &[u8]) -> Option<(u8, Cursor)>
     ensures { result ≡ preset_line_at s.now c.at }
 {
-    let Place::Past(inside) = c.tag(s, b"\xe6\x89\x8b\xe5\x90\x88\xe5\x89\xb2\xef\xbc\x9a") else {
-        return Spelled::Not;
-    };
-    let Spelled::As(n, end) = spell::preset(inside, s) else {
-        return Spelled::Not;
-    };
+    let inside = c.tag(s, b"\xe6\x89\x8b\xe5\x90\x88\xe5\x89\xb2\xef\xbc\x9a")?;
+    let (n, end) = spell::preset(inside, s)?;
     ends_line(n, end, s)
 }
 
 // A side and 番.   (the Rust's information_line_color)
-fn turn_line(c: Cursor, s: &[u8]) -> Spelled
+fn turn_line(c: Cursor, s: &[u8]) -> Option<(u8, Cursor)>
     ensures { result ≡ turn_line_at s.now c.at }
 {
-    let Spelled::As(n, past) = spell::side(c, s) else {
-        return Spelled::Not;
-    };
-    let Place::Past(end) = past.tag(s, b"\xe7\x95\xaa") else {
-        return Spelled::Not;
-    };
+    let (n, past) = spell::side(c, s)?;
+    let end = past.tag(s, b"\xe7\x95\xaa")?;
     ends_line(n, end, s)
 }
 
@@ -74,17 +59,7 @@ fn turn_line(c: Cursor, s: &[u8]) -> Spelled
 fn ends_key(s: &[u8], at: usize) -> bool
     ensures { result ≡ ends_key (drop at s.now) }
 {
-    if s.len() <= at {
-        return true;
-    }
-    let b = s[at];
-    if b == b'\n' {
-        return true;
-    }
-    if b == b'\r' {
-        return true;
-    }
-    text::stands(s, at, b"\xef\xbc\x9a")
+    s.len() <= at || s[at] == b'\n' || s[at] == b'\r' || text::stands(s, at, b"\xef\xbc\x9a")
 }
 
 // Past bytes that surely are of the key: one range of them is asked for, which is faster than what may end it.
@@ -92,14 +67,8 @@ fn key_run(s: &[u8], from: usize) -> usize
     ensures { from + length (key_at s.now from) ≡ result + length (key_at s.now result) }
 {
     let mut at = from;
-    while at < s.len() {
-        let b = s[at];
-        if b < 14 {
-            return at;
-        }
-        if 238 < b {
-            return at;
-        }
+    // no range: past the text's end it would end at that end and not here
+    while at < s.len() && 14 <= s[at] && s[at] <= 238 {
         at += 1;
     }
     at
@@ -117,28 +86,22 @@ fn key_end(c: Cursor, s: &[u8]) -> Cursor
 }
 
 // ：, the value, break.
-fn value(c: Cursor, s: &[u8]) -> KeyValue
+fn value(c: Cursor, s: &[u8]) -> Option<KeyValue>
     ensures { result ≡ value_at s.now c.at }
 {
-    let Place::Past(from) = c.tag(s, b"\xef\xbc\x9a") else {
-        return KeyValue::NoPair;
-    };
-    let Place::Past(to) = from.tail(s) else {
-        return KeyValue::NoPair;
-    };
-    let Place::Past(next) = to.line_ending(s) else {
-        return KeyValue::NoPair;
-    };
-    KeyValue::Pair(from, to, next)
+    let from = c.tag(s, b"\xef\xbc\x9a")?;
+    let to = from.tail(s)?;
+    let next = to.line_ending(s)?;
+    Some(KeyValue { from, to, next })
 }
 
 // A key that is not empty, and its value.   (the Rust's information_line_keyvalue)
-pub fn key_value(c: Cursor, s: &[u8]) -> KeyValue
+pub fn key_value(c: Cursor, s: &[u8]) -> Option<KeyValue>
     ensures { result ≡ key_value_at s.now c.at }
 {
     let end = key_end(c, s);
     if end.at == c.at {
-        return KeyValue::NoPair;
+        return None;
     }
     value(end, s)
 }
@@ -158,10 +121,10 @@ fn handless(info: Info, next: Cursor) -> Information
 fn keyed(c: Cursor, s: &[u8]) -> Information
     ensures { result ≡ keyed_at s.now c.at }
 {
-    let KeyValue::Pair(_, _, next) = key_value(c, s) else {
+    let Some(pair) = key_value(c, s) else {
         return handless(Info::Nothing, c);
     };
-    handless(Info::Keyed, next)
+    handless(Info::Keyed, pair.next)
 }
 
 // What is neither a preset nor a turn: a hand line, or key and value.
@@ -170,8 +133,7 @@ fn hands_or_keyed(c: Cursor, s: &[u8]) -> Information
 {
     let line = hand_line(c, s);
     let counts = line.counts;
-    let held = line.held;
-    match held {
+    match line.held {
         Held::By(side, next) => Information {
             info: Info::Hands(side),
             counts,
@@ -186,8 +148,8 @@ fn hands_or_keyed(c: Cursor, s: &[u8]) -> Information
 fn information(c: Cursor, s: &[u8]) -> Information
     ensures { result ≡ information_at s.now c.at }
 {
-    let Spelled::As(preset, past) = preset_line(c, s) else {
-        let Spelled::As(turn, end) = turn_line(c, s) else {
+    let Some((preset, past)) = preset_line(c, s) else {
+        let Some((turn, end)) = turn_line(c, s) else {
             return hands_or_keyed(c, s);
         };
         return handless(Info::Turn(turn), end);
@@ -199,21 +161,17 @@ fn is_line(info: Info) -> bool
     ensures { result ≡ is_line info }
 {
     match info {
-        Info::Preset(_) => true,
-        Info::Turn(_) => true,
-        Info::Hands(_) => true,
-        Info::Keyed => true,
-        Info::Refused => false,
-        Info::Nothing => false,
+        Info::Preset(_) | Info::Turn(_) | Info::Hands(_) | Info::Keyed => true,
+        Info::Refused | Info::Nothing => false,
     }
 }
 
-fn fault(info: Info, c: Cursor) -> Fault
+fn fault(info: Info, c: Cursor) -> Option<usize>
     ensures { result ≡ fault_of info c.at }
 {
     match info {
-        Info::Refused => Fault::At(c.at),
-        _ => Fault::NoFault,
+        Info::Refused => Some(c.at),
+        _ => None,
     }
 }
 
@@ -221,40 +179,23 @@ fn fault(info: Info, c: Cursor) -> Fault
 fn tell(told: Told, info: Info, counts: [u8; 7]) -> Told
     ensures { (h : Header) → result ≡ tell told (said_of info counts h) }
 {
-    let preset = told.preset;
-    let turn = told.turn;
-    let black = told.black;
-    let white = told.white;
     match info {
         Info::Preset(n) => Told {
-            preset: Named::Is(n),
-            turn,
-            black,
-            white,
+            preset: Some(n),
+            ..told
         },
         Info::Turn(n) => Told {
-            preset,
-            turn: Named::Is(n),
-            black,
-            white,
+            turn: Some(n),
+            ..told
         },
-        Info::Hands(side) => {
-            if side == 0 {
-                Told {
-                    preset,
-                    turn,
-                    black: counts,
-                    white,
-                }
-            } else {
-                Told {
-                    preset,
-                    turn,
-                    black,
-                    white: counts,
-                }
-            }
-        }
+        Info::Hands(0) => Told {
+            black: counts,
+            ..told
+        },
+        Info::Hands(_) => Told {
+            white: counts,
+            ..told
+        },
         _ => told,
     }
 }
@@ -282,8 +223,8 @@ pub(crate) fn informations(c: Cursor, s: &[u8], places: &mut [u16]) -> Informati
     ensures places_after { places.new ≡ put places.old 0 (low16 (header_places_at s.now c.at)) }
 {
     let mut told = Told {
-        preset: Named::Unsaid,
-        turn: Named::Unsaid,
+        preset: None,
+        turn: None,
         black: [0; 7],
         white: [0; 7],
     };
@@ -292,18 +233,16 @@ pub(crate) fn informations(c: Cursor, s: &[u8], places: &mut [u16]) -> Informati
     loop {
         let line = hash_lines(next, s);
         let said = information(line, s);
-        let info = said.info;
-        if !is_line(info) {
+        if !is_line(said.info) {
             return InformationBlock {
                 told,
                 headers,
-                fault: fault(info, line),
+                fault: fault(said.info, line),
                 next,
             };
         }
-        let counts = said.counts;
-        headers = keep(info, line, headers, places);
-        told = tell(told, info, counts);
+        headers = keep(said.info, line, headers, places);
+        told = tell(told, said.info, said.counts);
         next = said.next;
     }
 }

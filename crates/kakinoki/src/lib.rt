@@ -13,9 +13,10 @@ use text::Cursor;
 
 // A piece in a hand: its kind, how many, and the place past it.
 #[derive(Clone, Copy)]
-pub enum Piece {
-    Of(u8, u8, Cursor),
-    NoPiece,
+pub struct Piece {
+    pub kind: u8,
+    pub count: u8,
+    pub next: Cursor,
 }
 
 // The counts of a hand, 歩 to 飛, and the place past it.   (the Rust's Hand)
@@ -41,9 +42,10 @@ pub struct HandSaid {
 
 // A key and its value: where the value begins and ends, and the place past the line.
 #[derive(Clone, Copy)]
-pub enum KeyValue {
-    Pair(Cursor, Cursor, Cursor),
-    NoPair,
+pub struct KeyValue {
+    pub from: Cursor,
+    pub to: Cursor,
+    pub next: Cursor,
 }
 
 // What an information line is; that it is a hand line that cannot be read; or no information line.   (the Rust's Information)
@@ -65,27 +67,13 @@ pub struct Information {
     pub next: Cursor,
 }
 
-// A number that a line has said, or that none has.   (the Rust's Option)
-#[derive(Clone, Copy)]
-pub enum Named {
-    Is(u8),
-    Unsaid,
-}
-
 // What an information block says, but for its header entries.   (the Rust's InformationData)
 #[derive(Clone, Copy)]
 pub struct Told {
-    pub preset: Named,
-    pub turn: Named,
+    pub preset: Option<u8>,
+    pub turn: Option<u8>,
     pub black: [u8; 7],
     pub white: [u8; 7],
-}
-
-// Where a hand line begins that cannot be read, or that there is none.
-#[derive(Clone, Copy)]
-pub enum Fault {
-    NoFault,
-    At(usize),
 }
 
 // An information block: what it says, how many header entries it has, the hand line in it that cannot be read, if any, and the place past it.
@@ -93,13 +81,14 @@ pub enum Fault {
 pub struct InformationBlock {
     pub told: Told,
     pub headers: usize,
-    pub fault: Fault,
+    pub fault: Option<usize>,
     pub next: Cursor,
 }
 
 // A diagram, if it is there: its cells by file and rank, and the place past it.
 #[derive(Clone, Copy)]
 pub struct Board {
+    // a flag beside the cells and no Option: in this repository no enum carries an array
     pub there: bool,
     pub cells: [u8; 81],
     pub next: Cursor,
@@ -108,7 +97,7 @@ pub struct Board {
 // What stands before the moves: a hand line that cannot be read, if any, the position, how many header lines there are, and the place past them.
 #[derive(Clone, Copy)]
 pub struct Start {
-    pub fault: Fault,
+    pub fault: Option<usize>,
     pub position: Position,
     pub headers: usize,
     pub next: Cursor,

@@ -1,78 +1,41 @@
 // What stands before the moves: a block, a board or none, a block.
-ghost use Rattle.std.specs.Prelude.{◌≡◌, min, ◌++◌};
+ghost use Rattle.std.specs.Prelude.{◌≡◌, ◌++◌};
 ghost use Rattle.lent.specs.Stored.{put};
 ghost use Rattle.lists.specs.Pick.{pick};
 ghost use Rattle.kakinoki.specs.Informations.{low16};
-ghost use Rattle.kakinoki.specs.Starts.{named, either, add_counts, add_hands, merged, position_said, header_places, start_read};
+ghost use Rattle.kakinoki.specs.Starts.{add_hands, merged, position_said, header_places, start_read};
 
 use crate::boards::board;
 use crate::infos::informations;
-use crate::{Board, Named, Start, Told};
+use crate::{Board, Start, Told};
 use jkf::Position;
 use text::Cursor;
-
-// What is named, or else a number.
-fn or_else(a: Named, d: u8) -> u8
-    ensures { result ≡ named a d }
-{
-    match a {
-        Named::Is(n) => n,
-        Named::Unsaid => d,
-    }
-}
-
-// The first that is named.
-fn either(a: Named, b: Named) -> Named
-    ensures { result ≡ either a b }
-{
-    match a {
-        Named::Is(n) => Named::Is(n),
-        Named::Unsaid => b,
-    }
-}
-
-// Two counts added, which stop at 255.   (the Rust's saturating_add)
-fn add(a: u8, b: u8) -> u8
-    ensures { result ≡ add_counts a b }
-{
-    if 255 - a < b {
-        return 255;
-    }
-    a + b
-}
 
 // Counts added one by one.   (the Rust's merged_hand)
 fn add_hands(a: [u8; 7], b: [u8; 7]) -> [u8; 7]
     ensures { result ≡ add_hands a b }
 {
     [
-        add(a[0], b[0]),
-        add(a[1], b[1]),
-        add(a[2], b[2]),
-        add(a[3], b[3]),
-        add(a[4], b[4]),
-        add(a[5], b[5]),
-        add(a[6], b[6]),
+        a[0].saturating_add(b[0]),
+        a[1].saturating_add(b[1]),
+        a[2].saturating_add(b[2]),
+        a[3].saturating_add(b[3]),
+        a[4].saturating_add(b[4]),
+        a[5].saturating_add(b[5]),
+        a[6].saturating_add(b[6]),
     ]
 }
 
 // What the two blocks say.   (the Rust's merged)
+#[tactic(auto, unfolding(crate::specs::Starts::merged))]
 fn merged(a: Told, b: Told) -> Told
     ensures { result ≡ merged a b }
 {
-    let preset = a.preset;
-    let later_preset = b.preset;
-    let turn = a.turn;
-    let later_turn = b.turn;
-    let black = a.black;
-    let later_black = b.black;
-    let white = a.white;
-    let later_white = b.white;
     Told {
-        preset: either(preset, later_preset),
-        turn: either(turn, later_turn),
-        black: add_hands(black, later_black),
-        white: add_hands(white, later_white),
+        preset: a.preset.or(b.preset),
+        turn: a.turn.or(b.turn),
+        black: add_hands(a.black, b.black),
+        white: add_hands(a.white, b.white),
     }
 }
 
@@ -80,31 +43,29 @@ fn merged(a: Told, b: Told) -> Told
 fn both_hands(a: [u8; 7], b: [u8; 7]) -> [u8; 14]
     ensures { result ≡ a ++ b }
 {
-    [
-        a[0], a[1], a[2], a[3], a[4], a[5], a[6], b[0], b[1], b[2], b[3], b[4], b[5], b[6],
-    ]
+    let mut hands = [0; 14];
+    hands[..7].copy_from_slice(&a);
+    hands[7..].copy_from_slice(&b);
+    hands
 }
 
 // The position: a diagram with hands and turn, or a preset alone.
+#[tactic(auto, unfolding(crate::specs::Starts::position_said))]
 fn position(board: Board, told: Told) -> Position
     ensures { result ≡ position_said board told }
 {
-    let preset = told.preset;
-    let turn = told.turn;
-    let black = told.black;
-    let white = told.white;
     let cells = board.cells;
     if board.there {
         return Position {
             preset: 16,
             board: 1,
-            turn: or_else(turn, 0),
+            turn: told.turn.unwrap_or(0),
             cells,
-            hands: both_hands(black, white),
+            hands: both_hands(told.black, told.white),
         };
     }
     Position {
-        preset: or_else(preset, 0),
+        preset: told.preset.unwrap_or(0),
         board: 0,
         turn: 0,
         cells: [0; 81],
@@ -116,16 +77,7 @@ fn position(board: Board, told: Told) -> Position
 fn past_board(board: Board, c: Cursor) -> Cursor
     ensures { result.at ≡ pick board.there board.next.at c.at }
 {
-    if board.there {
-        return board.next;
-    }
-    c
-}
-
-fn smaller(a: usize, b: usize) -> usize
-    ensures { result ≡ min a b }
-{
-    if a < b { a } else { b }
+    if board.there { board.next } else { c }
 }
 
 // Both blocks, the board between them, and the places of the header lines.   (the Rust's parse_without_moves)
@@ -135,16 +87,12 @@ pub fn parse_without_moves(s: &[u8], places: &mut [u16]) -> Start
 {
     let first = informations(Cursor { at: 0 }, s, places);
     let diagram = board(first.next, s);
-    let kept = smaller(first.headers, places.len());
+    let kept = first.headers.min(places.len());
     let second = informations(past_board(diagram, first.next), s, &mut places[kept..]);
-    let fault = second.fault;
-    let told = first.told;
-    let later = second.told;
-    let next = second.next;
     Start {
-        fault,
-        position: position(diagram, merged(told, later)),
+        fault: second.fault,
+        position: position(diagram, merged(first.told, second.told)),
         headers: first.headers + second.headers,
-        next,
+        next: second.next,
     }
 }

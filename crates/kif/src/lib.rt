@@ -60,7 +60,7 @@ pub extern "C" fn kif_value(
 pub extern "C" fn kif_lines(block: &[u8], number: &mut u64, first: &mut u64, second: &mut u64)
     ensures { Answered (lines_answer block.now) number.new first.new second.new }
 {
-    let f = jkf::figures_of(block::lines(block));
+    let f = jkf::Figures::from(block::lines(block));
     *number = f.number;
     *first = f.first;
     *second = f.second;
@@ -77,7 +77,7 @@ pub extern "C" fn kif_line(
 )
     ensures { Answered (line_answer block.now k) number.new first.new second.new }
 {
-    let f = jkf::figures_of(block::line(block, k));
+    let f = jkf::Figures::from(block::line(block, k));
     *number = f.number;
     *first = f.first;
     *second = f.second;
@@ -94,7 +94,7 @@ pub extern "C" fn kif_parent(
 )
     ensures { Answered (parent_answer block.now k) number.new first.new second.new }
 {
-    let f = jkf::figures_of(block::parent(block, k));
+    let f = jkf::Figures::from(block::parent(block, k));
     *number = f.number;
     *first = f.first;
     *second = f.second;
@@ -112,7 +112,7 @@ pub extern "C" fn kif_entry(
 )
     ensures { Answered (entry_answer block.now line entry) number.new first.new second.new }
 {
-    let f = jkf::figures_of(block::entry(block, line, entry));
+    let f = jkf::Figures::from(block::entry(block, line, entry));
     *number = f.number;
     *first = f.first;
     *second = f.second;
@@ -123,7 +123,7 @@ pub extern "C" fn kif_entry(
 pub extern "C" fn kif_measure(text: &[u8], number: &mut u64, first: &mut u64, second: &mut u64)
     ensures { Answered (measure_of text.now) number.new first.new second.new }
 {
-    let f = jkf::figures_of(parser::measure(text));
+    let f = jkf::Figures::from(parser::measure(text));
     *number = f.number;
     *first = f.first;
     *second = f.second;
@@ -145,7 +145,7 @@ pub extern "C" fn kif_fill(
 {
     let r = parser::fill(text, out);
     let a = r.answer;
-    let f = jkf::figures_of(a);
+    let f = jkf::Figures::from(a);
     *number = f.number;
     *first = f.first;
     *second = f.second;
@@ -199,7 +199,7 @@ pub extern "C" fn kif_write(
     ensures answered { Answered (write_of block.now out.old).answer number.new first.new second.new }
     ensures out_after { out.new ≡ (write_of block.now out.old).buffer }
 {
-    let f = jkf::figures_of(converter::write(block, out));
+    let f = jkf::Figures::from(converter::write(block, out));
     *number = f.number;
     *first = f.first;
     *second = f.second;
@@ -218,7 +218,7 @@ pub extern "C" fn kif_write_as(
     ensures answered { Answered (write_as_of (mode_of mode) block.now out.old).answer number.new first.new second.new }
     ensures out_after { out.new ≡ (write_as_of (mode_of mode) block.now out.old).buffer }
 {
-    let f = jkf::figures_of(converter::write_as(block, converter::mode_of(mode), out));
+    let f = jkf::Figures::from(converter::write_as(block, converter::Mode::from(mode), out));
     *number = f.number;
     *first = f.first;
     *second = f.second;
@@ -238,7 +238,7 @@ pub extern "C" fn kif_put_in(
     ensures answered { Answered (put_in_of block.now line text.now out.old).answer number.new first.new second.new }
     ensures out_after { out.new ≡ (put_in_of block.now line text.now out.old).buffer }
 {
-    let f = jkf::figures_of(edit::put_in(block, line, text, out));
+    let f = jkf::Figures::from(edit::put_in(block, line, text, out));
     *number = f.number;
     *first = f.first;
     *second = f.second;
@@ -257,7 +257,7 @@ pub extern "C" fn kif_cut(
     ensures answered { Answered (cut_of block.now line out.old).answer number.new first.new second.new }
     ensures out_after { out.new ≡ (cut_of block.now line out.old).buffer }
 {
-    let f = jkf::figures_of(edit::cut(block, line, out));
+    let f = jkf::Figures::from(edit::cut(block, line, out));
     *number = f.number;
     *first = f.first;
     *second = f.second;
@@ -275,7 +275,7 @@ pub extern "C" fn kif_restate(
     ensures answered { Answered (restate_of block.now out.old).answer number.new first.new second.new }
     ensures out_after { out.new ≡ (restate_of block.now out.old).buffer }
 {
-    let f = jkf::figures_of(edit::restate(block, out));
+    let f = jkf::Figures::from(edit::restate(block, out));
     *number = f.number;
     *first = f.first;
     *second = f.second;
@@ -295,7 +295,7 @@ pub extern "C" fn kif_position(
     ensures answered { Answered (position_put block.now line entry out.old).answer number.new first.new second.new }
     ensures out_after { out.new ≡ (position_put block.now line entry out.old).buffer }
 {
-    let f = jkf::figures_of(positions::store_position(block, line, entry, out));
+    let f = jkf::Figures::from(positions::store_position(block, line, entry, out));
     *number = f.number;
     *first = f.first;
     *second = f.second;

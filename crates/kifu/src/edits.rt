@@ -1,96 +1,102 @@
 // Edits of a block, into a buffer that is as long as a block can be.
-use crate::notes::{REFUSED, Streams, put_error, say_error};
+use crate::notes::{Kind, Streams, put_error, say_error};
 use crate::times::Times;
+use crate::words::Word;
 use crate::{files, notes, refusals, times, wheres, words};
 use jkf::Figures;
-use moves::{Failed, MoveLine};
+use moves::Reason;
 use std::rt::{Env, Files};
 use text::Cursor;
 
-// How long the edited block is, the second figure of the edit, and the times that were lost of what was put in; or that there is none.
+// How long the edited block is, the second figure of the edit, and the times that were lost of what was put in.
 #[derive(Drop)]
-pub enum Edited {
-    Block(usize, u64, Times),
-    Refused,
+pub struct Edited {
+    pub len: usize,
+    pub second: u64,
+    pub times: Option<Times>,
 }
 
 // The moves of a line, on which a variation can be put: the first and the last.
 fn say_moves(rt: &impl Streams, b: &[u8], line: u16) {
     let start = block::start_of(b, line) as u64;
-    let first = if start == 0 { 1 } else { start };
     let past = start + block::entry_count(b, line) as u64;
     say_error(
         rt,
         b"; its moves are % to %",
-        first,
-        notes::above(past, 1),
-        0,
+        &[start.max(1), past.saturating_sub(1)],
     );
 }
 
-// What an edit of a block came to; where it is refused, why.
-fn made(rt: &impl Streams, name: &[u8], b: &[u8], f: Figures, t: Times) -> Edited {
+// What an edit of a block came to; where it is refused, says why.
+fn made(
+    rt: &impl Streams,
+    name: &[u8],
+    b: &[u8],
+    f: Figures,
+    times: Option<Times>,
+) -> Option<Edited> {
     if f.number == 0 {
-        return Edited::Block(f.first as usize, f.second, t);
+        return Some(Edited {
+            len: f.first as usize,
+            second: f.second,
+            times,
+        });
     }
     if f.number != 12 {
         refusals::tell(rt, name, f);
-        return Edited::Refused;
+        return None;
     }
-    notes::head(rt, REFUSED, name);
+    notes::head(rt, Kind::Refused, name);
     say_error(
         rt,
         b"line of play % has no move % to put a variation at",
-        f.first,
-        f.second,
-        0,
+        &[f.first, f.second],
     );
-    if f.first < 65536 {
-        say_moves(rt, b, f.first as u16);
+    if let Ok(line) = u16::try_from(f.first) {
+        say_moves(rt, b, line);
     }
     refusals::end(rt, 12);
-    Edited::Refused
+    None
 }
 
 // Without a line, and without all that hangs from it.
-fn cut(rt: &impl Streams, name: &[u8], b: &[u8], line: u64, out: &mut [u8]) -> Edited {
+fn cut(rt: &impl Streams, name: &[u8], b: &[u8], line: u64, out: &mut [u8]) -> Option<Edited> {
     if line == 0 {
-        notes::head(rt, REFUSED, name);
+        notes::head(rt, Kind::Refused, name);
         put_error(
             rt,
             b"line of play 0 is the main line, which stays; a variation has a number from 1 on",
         );
         refusals::end(rt, 10);
-        return Edited::Refused;
+        return None;
     }
     made(
         rt,
         name,
         b,
-        jkf::figures_of(edit::cut(b, line, out)),
-        times::none(),
+        jkf::Figures::from(edit::cut(b, line, out)),
+        None,
     )
 }
 
 // As version 2; where it is that already, it is said so.
-fn restate(rt: &impl Streams, name: &[u8], b: &[u8], out: &mut [u8]) -> Edited {
-    let f = jkf::figures_of(edit::restate(b, out));
+fn restate(rt: &impl Streams, name: &[u8], b: &[u8], out: &mut [u8]) -> Option<Edited> {
+    let f = jkf::Figures::from(edit::restate(b, out));
     if f.number == 7 && block::sound(b) {
-        notes::head(rt, REFUSED, name);
+        notes::head(rt, Kind::Refused, name);
         put_error(rt, b"the block is of version 2 already");
         refusals::end(rt, 7);
-        return Edited::Refused;
+        return None;
     }
-    made(rt, name, b, f, times::none())
+    made(rt, name, b, f, None)
 }
 
 // The number that was expected where so many entries follow a first one; the last number of 64 bits has none after it.
 fn say_expected(rt: &impl Streams, first: u64, count: u64) {
-    if u64::MAX - first < count {
-        put_error(rt, b", and no number is above the one before it");
-        return;
+    match first.checked_add(count) {
+        Some(expected) => say_error(rt, b", where % is expected", &[expected]),
+        None => put_error(rt, b", and no number is above the one before it"),
     }
-    say_error(rt, b", where % is expected", first + count, 0, 0);
 }
 
 // Says at which line of a text its numbers do not go up by one; and whether they do not.
@@ -98,24 +104,24 @@ fn tell_stray(rt: &impl Streams, name: &[u8], text: &[u8]) -> bool {
     let start = Cursor { at: 0 };
     let first = plays::ply(start, text);
     let x = plays::count_sequence(start, text, first);
-    let MoveLine::Numbered(number, _, _) = moves::move_line(x.next, text) else {
+    let Some(stray) = moves::move_line(x.next, text) else {
         return false;
     };
-    notes::head(rt, REFUSED, name);
+    notes::head(rt, Kind::Refused, name);
     let line = stops::line_column(text, x.next.at).line;
-    say_error(rt, b"line %: the move is numbered %", line, number, 0);
+    say_error(rt, b"line %: the move is numbered %", &[line, stray.number]);
     say_expected(rt, first, x.entries as u64);
     refusals::end(rt, 11);
     true
 }
 
 // Why a line of play goes no further than a place; at the start of a text only a move is sought, and at its end nothing.
-fn fails(end: Cursor, text: &[u8]) -> Failed {
+fn fails(end: Cursor, text: &[u8]) -> Option<(usize, Reason)> {
     if end.at == 0 {
         return moves::move_line_fails(end, text);
     }
     if text.len() <= end.at {
-        return Failed::Silent;
+        return None;
     }
     moves::further_of(
         moves::comment_fails(end, text),
@@ -126,10 +132,10 @@ fn fails(end: Cursor, text: &[u8]) -> Failed {
 // Says where a text is no line of play any more, and why; and whether there is such a place.
 fn tell_reason(rt: &impl Streams, name: &[u8], text: &[u8]) -> bool {
     let end = plays::count_moves(Cursor { at: 0 }, text).next;
-    let Failed::At(at, reason) = fails(end, text) else {
+    let Some((at, reason)) = fails(end, text) else {
         return false;
     };
-    let to = notes::head(rt, REFUSED, name);
+    let to = notes::head(rt, Kind::Refused, name);
     let _ = wheres::say_reached(rt, to, text, end.at, reason, at);
     if end.at == 0 {
         put_error(
@@ -148,8 +154,8 @@ fn tell_reason(rt: &impl Streams, name: &[u8], text: &[u8]) -> bool {
 
 // Says that a text is empty, too long or not UTF-8; and whether it is.
 fn tell_unread(rt: &impl Streams, name: &[u8], text: &[u8]) -> bool {
-    if text.len() == 0 {
-        notes::head(rt, REFUSED, name);
+    if text.is_empty() {
+        notes::head(rt, Kind::Refused, name);
         put_error(rt, b"the file is empty, and has no variation");
         refusals::end(rt, 11);
         return true;
@@ -168,16 +174,9 @@ fn tell_unread(rt: &impl Streams, name: &[u8], text: &[u8]) -> bool {
 
 // Why a text is not one variation.
 fn tell_text(rt: &impl Streams, name: &[u8], text: &[u8], f: Figures) {
-    if tell_unread(rt, name, text) {
-        return;
+    if !tell_unread(rt, name, text) && !tell_stray(rt, name, text) && !tell_reason(rt, name, text) {
+        refusals::tell(rt, name, f);
     }
-    if tell_stray(rt, name, text) {
-        return;
-    }
-    if tell_reason(rt, name, text) {
-        return;
-    }
-    refusals::tell(rt, name, f);
 }
 
 // With the variation of a text. Refusal 11 is about that text's file, all others about the block's.
@@ -189,11 +188,11 @@ fn put_text(
     variation: &[u8],
     text: &[u8],
     out: &mut [u8],
-) -> Edited {
-    let f = jkf::figures_of(edit::put_in(b, line, text, out));
+) -> Option<Edited> {
+    let f = jkf::Figures::from(edit::put_in(b, line, text, out));
     if f.number == 11 {
         tell_text(rt, variation, text, f);
-        return Edited::Refused;
+        return None;
     }
     made(rt, name, b, f, times::of_variation(text))
 }
@@ -207,39 +206,35 @@ fn put(
     line: u64,
     room: &mut [u8],
     out: &mut [u8],
-) -> Edited {
+) -> Option<Edited> {
     let mut variation = [0u8; 4096];
-    let n = words::name(rt, 3, &mut variation);
-    let files::Got::Bytes(from, to) = files::fill(rt, &variation[..n], true, room) else {
-        return Edited::Refused;
-    };
-    let text = lent::rest(lent::front(&room[0..], to), from);
-    put_text(rt, name, b, line, &variation[..n], text, out)
+    let variation = words::name(rt, 3, &mut variation);
+    let text = files::fill(rt, variation, true, room)?;
+    put_text(rt, name, b, line, variation, text, out)
 }
 
 // The edit that is asked for; a variation's text is read into the room.
 pub(crate) fn make(
     rt: &(impl Streams + Env + Files + Input),
-    word: usize,
+    word: Word,
     line: u64,
     name: &[u8],
     b: &[u8],
     room: &mut [u8],
     out: &mut [u8],
-) -> Edited {
+) -> Option<Edited> {
     match word {
-        words::PUT | words::BLOCK_PUT => put(rt, name, b, line, room, out),
-        words::CUT | words::BLOCK_CUT => cut(rt, name, b, line, out),
+        Word::Put | Word::BlockPut => put(rt, name, b, line, room, out),
+        Word::Cut | Word::BlockCut => cut(rt, name, b, line, out),
         _ => restate(rt, name, b, out),
     }
 }
 
 // Says how many times of that file were lost, where some were.
-pub(crate) fn tell_variation(rt: &(impl Streams + Env), t: Times) {
-    if t.lost == 0 {
+pub(crate) fn tell_variation(rt: &(impl Streams + Env), t: Option<Times>) {
+    if t.is_none() {
         return;
     }
     let mut variation = [0u8; 4096];
-    let n = words::name(rt, 3, &mut variation);
-    times::tell(rt, notes::NOTE, &variation[..n], t);
+    times::tell(rt, Kind::Note, words::name(rt, 3, &mut variation), t);
 }

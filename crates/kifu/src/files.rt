@@ -1,18 +1,12 @@
 // Files by their names; `-` is standard input.
-use crate::notes::{NOTE, REFUSED, Streams, tell};
+use crate::notes::{Kind, Streams, tell};
 use crate::paths::{path_of, path_to_read};
+use crate::words::Flag;
 use crate::{notes, quotes, words};
 use std::fs::{File, OpenFile};
 use std::io::{Cursor, Read, Write};
 use std::rt::{Env, Files};
 use std::{fs, io};
-
-// Where the bytes that were read begin and end in their buffer, or that reading failed.
-#[derive(Drop)]
-pub enum Got {
-    Bytes(usize, usize),
-    Failed,
-}
 
 // Says why a call on a file failed.
 fn fail(rt: &impl Streams, name: &[u8], why: io::Error) {
@@ -43,86 +37,78 @@ fn open<R: Files>(rt: &R, name: &[u8]) -> io::Result<R::File> {
 
 // Fills a buffer with the front of the file with a name.
 fn fill_by_name(rt: &(impl Files + Input), name: &[u8], buf: &mut [u8]) -> io::Result<usize> {
-    if check::same(name, b"-") {
+    if matches!(name, b"-") {
         return fill_from(&mut rt.reader(), buf);
     }
     fill_from(&mut open(rt, name)?, buf)
 }
 
-// Fills a buffer with the front of a file, which is to be a text or any; or says why it cannot.
-pub(crate) fn fill(
+// The front of a file, which is to be a text or any, read into a buffer; or says why there is none.
+pub(crate) fn fill<'a>(
     rt: &(impl Streams + Env + Files + Input),
     name: &[u8],
     is_text: bool,
-    buf: &mut [u8],
-) -> Got {
+    buf: &'a mut [u8],
+) -> Option<&'a [u8]> {
     let n = match fill_by_name(rt, name, buf) {
         Ok(n) => n,
         Err(why) => {
             fail(rt, name, why);
-            return Got::Failed;
+            return None;
         }
     };
+    let bytes = lent::front(&buf[0..], n);
     if is_text {
-        return text_of(rt, name, lent::front(&buf[0..], n));
+        return text_of(rt, name, bytes);
     }
-    Got::Bytes(0, n)
+    Some(bytes)
 }
 
-// What stands at the start of a file that is no text, or that is one: 0 is nothing, 1 a block, 2 a BOM, and 3 a BOM that is to be passed. A file that is
-// too long is left to the reader, which refuses it.
-fn odd_start(rt: &impl Env, s: &[u8]) -> usize {
-    if text::stands(s, 0, b"KB\x01\0") || text::stands(s, 0, b"KB\x02\0") {
-        return 1;
+// The part of a file that is a text; or says why it is none. A file that is too long is left to the reader, which refuses it.
+fn text_of<'a>(rt: &(impl Streams + Env), name: &[u8], s: &'a [u8]) -> Option<&'a [u8]> {
+    if s.starts_with(b"KB\x01\0") || s.starts_with(b"KB\x02\0") {
+        tell(
+            rt,
+            Kind::Refused,
+            name,
+            b"this is a block file and no KIF text; kifu text makes a text of it",
+            &[],
+        );
+        return None;
     }
-    if 65535 < s.len() || !text::stands(s, 0, b"\xef\xbb\xbf") {
-        return 0;
+    if 65535 < s.len() || !s.starts_with(b"\xef\xbb\xbf") {
+        return Some(s);
     }
-    if words::has(rt, words::SKIP_BOM) {
-        3
-    } else {
-        2
-    }
-}
-
-// The part of a file that is a text.
-fn text_of(rt: &(impl Streams + Env), name: &[u8], s: &[u8]) -> Got {
-    let odd = odd_start(rt, s);
-    if odd == 0 {
-        return Got::Bytes(0, s.len());
+    if !words::has(rt, Flag::SkipBom) {
+        tell(
+            rt,
+            Kind::Refused,
+            name,
+            b"line 1 begins with a BOM (the bytes EF BB BF), and would not be understood; --skip-bom reads past it",
+            &[],
+        );
+        return None;
     }
     tell(
         rt,
-        if odd == 3 { NOTE } else { REFUSED },
+        Kind::Note,
         name,
-        words::row(
-            b"\n\
-              this is a block file and no KIF text; kifu text makes a text of it\n\
-              line 1 begins with a BOM (the bytes EF BB BF), and would not be understood; --skip-bom reads past it\n\
-              the BOM at its start was passed over; bytes are counted from behind it\n",
-            odd,
-        ),
-        0,
-        0,
+        b"the BOM at its start was passed over; bytes are counted from behind it",
+        &[],
     );
-    if odd == 3 {
-        return Got::Bytes(3, s.len());
-    }
-    Got::Failed
+    Some(lent::rest(s, 3))
 }
 
 // Writes bytes into the new file that name k is of, or says why it cannot.
 pub(crate) fn keep(rt: &(impl Streams + Env + Files), k: usize, bytes: &[u8]) -> bool {
     let mut name = [0u8; 4096];
-    let n = words::name(rt, k, &mut name);
-    make(rt, &name[..n], bytes)
+    make(rt, words::name(rt, k, &mut name), bytes)
 }
 
 // Takes away the file that was made under name k.
 pub(crate) fn remove(rt: &(impl Env + Files), k: usize) {
     let mut name = [0u8; 4096];
-    let n = words::name(rt, k, &mut name);
-    if let Ok(path) = path_of(&name[..n]) {
+    if let Ok(path) = path_of(words::name(rt, k, &mut name)) {
         let _ = fs::remove_file(rt, path);
     }
 }

@@ -2,7 +2,7 @@
 ghost use Rattle.std.specs.Prelude.{◌<◌, ◌≤◌};
 
 use crate::notes;
-use crate::notes::{NOTE, Streams};
+use crate::notes::{Kind, Streams};
 use jkf::{Clock, Entry, Time};
 
 // How many marks and hours.
@@ -41,12 +41,10 @@ fn count_lost(b: &[u8], entries: usize) -> Lost
 {
     let mut marks = 0;
     let mut hours = 0;
-    let mut k = 0;
-    while k < entries {
+    for k in 0..entries {
         let e = block::entry_of(b, k as u16);
         marks += unpromoted(e);
         hours += hour_of_now(jkf::time_of(e));
-        k += 1;
     }
     Lost { marks, hours }
 }
@@ -70,26 +68,23 @@ pub(crate) fn tell(rt: &impl Streams, name: &[u8], b: &[u8], left_out: u64) {
     let l = count_lost(b, written(b, left_out));
     notes::tell_some(
         rt,
-        NOTE,
+        Kind::Note,
         name,
         b"lines left out, from the first that starts at ply 0 on: %",
         left_out,
-        0,
     );
     notes::tell_some(
         rt,
-        NOTE,
+        Kind::Note,
         name,
         b"marks \xe4\xb8\x8d\xe6\x88\x90 that are not written: %",
         l.marks as u64,
-        0,
     );
     notes::tell_some(
         rt,
-        NOTE,
+        Kind::Note,
         name,
         b"hours of a move's own time that are not written: %",
         l.hours as u64,
-        0,
     );
 }

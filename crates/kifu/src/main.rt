@@ -21,45 +21,28 @@ mod wheres;
 mod words;
 
 use crate::notes::Streams;
+use crate::words::{Flag, Word};
 use std::io;
 use std::rt::{Env, Files};
-use words::Numbered;
 
-// What became of what was printed: all was taken, or who reads has closed the pipe, or nothing was printed whole for another reason, which is told.
-#[derive(Clone, Copy)]
-pub(crate) enum Printed {
-    All,
+// Why not all was printed: who reads has closed the pipe, so that nothing more is said; or another reason, which was told.
+#[derive(Clone, Copy, PartialEq, Eq, Drop)]
+pub enum Unprinted {
     Closed,
     Failed,
 }
 
-// Whether all was taken.
-pub(crate) fn is_all(printed: Printed) -> bool {
-    match printed {
-        Printed::All => true,
-        _ => false,
-    }
-}
-
-// Whether who reads has closed the pipe, so that nothing more is said.
-pub(crate) fn is_closed(printed: Printed) -> bool {
-    match printed {
-        Printed::Closed => true,
-        _ => false,
-    }
-}
-
 // Says so where standard output did not take all, and hands that on. Who has closed a pipe is not told: `| head -1` is no mistake.
-pub(crate) fn told(rt: &impl Streams, written: io::Result<()>) -> Printed {
+pub(crate) fn told(rt: &impl Streams, written: io::Result<()>) -> Result<(), Unprinted> {
     let Err(why) = written else {
-        return Printed::All;
+        return Ok(());
     };
     if why.kind() == io::ErrorKind::BrokenPipe {
-        return Printed::Closed;
+        return Err(Unprinted::Closed);
     }
     notes::put_error(rt, b"kifu: refused: standard output");
     notes::end_failed(rt, why);
-    Printed::Failed
+    Err(Unprinted::Failed)
 }
 
 // Prints a block as a text, and says what is lost by that, if it may lose something.
@@ -68,27 +51,24 @@ pub(crate) fn print_text(
     name: &[u8],
     b: &[u8],
     out: &mut [u8],
-) -> Printed {
-    let f = jkf::figures_of(converter::write_as(b, words::mode(rt), out));
+) -> Result<(), Unprinted> {
+    let f = jkf::Figures::from(converter::write_as(b, words::mode(rt), out));
     if f.number != 0 {
         refusals::tell(rt, name, f);
-        return Printed::Failed;
+        return Err(Unprinted::Failed);
     }
-    let printed = told(rt, rt.write_all(lent::front(&out[0..], f.first as usize)));
-    if !is_all(printed) {
-        return printed;
-    }
-    if words::has(rt, words::PLAIN) {
+    told(rt, rt.write_all(lent::front(&out[0..], f.first as usize)))?;
+    if words::has(rt, Flag::Plain) {
         losses::tell(rt, name, b, f.second);
     }
     blocks::tell_nested(rt, name, b, f.second);
-    printed
+    Ok(())
 }
 
 // What is asked of the bytes of a file.
 fn answer(
     rt: &(impl Streams + Env + Files + Input),
-    word: usize,
+    word: Word,
     line: u64,
     entry: u64,
     name: &[u8],
@@ -96,103 +76,58 @@ fn answer(
     out: &mut [u8],
     made: &mut [u8],
 ) {
-    if words::TEXT <= word {
+    if word.is_of_block() {
         blocks::answer(rt, word, line, name, bytes, out, made);
-        return;
-    }
-    if word == words::WHERE {
+    } else if word == Word::Where {
         texts::print_where(rt, name, bytes);
-        return;
+    } else {
+        texts::read(rt, word, line, entry, name, bytes, out, made);
     }
-    texts::read(rt, word, line, entry, name, bytes, out, made);
 }
 
 // What is asked of the file with a name: of one byte more than a text or a block may have, so that a longer one is refused and not cut. What is
 // printed has room: of a block's bytes 20 of an entry come to at most 55 of text, and all others to less at that rate, but for the position, at most
 // 2,048; the longest listing has 112,133. A block that is made has room too, as long as a block can be.
-fn obey(
-    rt: &(impl Streams + Env + Files + Input),
-    word: usize,
-    line: u64,
-    entry: u64,
-    name: &[u8],
-) {
+fn obey(rt: &(impl Streams + Env + Files + Input), word: Word, line: u64, entry: u64, name: &[u8]) {
     let mut input = [0u8; 65536];
-    let files::Got::Bytes(from, to) = files::fill(rt, name, word < words::TEXT, &mut input) else {
+    let Some(bytes) = files::fill(rt, name, !word.is_of_block(), &mut input) else {
         return;
     };
     let mut out = [0u8; 182000];
     let mut made = [0u8; 65535];
-    answer(
-        rt,
-        word,
-        line,
-        entry,
-        name,
-        lent::rest(lent::front(&input, to), from),
-        &mut out,
-        &mut made,
-    );
+    answer(rt, word, line, entry, name, bytes, &mut out, &mut made);
 }
 
-// With the file that the first name is of.
-fn on_file(rt: &(impl Streams + Env + Files + Input), word: usize, line: u64, entry: u64) {
-    let mut name = [0u8; 4096];
-    let n = words::name(rt, 1, &mut name);
-    obey(rt, word, line, entry, &name[..n]);
-}
-
-// With the entry that the third name numbers.
-fn on_entry(rt: &(impl Streams + Env + Files + Input), word: usize, line: u64) {
-    let Numbered::As(entry) = words::number(rt, 3, b"ENTRY") else {
-        return;
-    };
-    on_file(rt, word, line, entry);
-}
-
-// With the line that the second name numbers.
-fn on_line(rt: &(impl Streams + Env + Files + Input), word: usize) {
-    let Numbered::As(line) = words::number(rt, 2, b"LINE") else {
-        return;
-    };
-    if word == words::SHOW {
-        on_entry(rt, word, line);
-        return;
+// The line that the second name numbers and the entry that the third does, where a word takes them, and else 0; or says what is no number.
+fn line_and_entry(rt: &(impl Streams + Env), word: Word) -> Option<(u64, u64)> {
+    if !word.takes_line() {
+        return Some((0, 0));
     }
-    on_file(rt, word, line, 0);
+    let line = words::number(rt, 2, b"LINE")?;
+    if word != Word::Show {
+        return Some((line, 0));
+    }
+    let entry = words::number(rt, 3, b"ENTRY")?;
+    Some((line, entry))
 }
 
-// What the first word asks for, where the others are such as it takes. The rows stand in the order of the words' numbers.
+// What the first word asks for, where the others are such as it takes.
 fn start(rt: &(impl Streams + Env + Files + Input), first: &[u8]) {
-    let uses = b"list FILE [--skip-bom]\n\
-                 tidy FILE [--plain] [--partial] [--skip-bom]\n\
-                 block FILE OUT [--partial] [--skip-bom]\n\
-                 check FILE [--skip-bom]\n\
-                 where FILE [--skip-bom]\n\
-                 put FILE LINE VARIATION [--plain] [--partial] [--skip-bom]\n\
-                 cut FILE LINE [--plain] [--partial] [--skip-bom]\n\
-                 show FILE LINE ENTRY [--skip-bom]\n\
-                 tree FILE [--skip-bom]\n\
-                 text BLOCK [--plain]\n\
-                 restate BLOCK OUT\n\
-                 block-list BLOCK\n\
-                 block-put BLOCK LINE VARIATION OUT [--skip-bom]\n\
-                 block-cut BLOCK LINE OUT\n\
-                 block-tree BLOCK\n";
-    let word = words::word_of(rt, uses, first);
-    if words::NO_WORD <= word || !words::is_used(rt, uses, word) {
+    let Some(word) = words::word_of(rt, first) else {
+        return;
+    };
+    if !words::is_used(rt, word) {
         return;
     }
-    if words::takes(word, words::LINE) {
-        on_line(rt, word);
-    } else {
-        on_file(rt, word, 0, 0);
-    }
+    let Some((line, entry)) = line_and_entry(rt, word) else {
+        return;
+    };
+    let mut name = [0u8; 4096];
+    obey(rt, word, line, entry, words::name(rt, 1, &mut name));
 }
 
 // The first word says what is asked for.
 fn main(rt: HostRuntime) {
     let mut first = [0u8; 4096];
-    let n = words::arg(&rt, 1, &mut first);
-    start(&rt, &first[..n]);
+    start(&rt, words::arg(&rt, 1, &mut first));
 }

@@ -4,13 +4,13 @@ use std::io;
 use std::io::{Cursor, Write};
 
 // A line of the answer, on standard output; or one on standard error, which begins with the mark of its kind, that the launcher goes by.
-pub(crate) const ANSWER: u8 = 0;
-
-pub(crate) const NOTE: u8 = 1;
-
-pub(crate) const REFUSED: u8 = 2;
-
-pub(crate) const UNREAD: u8 = 3;
+#[derive(Clone, Copy, PartialEq, Eq)]
+pub enum Kind {
+    Answer,
+    Note,
+    Refused,
+    Unread,
+}
 
 // Both streams, by bytes: std's `Eprint` takes text alone, and a name may be any bytes.
 pub trait Streams: Print + Eprint {
@@ -30,28 +30,6 @@ pub enum Stream {
     Errors,
 }
 
-// How far a figure is above another; 0 where it is not.
-pub(crate) fn above(x: u64, y: u64) -> u64 {
-    if y <= x { x - y } else { 0 }
-}
-
-// The words that go with a figure: these with 1, and those with any other.
-pub(crate) fn agreeing<'a>(x: u64, one: &'a [u8], more: &'a [u8]) -> &'a [u8] {
-    if x == 1 { one } else { more }
-}
-
-// The place of the first mark for a figure, or the end.
-fn mark(t: &[u8]) -> usize {
-    let mut i = 0;
-    while i < t.len() {
-        if t[i] == b'%' {
-            return i;
-        }
-        i += 1;
-    }
-    i
-}
-
 // Writes bytes, all of them.
 pub(crate) fn put(rt: &impl Streams, to: Stream, t: &[u8]) -> io::Result<()> {
     match to {
@@ -68,30 +46,16 @@ fn put_figure(rt: &impl Streams, to: Stream, x: u64) -> io::Result<()> {
     }
 }
 
-// Words with a figure in the place of each mark, of which there are three at most.
-pub(crate) fn say(
-    rt: &impl Streams,
-    to: Stream,
-    t: &[u8],
-    x: u64,
-    y: u64,
-    z: u64,
-) -> io::Result<()> {
+// Words with a figure in the place of each mark.
+pub(crate) fn say(rt: &impl Streams, to: Stream, t: &[u8], figures: &[u64]) -> io::Result<()> {
     let mut rest = t;
-    let mut a = x;
-    let mut b = y;
-    let mut k: usize = 0;
-    while k < 3 {
-        let at = mark(rest);
-        if rest.len() <= at {
+    for figure in figures {
+        let Some(at) = rest.iter().position(|b| *b == b'%') else {
             return put(rt, to, rest);
-        }
-        put(rt, to, lent::front(rest, at))?;
-        put_figure(rt, to, a)?;
-        a = b;
-        b = z;
-        rest = lent::rest(lent::rest(rest, at), 1);
-        k += 1;
+        };
+        put(rt, to, &rest[..at])?;
+        put_figure(rt, to, *figure)?;
+        rest = &rest[at + 1..];
     }
     put(rt, to, rest)
 }
@@ -102,18 +66,17 @@ pub(crate) fn put_error(rt: &impl Streams, t: &[u8]) {
 }
 
 // Words with figures there.
-pub(crate) fn say_error(rt: &impl Streams, t: &[u8], x: u64, y: u64, z: u64) {
-    let _ = say(rt, Stream::Errors, t, x, y, z);
+pub(crate) fn say_error(rt: &impl Streams, t: &[u8], figures: &[u64]) {
+    let _ = say(rt, Stream::Errors, t, figures);
 }
 
-// Where the number begins that the library puts behind the system's words for a failure; else the end.
-fn number_at(t: &[u8]) -> usize {
-    for i in 0..t.len() {
-        if text::stands(t, i, b" (os error ") {
-            return i;
-        }
+// The system's words for a failure, without the number that the library puts behind them.
+fn without_number(t: &[u8]) -> &[u8] {
+    let number: &[u8] = b" (os error ";
+    match t.windows(number.len()).position(|w| w == number) {
+        Some(at) => lent::front(t, at),
+        None => t,
     }
-    t.len()
 }
 
 // The end of a line about a call that failed: why it did.
@@ -122,43 +85,35 @@ pub(crate) fn end_failed(rt: &impl Streams, why: io::Error) {
     let mut cursor = Cursor::new(&mut out[..]);
     let _ = write!(cursor, "{why}");
     let n = cursor.position() as usize;
-    let t = lent::front(&out, n);
     put_error(rt, b": ");
-    put_error(rt, lent::front(t, number_at(t)));
+    put_error(rt, without_number(lent::front(&out, n)));
     put_error(rt, b"\n");
 }
 
 // The head of a line of a kind on a file; and where the line goes.
-pub(crate) fn head(rt: &impl Streams, kind: u8, name: &[u8]) -> Stream {
-    if kind == ANSWER {
-        return Stream::Output;
-    }
-    put_error(
-        rt,
-        shown::table_text(
-            b"                \
-              \x0ckifu: note:    \
-              \x0fkifu: refused: \
-              \x0ekifu: unread:  ",
-            16 * (kind as usize),
-        ),
-    );
+pub(crate) fn head(rt: &impl Streams, kind: Kind, name: &[u8]) -> Stream {
+    let mark: &[u8] = match kind {
+        Kind::Answer => return Stream::Output,
+        Kind::Note => b"kifu: note: ",
+        Kind::Refused => b"kifu: refused: ",
+        Kind::Unread => b"kifu: unread: ",
+    };
+    put_error(rt, mark);
     quotes::say_name(rt, name);
     put_error(rt, b": ");
     Stream::Errors
 }
 
 // A line of a kind on a file.
-pub(crate) fn tell(rt: &impl Streams, kind: u8, name: &[u8], t: &[u8], x: u64, y: u64) {
+pub(crate) fn tell(rt: &impl Streams, kind: Kind, name: &[u8], t: &[u8], figures: &[u64]) {
     let to = head(rt, kind, name);
-    let _ = say(rt, to, t, x, y, 0);
+    let _ = say(rt, to, t, figures);
     let _ = put(rt, to, b"\n");
 }
 
 // Such a line where there are some of what it tells of.
-pub(crate) fn tell_some(rt: &impl Streams, kind: u8, name: &[u8], t: &[u8], n: u64, y: u64) {
-    if n == 0 {
-        return;
+pub(crate) fn tell_some(rt: &impl Streams, kind: Kind, name: &[u8], t: &[u8], n: u64) {
+    if n != 0 {
+        tell(rt, kind, name, t, &[n]);
     }
-    tell(rt, kind, name, t, n, y);
 }

@@ -1,8 +1,8 @@
 // The lines that reading passes over, and what stands before the moves.
 use crate::notes;
-use crate::notes::Streams;
+use crate::notes::{Kind, Streams};
 use reader::TextLine;
-use text::{Cursor, Place};
+use text::Cursor;
 
 // Where the moves begin, and how many header lines stand before them.
 #[derive(Drop)]
@@ -14,11 +14,11 @@ pub struct Head {
 // A walk over the lines of a text: its place, how many lines it passed over that are none of the usual ones, where the first of these
 // begins, how many of them are moves, where it came past a move or a comment last, whether it came past 変化 since, and whether a line that can be
 // passed over is, as behind another one: a move too, if a TAB stands before it.
-#[derive(Drop)]
+#[derive(Clone, Copy)]
 pub struct Walk {
     pub at: usize,
     pub odd: u64,
-    pub first: usize,
+    pub first: Option<usize>,
     pub hidden: u64,
     pub run: usize,
     pub is_led: bool,
@@ -37,7 +37,7 @@ pub(crate) fn before_moves(s: &[u8]) -> Head {
 
 // Where the words of a skip line begin: an LF takes the line behind it along.
 fn words_at(s: &[u8], at: usize) -> usize {
-    let Place::Past(next) = (Cursor { at }).tag(s, b"\n") else {
+    let Some(next) = (Cursor { at }).tag(s, b"\n") else {
         return at;
     };
     next.at
@@ -54,21 +54,18 @@ fn is_usual(s: &[u8], at: usize) -> bool {
     if s.len() <= at {
         return true;
     }
-    let Place::Absent = (Cursor { at }).blanks(s).line_ending(s) else {
+    if (Cursor { at }).blanks(s).line_ending(s).is_some() {
         return true;
-    };
+    }
     if lent::peek(s, at) == b'#' {
         return true;
     }
     is_plain(s, at)
 }
 
-// 1 where a move stands at a place.
-pub(crate) fn move_at(s: &[u8], at: usize) -> u64 {
-    let Place::Past(_) = moves::move_line_end(Cursor { at }, s) else {
-        return 0;
-    };
-    1
+// Whether a move stands at a place.
+pub(crate) fn is_move(s: &[u8], at: usize) -> bool {
+    moves::move_line_end(Cursor { at }, s).is_some()
 }
 
 // Past a skip line.
@@ -78,22 +75,18 @@ fn past_skip(s: &[u8], w: Walk, next: usize) -> Walk {
     if is_led || is_usual(s, at) {
         return Walk {
             at: next,
-            odd: w.odd,
-            first: w.first,
-            hidden: w.hidden,
-            run: w.run,
             is_led: is_led || w.is_led,
             is_sought: true,
+            ..w
         };
     }
     Walk {
         at: next,
-        odd: std::num::wrapping_add_u64(w.odd, 1),
-        first: if w.odd == 0 { at } else { w.first },
-        hidden: std::num::wrapping_add_u64(w.hidden, move_at(s, at)),
-        run: w.run,
-        is_led: w.is_led,
+        odd: w.odd.wrapping_add(1),
+        first: w.first.or(Some(at)),
+        hidden: w.hidden.wrapping_add(u64::from(is_move(s, at))),
         is_sought: true,
+        ..w
     }
 }
 
@@ -101,12 +94,10 @@ fn past_skip(s: &[u8], w: Walk, next: usize) -> Walk {
 fn past_line(w: Walk, next: usize) -> Walk {
     Walk {
         at: next,
-        odd: w.odd,
-        first: w.first,
-        hidden: w.hidden,
         run: next,
         is_led: false,
         is_sought: false,
+        ..w
     }
 }
 
@@ -125,7 +116,7 @@ fn step(s: &[u8], w: Walk) -> Walk {
     if !w.is_sought {
         return past_any(s, w);
     }
-    let Place::Past(next) = moves::skip_line(Cursor { at: w.at }, s) else {
+    let Some(next) = moves::skip_line(Cursor { at: w.at }, s) else {
         return past_any(s, w);
     };
     past_skip(s, w, next.at)
@@ -136,13 +127,13 @@ fn started(s: &[u8], from: usize) -> Walk {
     let w = Walk {
         at: from,
         odd: 0,
-        first: from,
+        first: None,
         hidden: 0,
         run: from,
         is_led: false,
         is_sought: false,
     };
-    let Place::Past(next) = moves::skip_line(Cursor { at: from }, s) else {
+    let Some(next) = moves::skip_line(Cursor { at: from }, s) else {
         return w;
     };
     let v = past_skip(s, w, next.at);
@@ -155,43 +146,34 @@ fn started(s: &[u8], from: usize) -> Walk {
 // From the first place to the second: there are no more lines than bytes.
 pub(crate) fn walked(s: &[u8], from: usize, to: usize) -> Walk {
     let mut w = started(s, from);
-    let mut k = 0;
-    while k < s.len() {
+    for _ in 0..s.len() {
         if to <= w.at {
             return w;
         }
         w = step(s, w);
-        k += 1;
     }
     w
 }
 
-// 1 where a TAB stands at a place.
-fn tab_at(s: &[u8], at: usize) -> u64 {
-    if lent::peek(s, at) == b'\t' { 1 } else { 0 }
-}
-
 // Says how many lines from a place on were passed over that are none of the usual ones, and what the first of them is; and whether moves are among them.
-pub(crate) fn tell(rt: &impl Streams, kind: u8, name: &[u8], s: &[u8], from: usize) -> bool {
+pub(crate) fn tell(rt: &impl Streams, kind: Kind, name: &[u8], s: &[u8], from: usize) -> bool {
     let w = walked(s, from, s.len());
-    if w.odd == 0 {
+    let Some(first) = w.first else {
         return false;
-    }
+    };
+    let words: &[u8] = if !is_move(s, first) {
+        b"lines passed over: %, the first is line %, which is no move, no comment and no header line; a move is read only with its number"
+    } else if lent::peek(s, first) == b'\t' {
+        b"lines passed over: %, the first is line %, a move, but the TAB before it hides it here"
+    } else {
+        b"lines passed over: %, the first is line %, a move, but the empty line before it takes it along"
+    };
     notes::tell(
         rt,
         kind,
         name,
-        notes::agreeing(
-            move_at(s, w.first),
-            notes::agreeing(
-                tab_at(s, w.first),
-                b"lines passed over: %, the first is line %, a move, but the TAB before it hides it here",
-                b"lines passed over: %, the first is line %, a move, but the empty line before it takes it along",
-            ),
-            b"lines passed over: %, the first is line %, which is no move, no comment and no header line; a move is read only with its number",
-        ),
-        w.odd,
-        stops::line_column(s, w.first).line,
+        words,
+        &[w.odd, stops::line_column(s, first).line],
     );
     0 < w.hidden
 }

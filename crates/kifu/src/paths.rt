@@ -10,23 +10,12 @@ const EILSEQ: i32 = 84;
 
 // The path that a name is.
 pub(crate) fn path_of(name: &[u8]) -> io::Result<&str> {
-    match std::str::from_utf8(name) {
-        Ok(path) => Ok(path),
-        Err(_) => Err(io::Error::from_raw_os_error(EILSEQ)),
-    }
+    std::str::from_utf8(name).map_err(|_| io::Error::from_raw_os_error(EILSEQ))
 }
 
-// Whether a name is one of these, each of which a 0 ends.
+// Whether a name, which is not empty, is one of these, each of which a 0 ends.
 fn is_among(names: &[u8], name: &[u8]) -> bool {
-    for i in 0..names.len() {
-        let is_start = i == 0 || names[i - 1] == 0;
-        if is_start && text::stands(names, i, name) {
-            if lent::peek(names, i + name.len()) == 0 {
-                return true;
-            }
-        }
-    }
-    false
+    names.split(|b| *b == 0).any(|n| n == name)
 }
 
 // Whether a name stands in a folder.
@@ -45,24 +34,15 @@ fn has_entry(rt: &impl Files, folder: &str, name: &[u8]) -> io::Result<bool> {
     Ok(false)
 }
 
-// The place past the last slash; 0 where there is none.
-fn past_folder(name: &[u8]) -> usize {
-    let mut at = 0;
-    for i in 0..name.len() {
-        if name[i] == b'/' {
-            at = i + 1;
-        }
-    }
-    at
-}
-
 // Whether there is a file with a name that is no path, by the names in its folder.
 fn is_there(rt: &impl Files, name: &[u8]) -> io::Result<bool> {
-    let at = past_folder(name);
-    if at == 0 {
-        return has_entry(rt, "./", name);
+    match name.iter().rposition(|b| *b == b'/') {
+        None => has_entry(rt, "./", name),
+        Some(slash) => {
+            let (folder, file) = name.split_at(slash + 1);
+            has_entry(rt, path_of(folder)?, file)
+        }
     }
-    has_entry(rt, path_of(lent::front(name, at))?, lent::rest(name, at))
 }
 
 // The path of a file that is to be read.

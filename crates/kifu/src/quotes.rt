@@ -4,11 +4,8 @@ use crate::notes::{Streams, put_error};
 // Whether the byte at a place stands as it is, in a text or in what is none. The control characters past ASCII are those from C2 80 to C2 9F.
 fn is_shown(w: &[u8], at: usize, is_text: bool) -> bool {
     let b = lent::peek(w, at);
-    if b < b' ' || b == 127 {
-        return false;
-    }
-    if b < 128 {
-        return true;
+    if b.is_ascii() {
+        return !b.is_ascii_control();
     }
     if 0 < at && b < 160 && lent::peek(w, at - 1) == 0xc2 {
         return false;
@@ -16,47 +13,31 @@ fn is_shown(w: &[u8], at: usize, is_text: bool) -> bool {
     is_text
 }
 
-// The place of the first byte that does not, or the end.
-fn first_hidden(w: &[u8], is_text: bool) -> usize {
-    let mut i = 0;
-    while i < w.len() {
-        if !is_shown(w, i, is_text) {
-            return i;
-        }
-        i += 1;
-    }
-    i
-}
-
 // A byte between the quotes.
 fn say_byte(rt: &impl Streams, w: &[u8], at: usize, is_text: bool) {
     let b = lent::peek(w, at);
-    if b != b'\'' && b != b'\\' {
-        if is_shown(w, at, is_text) {
-            put_error(rt, &[b]);
-            return;
-        }
+    if b != b'\'' && b != b'\\' && is_shown(w, at, is_text) {
+        put_error(rt, &[b]);
+        return;
     }
     let _ = eprint!(rt; "\\x{b:02x}");
 }
 
 // All of them.
 fn say_bytes(rt: &impl Streams, w: &[u8], is_text: bool) {
-    let mut i = 0;
-    while i < w.len() {
-        say_byte(rt, w, i, is_text);
-        i += 1;
+    for at in 0..w.len() {
+        say_byte(rt, w, at, is_text);
     }
 }
 
 // A word.
 pub(crate) fn say_word(rt: &impl Streams, w: &[u8]) {
     let is_text = text::well_formed(w) == w.len();
-    if w.len() == 0 {
+    if w.is_empty() {
         put_error(rt, b"''");
         return;
     }
-    if w.len() <= first_hidden(w, is_text) {
+    if (0..w.len()).all(|at| is_shown(w, at, is_text)) {
         put_error(rt, w);
         return;
     }
@@ -67,7 +48,7 @@ pub(crate) fn say_word(rt: &impl Streams, w: &[u8]) {
 
 // The name of a file that is read.
 pub(crate) fn say_name(rt: &impl Streams, name: &[u8]) {
-    if check::same(name, b"-") {
+    if matches!(name, b"-") {
         put_error(rt, b"standard input");
         return;
     }

@@ -1,15 +1,15 @@
 // The position after an entry: the move that led to it and the diagram, or why there is none.   (02, request (i))
-use crate::notes::{REFUSED, Stream, Streams, put, put_error, say_error};
+use crate::notes::{Kind, Stream, Streams, put, put_error, say_error};
 use crate::{notes, refusals};
-use converter::{Mode, Obstacle};
-use jkf::{Entry, Figures, Move, Origin, Position, Time};
-use positions::{After, Hindrance, Trail, Verdict};
+use converter::Mode;
+use jkf::{Entry, Figures, Move, Position, Time};
+use positions::{After, Hindrance, Trail};
 use std::io;
 use text::Cursor;
 
 // A number as a block has it, where none is above 65535.
 pub(crate) fn short(n: usize) -> u16 {
-    if n < 65536 { n as u16 } else { 65535 }
+    u16::try_from(n).unwrap_or(u16::MAX)
 }
 
 // An entry of a line.
@@ -36,9 +36,7 @@ fn print_led(rt: &impl Streams, b: &[u8], trail: Trail) -> io::Result<()> {
         rt,
         Stream::Output,
         b"line %, entry %: ",
-        line as u64,
-        entry as u64,
-        0,
+        &[line as u64, entry as u64],
     )?;
     rt.write_all(lent::front(&out, n))
 }
@@ -52,44 +50,23 @@ fn print_diagram(rt: &impl Print, p: Position) -> io::Result<()> {
 
 // The move that led to a position, and the position.
 pub(crate) fn print(rt: &impl Streams, b: &[u8], after: After) -> io::Result<()> {
-    let trail = after.trail;
-    print_led(rt, b, trail)?;
-    let position = after.position;
-    print_diagram(rt, position)
+    print_led(rt, b, after.trail)?;
+    print_diagram(rt, after.position)
 }
 
-// Where the words of a hindrance begin in their table.
-fn words_of(h: Hindrance) -> usize {
+// Why a move stops the play.
+fn words_of(h: Hindrance) -> &'static [u8] {
     match h {
-        Hindrance::NoneBefore => 0,
-        Hindrance::OffBoard => 56,
-        Hindrance::NotThere => 112,
-        Hindrance::NoPromotion => 168,
-        Hindrance::OwnPiece => 224,
-        Hindrance::King => 280,
-        Hindrance::HandFull => 336,
-        Hindrance::NotInHand => 392,
-        Hindrance::OntoPiece => 448,
+        Hindrance::NoneBefore => b"\xe5\x90\x8c stands with no move before it",
+        Hindrance::OffBoard => b"its place is off the board",
+        Hindrance::NotThere => b"the side to move has no such piece where it comes from",
+        Hindrance::NoPromotion => b"a drop, or a piece of this kind, cannot promote",
+        Hindrance::OwnPiece => b"a piece of its own side stands where it lands",
+        Hindrance::King => b"it would take a king",
+        Hindrance::HandFull => b"the hand has no room for what it takes: 255 is the most",
+        Hindrance::NotInHand => b"the side to move has no such piece in hand",
+        Hindrance::OntoPiece => b"a piece stands where it is dropped",
     }
-}
-
-// Why a move stops the play: rows of 56 bytes.
-fn say_hindrance(rt: &impl Streams, h: Hindrance) {
-    put_error(
-        rt,
-        shown::table_text(
-            b"\x21\xe5\x90\x8c stands with no move before it                      \
-              \x1aits place is off the board                             \
-              \x36the side to move has no such piece where it comes from \
-              \x2fa drop, or a piece of this kind, cannot promote        \
-              \x2da piece of its own side stands where it lands          \
-              \x14it would take a king                                   \
-              \x37the hand has no room for what it takes: 255 is the most\
-              \x2athe side to move has no such piece in hand             \
-              \x22a piece stands where it is dropped                     ",
-            words_of(h),
-        ),
-    );
 }
 
 // An entry without its time.
@@ -97,15 +74,9 @@ fn untimed(e: Entry) -> Entry {
     let Entry::Moved(m) = e else {
         return e;
     };
-    let to = m.to;
-    let from = m.from;
     Entry::Moved(Move {
-        color: m.color,
-        piece: m.piece,
-        promote: m.promote,
-        to,
-        from,
         time: Time::Untimed,
+        ..m
     })
 }
 
@@ -141,26 +112,24 @@ fn say_cell(rt: &impl Streams, cell: u8) {
     let n = spell::put_kind(&mut out, cell % 16);
     put_error(rt, b"; there stands ");
     put_error(rt, lent::front(&out, n));
-    if cell < 16 {
-        put_error(rt, b" of Black");
-        return;
-    }
-    put_error(rt, b" of White");
+    put_error(
+        rt,
+        if cell < 16 {
+            b" of Black"
+        } else {
+            b" of White"
+        },
+    );
 }
 
 // What stands on a square after an entry, which is one that play comes past.
 fn say_square(rt: &impl Streams, b: &[u8], line: u64, entry: u64, x: u8, y: u8) {
     let after = positions::position_after(b, line, entry);
-    let position = after.position;
-    let cells = position.cells;
+    let cells = after.position.cells;
     let at = 9 * (x as usize) + y as usize;
-    if at < 10 {
-        return;
+    if 10 <= at && at <= 90 {
+        say_cell(rt, cells[at - 10]);
     }
-    if 90 < at {
-        return;
-    }
-    say_cell(rt, cells[at - 10]);
 }
 
 // What stands where a move comes from, if it is not the first of its line.
@@ -168,20 +137,16 @@ fn say_there(rt: &impl Streams, b: &[u8], line: u16, entry: u16) {
     let Entry::Moved(m) = entry_at(b, line, entry) else {
         return;
     };
-    let from = m.from;
-    let Origin::From(x, y) = from else {
+    let Some((x, y)) = m.from else {
         return;
     };
     if entry == 0 {
         let parent = block::parent_of(b, line);
-        let hung = notes::above(
-            block::start_of(b, line) as u64,
-            block::start_of(b, short(parent)) as u64,
-        );
-        if hung == 0 {
-            return;
+        let start = block::start_of(b, line);
+        let hung = start.saturating_sub(block::start_of(b, short(parent)));
+        if hung != 0 {
+            say_square(rt, b, parent as u64, hung as u64 - 1, x, y);
         }
-        say_square(rt, b, parent as u64, hung - 1, x, y);
         return;
     }
     say_square(rt, b, line as u64, entry as u64 - 1, x, y);
@@ -189,17 +154,15 @@ fn say_there(rt: &impl Streams, b: &[u8], line: u16, entry: u16) {
 
 // Says in a line at which move play stops, and why.
 fn tell_stop(rt: &impl Streams, name: &[u8], b: &[u8], trail: Trail, h: Hindrance) {
-    notes::head(rt, REFUSED, name);
+    notes::head(rt, Kind::Refused, name);
     say_error(
         rt,
         b"play stops at line of play %, entry % (",
-        trail.line as u64,
-        trail.entry as u64,
-        0,
+        &[trail.line as u64, trail.entry as u64],
     );
     let _ = say_move(rt, Stream::Errors, b, short(trail.line), short(trail.entry));
     put_error(rt, b"): ");
-    say_hindrance(rt, h);
+    put_error(rt, words_of(h));
     if let Hindrance::NotThere = h {
         say_there(rt, b, short(trail.line), short(trail.entry));
     }
@@ -210,7 +173,7 @@ fn tell_stop(rt: &impl Streams, name: &[u8], b: &[u8], trail: Trail, h: Hindranc
 fn tell_start(rt: &impl Streams, name: &[u8], preset: u64) {
     let mut out = [0u8; 16];
     let n = spell::put_preset(&mut out, if preset < 17 { preset as u8 } else { 0 });
-    notes::head(rt, REFUSED, name);
+    notes::head(rt, Kind::Refused, name);
     put_error(rt, b"the handicap is ");
     put_error(rt, lent::front(&out, n));
     put_error(
@@ -222,55 +185,43 @@ fn tell_start(rt: &impl Streams, name: &[u8], preset: u64) {
 
 // Says that a line has no such entry, and which is its last.
 fn tell_entry(rt: &impl Streams, name: &[u8], b: &[u8], line: u64, entry: u64) {
-    let k = if line < 65536 { line as u16 } else { 0 };
-    notes::head(rt, REFUSED, name);
+    let k = u16::try_from(line).unwrap_or(0);
+    let last = block::entry_count(b, k).saturating_sub(1);
+    notes::head(rt, Kind::Refused, name);
     say_error(
         rt,
         b"line of play % has no entry %; its entries are 0 to %",
-        line,
-        entry,
-        notes::above(block::entry_count(b, k) as u64, 1),
+        &[line, entry, last as u64],
     );
     refusals::end(rt, 16);
 }
 
 // The refusal of a position whose hands cannot be written, and else that of the answer.
 fn figures_of(after: After) -> Figures {
-    let position = after.position;
-    if let Obstacle::At(side, kind) = converter::hands_obstacle(position) {
+    if let Some((side, kind)) = converter::hands_obstacle(after.position) {
         return Figures {
             number: 8,
             first: side,
             second: kind,
         };
     }
-    let answer = after.answer;
-    jkf::figures_of(answer)
+    jkf::Figures::from(after.answer)
 }
 
 // Says in a line why there is no position to print; and whether there is none.
 pub(crate) fn tell(rt: &impl Streams, name: &[u8], b: &[u8], after: After) -> bool {
     let trail = after.trail;
     let how = trail.how;
-    if let Verdict::Stops(h) = how {
+    if let Some(h) = how {
         tell_stop(rt, name, b, trail, h);
         return true;
     }
     let f = figures_of(after);
-    let number = f.number;
-    match number {
-        0 => false,
-        15 => {
-            tell_start(rt, name, f.first);
-            true
-        }
-        16 => {
-            tell_entry(rt, name, b, f.first, f.second);
-            true
-        }
-        _ => {
-            refusals::tell(rt, name, f);
-            true
-        }
+    match f.number {
+        0 => return false,
+        15 => tell_start(rt, name, f.first),
+        16 => tell_entry(rt, name, b, f.first, f.second),
+        _ => refusals::tell(rt, name, f),
     }
+    true
 }

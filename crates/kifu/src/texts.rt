@@ -1,9 +1,9 @@
 // What is asked of a KIF text.
-use crate::edits::Edited;
-use crate::notes::{ANSWER, NOTE, REFUSED, Stream, Streams, UNREAD};
+use crate::notes::{Kind, Stream, Streams};
+use crate::words::Word;
 use crate::{
-    Printed, edits, files, is_all, is_closed, notes, passes, print_text, refusals, shows, times,
-    told, trees, wheres, words,
+    Unprinted, edits, files, notes, passes, print_text, refusals, shows, times, told, trees,
+    wheres, words,
 };
 use std::io;
 use std::rt::{Env, Files};
@@ -17,64 +17,45 @@ fn lines_of(s: &[u8], n: usize) -> u64 {
     stops::line_column(s, n - 1).line
 }
 
-// How many lines begin with a byte, and where the first of them begins: the end where there is none.
-#[derive(Drop)]
-struct Led {
-    count: u64,
-    first: usize,
-}
-
 // Whether a line begins at a place with a byte.
 fn is_led(s: &[u8], at: usize, b: u8) -> bool {
-    if lent::peek(s, at) != b {
-        return false;
-    }
-    if at == 0 {
-        return true;
-    }
-    lent::peek(s, at - 1) == b'\n'
+    lent::peek(s, at) == b && (at == 0 || lent::peek(s, at - 1) == b'\n')
 }
 
-// Over all lines of a text.
-fn led_by(s: &[u8], b: u8) -> Led {
-    let mut count = 0;
-    let mut first = s.len();
-    let mut i = 0;
-    while i < s.len() {
-        if is_led(s, i, b) {
-            if count == 0 {
-                first = i;
-            }
-            count = std::num::wrapping_add_u64(count, 1);
-        }
-        i += 1;
-    }
-    Led { count, first }
+// Where the first line begins that begins with a byte.
+fn first_led(s: &[u8], b: u8) -> Option<usize> {
+    (0..s.len()).find(|at| is_led(s, *at, b))
+}
+
+// How many lines begin with a byte.
+fn count_led(s: &[u8], b: u8) -> usize {
+    (0..s.len()).filter(|at| is_led(s, *at, b)).count()
 }
 
 // Says what a person may not expect of a text that was read: it has no moves, or a diagram that was not understood.
-fn tell_doubts(rt: &impl Streams, kind: u8, name: &[u8], s: &[u8], b: &[u8]) {
-    if s.len() == 0 {
-        notes::tell(rt, kind, name, b"the file is empty", 0, 0);
+fn tell_doubts(rt: &impl Streams, kind: Kind, name: &[u8], s: &[u8], b: &[u8]) {
+    if s.is_empty() {
+        notes::tell(rt, kind, name, b"the file is empty", &[]);
     }
     if block::moves_in(b) == 1 {
-        notes::tell(rt, kind, name, b"no move was read", 0, 0);
+        notes::tell(rt, kind, name, b"no move was read", &[]);
     }
-    let bars = led_by(s, b'|');
-    if 0 < bars.count && block::position_of(b).board == 0 {
+    let Some(at) = first_led(s, b'|') else {
+        return;
+    };
+    if block::position_of(b).board == 0 {
         notes::tell(
             rt,
             kind,
             name,
             b"line %: this looks like a diagram that cannot be read; the game starts from \xe5\xb9\xb3\xe6\x89\x8b or a handicap",
-            stops::line_column(s, bars.first).line,
-            0,
+            &[stops::line_column(s, at).line],
         );
     }
 }
 
 // Says what was left of a text that was read, and what was passed over in it; and whether moves were passed over.
-fn tell_read(rt: &impl Streams, kind: u8, name: &[u8], s: &[u8], b: &[u8]) -> bool {
+fn tell_read(rt: &impl Streams, kind: Kind, name: &[u8], s: &[u8], b: &[u8]) -> bool {
     wheres::tell_left(rt, kind, name, s);
     let is_hiding = passes::tell(rt, kind, name, s, passes::before_moves(s).next);
     tell_doubts(rt, kind, name, s, b);
@@ -87,25 +68,22 @@ fn print_counts(rt: &impl Streams, s: &[u8], taken: usize, b: &[u8]) -> io::Resu
         rt,
         Stream::Output,
         b"lines read: % of %",
-        lines_of(s, taken),
-        lines_of(s, s.len()),
-        0,
+        &[lines_of(s, taken), lines_of(s, s.len())],
     )?;
     notes::say(
         rt,
         Stream::Output,
         b" (% of % bytes)\n",
-        taken as u64,
-        s.len() as u64,
-        0,
+        &[taken as u64, s.len() as u64],
     )?;
     notes::say(
         rt,
         Stream::Output,
         b"lines of play: %, moves and endings: %\n",
-        block::lines_in(b) as u64,
-        notes::above(block::moves_in(b) as u64, 1),
-        0,
+        &[
+            block::lines_in(b) as u64,
+            block::moves_in(b).saturating_sub(1) as u64,
+        ],
     )
 }
 
@@ -119,29 +97,25 @@ fn print_check(
     lost: u64,
 ) -> io::Result<()> {
     print_counts(rt, s, taken, b)?;
+    let headers = passes::before_moves(s).headers;
     notes::tell_some(
         rt,
-        ANSWER,
+        Kind::Answer,
         name,
         b"lines that begin with #, which are not kept: %",
-        led_by(s, b'#').count,
-        0,
+        count_led(s, b'#') as u64,
     );
     notes::tell_some(
         rt,
-        ANSWER,
+        Kind::Answer,
         name,
         b"header lines whose key stands again below, which are not kept: %",
-        notes::above(
-            passes::before_moves(s).headers as u64,
-            block::headers_in(b) as u64,
-        ),
-        0,
+        headers.saturating_sub(block::headers_in(b)) as u64,
     );
-    if tell_read(rt, ANSWER, name, s, b) {
-        notes::tell(rt, UNREAD, name, b"moves were passed over", 0, 0);
+    if tell_read(rt, Kind::Answer, name, s, b) {
+        notes::tell(rt, Kind::Unread, name, b"moves were passed over", &[]);
     }
-    times::tell(rt, ANSWER, name, times::of_text(s, lost));
+    times::tell(rt, Kind::Answer, name, times::of_text(s, lost));
     Ok(())
 }
 
@@ -159,12 +133,12 @@ fn print_listing(rt: &impl Print, taken: u64, b: &[u8], out: &mut [u8]) -> io::R
 }
 
 // Writes a block into the new file that the second name is of, and prints how long it is; without that the file goes again.
-fn keep(rt: &(impl Streams + Env + Files), taken: u64, b: &[u8]) -> Printed {
+fn keep(rt: &(impl Streams + Env + Files), taken: u64, b: &[u8]) -> Result<(), Unprinted> {
     if !files::keep(rt, 2, b) {
-        return Printed::Failed;
+        return Err(Unprinted::Failed);
     }
     let printed = told(rt, print_read(rt, taken, b.len() as u64));
-    if !is_all(printed) && !is_closed(printed) {
+    if let Err(Unprinted::Failed) = printed {
         files::remove(rt, 2);
     }
     printed
@@ -173,33 +147,41 @@ fn keep(rt: &(impl Streams + Env + Files), taken: u64, b: &[u8]) -> Printed {
 // Prints a block as a text once it is edited. The edit is done before anything is printed, so both use one buffer.
 fn print_edited(
     rt: &(impl Streams + Env + Files + Input),
-    word: usize,
+    word: Word,
     line: u64,
     name: &[u8],
     b: &[u8],
     out: &mut [u8],
-) -> Printed {
+) -> Result<(), Unprinted> {
     let mut edited = [0u8; 65535];
-    let Edited::Block(n, second, times) = edits::make(rt, word, line, name, b, out, &mut edited)
-    else {
-        return Printed::Failed;
+    let Some(e) = edits::make(rt, word, line, name, b, out, &mut edited) else {
+        return Err(Unprinted::Failed);
     };
-    let printed = print_text(rt, name, lent::front(&edited, n), out);
-    if !is_all(printed) {
-        return printed;
+    print_text(rt, name, lent::front(&edited, e.len), out)?;
+    edits::tell_variation(rt, e.times);
+    if word == Word::Cut {
+        notes::tell(
+            rt,
+            Kind::Note,
+            name,
+            b"lines of play cut out: %",
+            &[e.second],
+        );
     }
-    edits::tell_variation(rt, times);
-    if word == words::CUT {
-        notes::tell(rt, NOTE, name, b"lines of play cut out: %", second, 0);
-    }
-    printed
+    Ok(())
 }
 
 // Prints the position after an entry, or says why there is none.
-fn print_position(rt: &impl Streams, name: &[u8], b: &[u8], line: u64, entry: u64) -> Printed {
+fn print_position(
+    rt: &impl Streams,
+    name: &[u8],
+    b: &[u8],
+    line: u64,
+    entry: u64,
+) -> Result<(), Unprinted> {
     let after = positions::position_after(b, line, entry);
     if shows::tell(rt, name, b, after) {
-        return Printed::Failed;
+        return Err(Unprinted::Failed);
     }
     told(rt, shows::print(rt, b, after))
 }
@@ -207,21 +189,20 @@ fn print_position(rt: &impl Streams, name: &[u8], b: &[u8], line: u64, entry: u6
 // What is asked of a text that was read into a block, but for `check`. Two calls keep what an edit needs of the stack apart from this function's.
 fn give(
     rt: &(impl Streams + Env + Files + Input),
-    word: usize,
+    word: Word,
     line: u64,
     entry: u64,
     name: &[u8],
     taken: u64,
     b: &[u8],
     out: &mut [u8],
-) -> Printed {
+) -> Result<(), Unprinted> {
     match word {
-        words::LIST => told(rt, print_listing(rt, taken, b, out)),
-        words::BLOCK => keep(rt, taken, b),
-        words::PUT => print_edited(rt, word, line, name, b, out),
-        words::CUT => print_edited(rt, word, line, name, b, out),
-        words::SHOW => print_position(rt, name, b, line, entry),
-        words::TREE => told(rt, trees::print(rt, b)),
+        Word::List => told(rt, print_listing(rt, taken, b, out)),
+        Word::Block => keep(rt, taken, b),
+        Word::Put | Word::Cut => print_edited(rt, word, line, name, b, out),
+        Word::Show => print_position(rt, name, b, line, entry),
+        Word::Tree => told(rt, trees::print(rt, b)),
         _ => print_text(rt, name, b, out),
     }
 }
@@ -233,30 +214,26 @@ fn tell_passed(rt: &impl Streams, name: &[u8], s: &[u8], b: &[u8]) -> bool {
     if w.hidden == 0 && (w.odd == 0 || block::moves_in(b) != 1) {
         return false;
     }
-    passes::tell(rt, REFUSED, name, s, from);
+    passes::tell(rt, Kind::Refused, name, s, from);
     notes::tell(
         rt,
-        NOTE,
+        Kind::Note,
         name,
         b"nothing was done, since moves would be lost; --partial goes on without them",
-        0,
-        0,
+        &[],
     );
     true
 }
 
 // Says what a word that writes would lose of a text; and whether there is such a thing.
 fn tell_loss(rt: &impl Streams, name: &[u8], s: &[u8], b: &[u8]) -> bool {
-    if wheres::tell_left(rt, REFUSED, name, s) {
-        return true;
-    }
-    tell_passed(rt, name, s, b)
+    wheres::tell_left(rt, Kind::Refused, name, s) || tell_passed(rt, name, s, b)
 }
 
 // Reads a text into a block, does what is asked of it and tells the rest; of times that were lost a listing has none to show.
 pub(crate) fn read(
     rt: &(impl Streams + Env + Files + Input),
-    word: usize,
+    word: Word,
     line: u64,
     entry: u64,
     name: &[u8],
@@ -265,26 +242,25 @@ pub(crate) fn read(
     made: &mut [u8],
 ) {
     let r = parser::fill(text, made);
-    let a = r.answer;
-    let f = jkf::figures_of(a);
+    let f = jkf::Figures::from(r.answer);
     if f.number != 0 {
         refusals::tell_text(rt, name, text, f);
         return;
     }
     let b = lent::front(&made[0..], f.second as usize);
-    if word == words::CHECK {
-        told(rt, print_check(rt, name, text, f.first as usize, b, r.lost));
+    if word == Word::Check {
+        let _ = told(rt, print_check(rt, name, text, f.first as usize, b, r.lost));
         return;
     }
     if words::wants_all(rt, word) && tell_loss(rt, name, text, b) {
         return;
     }
-    if is_closed(give(rt, word, line, entry, name, f.first, b, out)) {
+    if let Err(Unprinted::Closed) = give(rt, word, line, entry, name, f.first, b, out) {
         return;
     }
-    tell_read(rt, NOTE, name, text, b);
-    if word != words::LIST {
-        times::tell(rt, NOTE, name, times::of_text(text, r.lost));
+    tell_read(rt, Kind::Note, name, text, b);
+    if word != Word::List {
+        times::tell(rt, Kind::Note, name, times::of_text(text, r.lost));
     }
 }
 
@@ -295,10 +271,14 @@ pub(crate) fn print_where(rt: &impl Streams, name: &[u8], text: &[u8]) {
         refusals::tell_stop(rt, name, text, stop);
         return;
     };
-    if is_all(told(
-        rt,
-        wheres::print(rt, name, text, taken as usize, reason, at as usize),
-    )) {
-        passes::tell(rt, ANSWER, name, text, passes::before_moves(text).next);
+    let printed = wheres::print(rt, name, text, taken as usize, reason, at as usize);
+    if told(rt, printed).is_ok() {
+        passes::tell(
+            rt,
+            Kind::Answer,
+            name,
+            text,
+            passes::before_moves(text).next,
+        );
     }
 }

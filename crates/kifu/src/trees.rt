@@ -10,16 +10,14 @@ fn depth(b: &[u8], k: u16) -> usize
     ensures { result ≤ 12 }
 {
     let mut line = k;
-    let mut d = 0;
-    while d < 12 {
+    for d in 0..12 {
         let parent = block::parent_of(b, line);
         if line as usize <= parent {
             return d;
         }
         line = shows::short(parent);
-        d += 1;
     }
-    d
+    12
 }
 
 // Whether an entry of a line has a comment.
@@ -30,14 +28,7 @@ fn is_commented(b: &[u8], k: u16, entry: u16) -> bool {
 
 // Whether one of the entries from one to another has.
 fn are_commented(b: &[u8], k: u16, from: u16, to: u16) -> bool {
-    let mut i = from;
-    while i < to {
-        if is_commented(b, k, i) {
-            return true;
-        }
-        i += 1;
-    }
-    false
+    (from..to).any(|i| is_commented(b, k, i))
 }
 
 // The mark of a comment.
@@ -58,22 +49,19 @@ fn print_entry(rt: &impl Streams, b: &[u8], k: u16, entry: u16) -> io::Result<()
 // How far a line goes whose other entries are not shown, marked where one of them is.
 fn print_last(rt: &impl Streams, b: &[u8], k: u16, from: u16, count: u16) -> io::Result<()> {
     let past = block::start_of(b, k) as u64 + count as u64;
-    notes::say(rt, Stream::Output, b"  .. %", notes::above(past, 1), 0, 0)?;
+    notes::say(rt, Stream::Output, b"  .. %", &[past.saturating_sub(1)])?;
     print_mark(rt, are_commented(b, k, from, count))
 }
 
 // The first three entries of a line from one on, and how far it goes.
 fn print_entries(rt: &impl Streams, b: &[u8], k: u16, from: u16) -> io::Result<()> {
     let count = shows::short(block::entry_count(b, k));
-    let mut i = from;
-    let mut left: u8 = 3;
-    while i < count {
-        if left == 0 {
-            return print_last(rt, b, k, i, count);
-        }
+    let past = from.saturating_add(3).min(count);
+    for i in from..past {
         print_entry(rt, b, k, i)?;
-        left -= 1;
-        i += 1;
+    }
+    if past < count {
+        print_last(rt, b, k, past, count)?;
     }
     Ok(())
 }
@@ -81,7 +69,7 @@ fn print_entries(rt: &impl Streams, b: &[u8], k: u16, from: u16) -> io::Result<(
 // A line; the comments that stand before the first move are those of the main line's first entry.
 fn print_line(rt: &impl Streams, b: &[u8], k: u16) -> io::Result<()> {
     rt.write_all(lent::front(b"                        ", 2 * depth(b, k)))?;
-    notes::say(rt, Stream::Output, b"line %:", k as u64, 0, 0)?;
+    notes::say(rt, Stream::Output, b"line %:", &[k as u64])?;
     if k != 0 {
         print_entries(rt, b, k, 0)?;
     } else {
@@ -95,11 +83,8 @@ fn print_line(rt: &impl Streams, b: &[u8], k: u16) -> io::Result<()> {
 
 // All of them.
 pub(crate) fn print(rt: &impl Streams, b: &[u8]) -> io::Result<()> {
-    let lines = shows::short(block::lines_in(b));
-    let mut k = 0;
-    while k < lines {
+    for k in 0..shows::short(block::lines_in(b)) {
         print_line(rt, b, k)?;
-        k += 1;
     }
     Ok(())
 }

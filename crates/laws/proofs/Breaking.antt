@@ -1,6 +1,7 @@
 -- Where header lines begin: at the start of the text, or past a break. Information lines, # lines and the diagram all end in a break, so
 -- in a well-formed text each header line begins between two characters.
 -- Assumes nothing.
+use Rattle.std.specs.Prelude.{Option, Some, None}
 use Prim.Native.Nat.{ℕ, zero, suc, ◌+◌}
 use mathlib.Core.Path.{◌≡◌, refl, subst}
 use mathlib.Core.List.{List, [], ◌∷◌, ◌++◌}
@@ -13,13 +14,10 @@ use Rattle.lists.proofs.Laws.{by_pick}
 use Rattle.text.specs.Text.{cursor, on_place, tag_at, break_at, tail_at, line_end_at, padding_at, wide_colon, key_at}
 use Rattle.text.specs.Utf8.{well_formed_bytes}
 use Rattle.text.specs.declared.Cursor.{Cursor}
-use Rattle.text.specs.declared.Place.{Place}
-use Rattle.text.specs.declared.Place.TheVariants.{Past, Absent}
 use Rattle.text.proofs.Laws.{place_back}
 use Rattle.text.proofs.Answers.{by_place, by_past}
 use Rattle.text.proofs.Boundaries.{Boundary, boundary_start, boundary_break}
 use Rattle.spell.specs.Tables.{presets, sides}
-use Rattle.spell.specs.declared.Spelled.{Spelled}
 use Rattle.spell.proofs.Answers.{OnSpelled, is_as, is_not, by_spelled, first_known}
 use Rattle.kakinoki.specs.Informations.{on_held, on_key_value, hash_line_at, hash_item, hash_lines_at, padded_end_at, ends_line, preset_line_at, turn_line_at, empty_hand, hand_at, held_at, hand_line_at, value_at, key_value_at, Said, information, keyed_at, hands_or_keyed_at, information_at, is_line, information_item, informations_at, keyed_place, header_places_from, header_places_at}
 use Rattle.spell.specs.Words.{preset_tag, turn_tag, hands_tag, files_tag, rule_tag}
@@ -29,7 +27,6 @@ use Rattle.kakinoki.specs.declared.HandSaid.{HandSaid}
 use Rattle.kakinoki.specs.declared.Held.{Held}
 use Rattle.kakinoki.specs.declared.Held.TheVariants.{By, Unreadable, NoHand}
 use Rattle.kakinoki.specs.declared.KeyValue.{KeyValue}
-use Rattle.kakinoki.specs.declared.KeyValue.TheVariants.{Pair, NoPair}
 use Rattle.kakinoki.specs.declared.Info.{Info}
 use Rattle.kakinoki.specs.declared.Info.TheVariants.{Preset, Turn, Hands, Keyed, Refused, Nothing}
 use Rattle.kakinoki.specs.declared.Information.{Information}
@@ -55,26 +52,26 @@ many_keeps {A} item P h (suc n) at p = go (item at) refl (many_keeps item P h n)
 -- ---- the parts of a header line
 
 pub record HeaderParts (s : List ℕ) (at : ℕ) (from to end : Cursor) : Type 0 where
-  pub colon : tag_at wide_colon s (at + length (key_at s at)) ≡ Past from
-  pub tail : tail_at s from.at ≡ Past to
-  pub over : break_at s to.at ≡ Past end
+  pub colon : tag_at wide_colon s (at + length (key_at s at)) ≡ Some from
+  pub tail : tail_at s from.at ≡ Some to
+  pub over : break_at s to.at ≡ Some end
 
-abbrev OnPair : (Cursor → Cursor → Cursor → Type 0) → KeyValue → Type 0
-OnPair P (Pair from to end) = P from to end
-OnPair P NoPair = Unit {0}
+abbrev OnPair : (Cursor → Cursor → Cursor → Type 0) → Option KeyValue → Type 0
+OnPair P (Some p) = P p.from p.to p.next
+OnPair P None = Unit {0}
 
 parts_known : (s : List ℕ) (at : ℕ) → OnPair (HeaderParts s at) (key_value_at s at)
 unfolding key_value_at value_at
 parts_known s at =
-    by_pick Q (eqb (length (key_at s at)) 0) NoPair (value_at s (at + length (key_at s at))) (λ _. tt)
+    by_pick Q (eqb (length (key_at s at)) 0) None (value_at s (at + length (key_at s at))) (λ _. tt)
     (λ _. by_past Q tt (tag_at wide_colon s (at + length (key_at s at)))
     (λ from p. by_past Q tt (tail_at s from.at)
     (λ to q. by_past Q tt (break_at s to.at) (λ end r. record { colon = p; tail = q; over = r }))))
   where
-    Q : KeyValue → Type 0
+    Q : Option KeyValue → Type 0
     Q = OnPair (HeaderParts s at)
 
-pub pair_parts : (s : List ℕ) (at : ℕ) (from to end : Cursor) → key_value_at s at ≡ Pair from to end → HeaderParts s at from to end
+pub pair_parts : (s : List ℕ) (at : ℕ) (from to end : Cursor) → key_value_at s at ≡ Some (record { from = from; to = to; next = end }) → HeaderParts s at from to end
 pair_parts s at from to end e = subst (OnPair (HeaderParts s at)) e (parts_known s at)
 
 -- ---- past a break
@@ -83,11 +80,11 @@ module _ (s : List ℕ) (w : well_formed_bytes s ≡ length s) where
   abbrev Bound : Cursor → Type 0
   Bound c = Boundary s c.at
 
-  break_bound : (at : ℕ) (c : Cursor) → break_at s at ≡ Past c → Bound c
+  break_bound : (at : ℕ) (c : Cursor) → break_at s at ≡ Some c → Bound c
   break_bound at c e = (boundary_break s at c w e).1
 
   -- # lines
-  hash_bound : (at : ℕ) (c : Cursor) → hash_line_at s at ≡ Past c → Bound c
+  hash_bound : (at : ℕ) (c : Cursor) → hash_line_at s at ≡ Some c → Bound c
   unfolding hash_line_at line_end_at
   hash_bound at c e =
       let (d, _, q) = place_back (tag_at (35 ∷ []) s at) (λ d. line_end_at s d.at) c e in
@@ -98,16 +95,16 @@ module _ (s : List ℕ) (w : well_formed_bytes s ≡ length s) where
   unfolding hash_lines_at
   hashes_bound at = many_keeps (hash_item s) (Boundary s) (λ at to a. go at to a (hash_line_at s at) refl) (length s) at
     where
-      go : (at to : ℕ) (a : Unit {0}) (r : Place) → hash_line_at s at ≡ r → on_place r (λ c. more c.at tt) stop ≡ more to a → Boundary s to
-      go at to a (Past c) p e = subst (Boundary s) (on-more e) (hash_bound at c p)
-      go at to a Absent p e = no_more e
+      go : (at to : ℕ) (a : Unit {0}) (r : Option Cursor) → hash_line_at s at ≡ r → on_place r (λ c. more c.at tt) stop ≡ more to a → Boundary s to
+      go at to a (Some c) p e = subst (Boundary s) (on-more e) (hash_bound at c p)
+      go at to a None p e = no_more e
 
   -- information lines
-  padded_bound : (at : ℕ) (c : Cursor) → padded_end_at s at ≡ Past c → Bound c
+  padded_bound : (at : ℕ) (c : Cursor) → padded_end_at s at ≡ Some c → Bound c
   unfolding padded_end_at
   padded_bound at c e = break_bound (padding_at s at) c e
 
-  abbrev SpelledBound : Spelled → Type 0
+  abbrev SpelledBound : Option (ℕ × Cursor) → Type 0
   SpelledBound = OnSpelled (λ n c. Bound c)
 
   ends_bound : (n at : ℕ) → SpelledBound (ends_line s n at)
@@ -142,9 +139,9 @@ module _ (s : List ℕ) (w : well_formed_bytes s ≡ length s) where
   unfolding keyed_at
   keyed_bound at = go (key_value_at s at) refl
     where
-      go : (r : KeyValue) → key_value_at s at ≡ r → LineBound (on_key_value r (λ from to end. information Keyed empty_hand end) (information Nothing empty_hand (cursor at)))
-      go (Pair from to end) e _ = break_bound to.at end (pair_parts s at from to end e).over
-      go NoPair e t = absurd (false≢true t)
+      go : (r : Option KeyValue) → key_value_at s at ≡ r → LineBound (on_key_value r (λ from to end. information Keyed empty_hand end) (information Nothing empty_hand (cursor at)))
+      go (Some r) e _ = break_bound r.to.at r.next (pair_parts s at r.from r.to r.next e).over
+      go None e t = absurd (false≢true t)
 
   hands_bound : (at : ℕ) → LineBound (hands_or_keyed_at s at)
   unfolding hands_or_keyed_at

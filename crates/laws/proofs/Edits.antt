@@ -11,6 +11,7 @@
 --     no-cut-too-long          cut never refuses for the length of the block
 -- (01, Put-in and cut; 02, request (vi))
 -- Assumes nothing.
+use Rattle.std.specs.Prelude.{Some}
 use Prim.Native.Nat.{ℕ, ◌+◌, ◌-◌, ◌≤◌, ◌<◌}
 use native.Mathlib.Omega.{arith}
 use mathlib.Core.Path.{◌≡◌, sym, ap, ap₂, ◌∙◌, subst}
@@ -29,7 +30,6 @@ use Rattle.jkf.specs.Trees.{HangsFrom}
 use Rattle.jkf.proofs.Nears.{near_before, near_same}
 use Rattle.jkf.proofs.Chains.{Falls, from-same}
 use Rattle.jkf.proofs.Branching.{branched_falls}
-use Rattle.jkf.specs.declared.Hang.TheVariants.{On}
 use Rattle.jkf.specs.Model.{Line, Record}
 use Rattle.block.specs.Encode.{encode}
 use Rattle.block.specs.Decode.{decode, version_in, lines_in, start_of, entry_count, parent_of}
@@ -169,21 +169,21 @@ module _ (b t o : List ℕ) (bs : Bytes b) (ts : Bytes t) (k n i : ℕ) (done : 
 
   -- where the attaching rule finds that it hangs
   new_hang : hangs (start_of (put_block b t o k n)) (entry_count (put_block b t o k n)) (ply_at t 0) (put_place b k t)
-      ≡ On k (ply_at t 0 - start_of b k)
+      ≡ Some (k, ply_at t 0 - start_of b k)
   new_hang =
       let qs = put_lines b k t in
       hangs_alike (start_of c) (starts_in qs) (entry_count c) (counts_in qs) (ply_at t 0) (put_place b k t) (inserted.later (version_in b) old k (variation_of t) puts.put)
       (λ j l. relined-start b (version_in b) qs c puts.formed puts.front j (omega (arith, in_lines)))
       (λ j l. relined-count b (version_in b) qs c puts.formed puts.front j (omega (arith, in_lines)))
       ∙ inserted.put-hangs (version_in b) old k (variation_of t) puts.put
-      ∙ ap (λ (x : ℕ). On k (ply_at t 0 - x)) (start_in b k (omega (arith, puts.put.line, lines_counted b)))
+      ∙ ap (λ (x : ℕ). Some (k, ply_at t 0 - x)) (start_in b k (omega (arith, puts.put.line, lines_counted b)))
 
   pub put-hangs : (line_of (decode (put_block b t o k n)).lines i ≡ record { start = ply_at t 0; parent = k; entries = (entries_at t 0).state })
-      × (hangs (start_of (put_block b t o k n)) (entry_count (put_block b t o k n)) (ply_at t 0) i ≡ On k (ply_at t 0 - start_of b k))
+      × (hangs (start_of (put_block b t o k n)) (entry_count (put_block b t o k n)) (ply_at t 0) i ≡ Some (k, ply_at t 0 - start_of b k))
   put-hangs = (
     subst (λ (x : ℕ). line_of (decode c).lines x ≡ line_on k (variation_of t)) (sym puts.place)
         (ap (λ (ls : List Line). line_of ls (put_place b k t)) put-lines ∙ inserted.put_new (version_in b) old k (variation_of t) puts.put),
-    subst (λ (x : ℕ). hangs (start_of c) (entry_count c) (ply_at t 0) x ≡ On k (ply_at t 0 - start_of b k)) (sym puts.place) new_hang,
+    subst (λ (x : ℕ). hangs (start_of c) (entry_count c) (ply_at t 0) x ≡ Some (k, ply_at t 0 - start_of b k)) (sym puts.place) new_hang,
   )
 
   pub put_first : (l : ℕ) → 0 < l → l < i → parent_of (put_block b t o k n) l ≡ k → start_of (put_block b t o k n) l ≡ ply_at t 0 → ⊥

@@ -1,5 +1,6 @@
 -- The bytes of an entry that was read off a move line are bytes.
 -- Assumes nothing.
+use Rattle.std.specs.Prelude.{Option, Some, None}
 use Prim.Native.Nat.{ℕ, ◌+◌, ◌≤◌, ◌<◌}
 use native.Mathlib.Omega.{arith}
 use lib.ListN.{get_or}
@@ -12,8 +13,6 @@ use Rattle.jkf.specs.declared.Time.{Time}
 use Rattle.jkf.specs.declared.Time.TheVariants.{Untimed, Timed}
 use Rattle.jkf.specs.declared.Target.{Target}
 use Rattle.jkf.specs.declared.Target.TheVariants.{Same, Square}
-use Rattle.jkf.specs.declared.Origin.{Origin}
-use Rattle.jkf.specs.declared.Origin.TheVariants.{Unknown, From}
 use Rattle.jkf.specs.declared.Entry.{Entry}
 use Rattle.jkf.specs.declared.Entry.TheVariants.{Slot}
 use Rattle.block.specs.EntryBytes.{from_mark, same_mark, hour_mark, time_mark, target_bytes, origin_bytes, clock_bytes, time_bytes, entry_head, entry_bytes}
@@ -51,7 +50,7 @@ target-bytes (square_fits {x} {y} _ h _ k) =
     let j : y < 256 = omega arith in
     each i (bytes_one j)
 
-origin-bytes : {o : Origin} → OriginFits o → Bytes (origin_bytes o)
+origin-bytes : {o : Option (ℕ × ℕ)} → OriginFits o → Bytes (origin_bytes o)
 origin-bytes (from_fits {x} {y} h k _) =
     let i : x < 256 = omega arith in
     let j : y < 256 = omega arith in
@@ -69,9 +68,9 @@ same-mark : (t : Target) → same_mark t ≤ 2
 same-mark Same = omega arith
 same-mark (Square x y) = omega arith
 
-from-mark : (o : Origin) → from_mark o ≤ 1
-from-mark Unknown = omega arith
-from-mark (From x y) = omega arith
+from-mark : (o : Option (ℕ × ℕ)) → from_mark o ≤ 1
+from-mark None = omega arith
+from-mark (Some (x, y)) = omega arith
 
 head-bytes : {e : Entry} → EntryFits e → Bytes (entry_head e)
 unfolding entry_head

@@ -1,5 +1,6 @@
 -- The record that a reading gives is well formed, and a reading that is done leaves its block at the front of the buffer.
 -- Assumes nothing.
+use Rattle.std.specs.Prelude.{Option, Some, None}
 use Prim.Native.Nat.{ℕ, ◌+◌, ◌*◌, ◌≤◌, ◌<◌}
 use native.Mathlib.Omega.{arith}
 use mathlib.Core.Path.{◌≡◌, refl, ap, ◌∙◌}
@@ -22,15 +23,11 @@ use Rattle.block.specs.Encode.{encode, head_bytes, entries_of, comments_of, head
 use Rattle.block.specs.Formed.{Formed}
 use Rattle.moves.proofs.Smalls.{Bytes, each, bytes-at, bytes-join, bytes_one, bytes_16, zeros}
 use Rattle.kakinoki.specs.Starts.{on_fault, start_read}
-use Rattle.kakinoki.specs.declared.Fault.{Fault}
-use Rattle.kakinoki.specs.declared.Fault.TheVariants.{NoFault, At}
 use Rattle.kakinoki.proofs.Reach.{repeat_keeps}
 use Rattle.plays.specs.Plays.{plays_at}
 use Rattle.filling.specs.Filling.{at_front}
 use Rattle.parser.specs.Parse.{headers_of, parse, record_of, needed}
 use Rattle.parser.specs.Read.{on_early, filled_with, read_stored, early_of, faultless, fill_of}
-use Rattle.parser.specs.declared.Early.{Early}
-use Rattle.parser.specs.declared.Early.TheVariants.{Refused, Passed}
 use Rattle.plays.proofs.Items.{on-more, no_more}
 use Rattle.laws.proofs.Playing.{entries-kind, comments-valid, some-lines, lines_fit}
 use Rattle.laws.proofs.Smalling.{lines-bytes, entries-bytes, remarks_bytes, comments-bytes}
@@ -101,9 +98,9 @@ done_second t n t' m e = ap (λ (x : Answer). (figures x).second) e
 -- ---- refusals 1 to 3
 
 -- what refuses early has one of these numbers, and what passes is UTF-8
-pub data EarlySays (s : List ℕ) : Early → Type 0 where
-  refuses : {a : Answer} → 0 < (figures a).number → (figures a).number ≤ 3 → EarlySays s (Refused a)
-  passes : well_formed_bytes s ≡ length s → EarlySays s Passed
+pub data EarlySays (s : List ℕ) : Option Answer → Type 0 where
+  refuses : {a : Answer} → 0 < (figures a).number → (figures a).number ≤ 3 → EarlySays s (Some a)
+  passes : well_formed_bytes s ≡ length s → EarlySays s None
 
 pub early_says : (s : List ℕ) → EarlySays s (early_of s)
 unfolding early_of faultless figures
@@ -111,9 +108,9 @@ early_says s =
     by_pick (EarlySays s) (ltb 65535 (length s)) _ _ (λ _. refuses {a = TextTooLong (length s)} (omega arith) (omega arith))
     (λ _. by_pick (EarlySays s) (ltb (well_formed_bytes s) (length s)) _ _ (λ _. refuses {a = NotUtf8 (well_formed_bytes s)} (omega arith) (omega arith)) (λ n. go (start_read s).fault n))
   where
-    go : (f : Fault) → ltb (well_formed_bytes s) (length s) ≡ false → EarlySays s (on_fault f (λ at. Refused (HandLine at)) Passed)
-    go (At at) n = refuses {a = HandLine at} (omega arith) (omega arith)
-    go NoFault n = passes (omega (arith, well_within s, ltb-false (well_formed_bytes s) (length s) n))
+    go : (f : Option ℕ) → ltb (well_formed_bytes s) (length s) ≡ false → EarlySays s (on_fault f (λ at. Some (HandLine at)) None)
+    go (Some at) n = refuses {a = HandLine at} (omega arith) (omega arith)
+    go None n = passes (omega (arith, well_within s, ltb-false (well_formed_bytes s) (length s) n))
 
 -- ---- a reading that is done
 
@@ -145,6 +142,6 @@ module _ (s o : List ℕ) (b : (k : ℕ) → get_or s k 0 < 256) where
   unfolding fill_of
   read_done = go (early_of s) (early_says s)
     where
-      go : (e : Early) → EarlySays s e → Fronted (on_early e (λ a. refuse a o) (read_stored (parse s) o))
-      go (Refused a) (refuses h _) t m e = refused a t m h e
-      go Passed (passes w) t m e = stored_front w t m e
+      go : (e : Option Answer) → EarlySays s e → Fronted (on_early e (λ a. refuse a o) (read_stored (parse s) o))
+      go (Some a) (refuses h _) t m e = refused a t m h e
+      go None (passes w) t m e = stored_front w t m e

@@ -1,6 +1,7 @@
 -- The header entries of a reading: keys and values are parts of the text between two characters, so they are valid UTF-8, and keys ascend,
 -- since the entries are kept by key.
 -- Assumes nothing.
+use Rattle.std.specs.Prelude.{Option, Some, None}
 use Prim.Native.Nat.{ℕ, zero, suc, ◌+◌, ◌-◌, ◌<◌}
 use native.Mathlib.Numerals.{add-one}
 use native.Mathlib.Omega.{arith}
@@ -20,8 +21,8 @@ use Rattle.text.proofs.Laws.{tail_from, break_after}
 use Rattle.text.proofs.Boundaries.{boundary_colon, boundary_tail, part_well, key_part, key_well}
 use Rattle.sorted.specs.Sorted.{on_order, compared, by_bytes}
 use Rattle.sorted.specs.inner.Orders.{Ascending}
-use Rattle.sorted.specs.declared.Order.{Order}
-use Rattle.sorted.specs.declared.Order.TheVariants.{Less, Equal, Greater}
+use Rattle.std.specs.declared.cmp.Ordering.{Ordering}
+use Rattle.std.specs.declared.cmp.Ordering.TheVariants.{Less, Equal, Greater}
 use Rattle.sorted.proofs.Orders.{bytes_chain, bytes_flip}
 use Rattle.sorted.proofs.Kept.{enter_all-all, enter_all_ascending}
 use Rattle.jkf.specs.Model.{Header}
@@ -32,7 +33,6 @@ use Rattle.moves.proofs.Smalls.{Bytes, empty, bytes-join, bytes_16, bytes-from, 
 use Rattle.kakinoki.specs.Informations.{on_key_value, text_between, key_value_at, header_at}
 use Rattle.kakinoki.specs.Starts.{headers_said, header_places}
 use Rattle.kakinoki.specs.declared.KeyValue.{KeyValue}
-use Rattle.kakinoki.specs.declared.KeyValue.TheVariants.{Pair, NoPair}
 use Rattle.kakinoki.proofs.Heads.{headers-said}
 use Rattle.parser.specs.Parse.{by_header, headers_of}
 use Rattle.parser.proofs.Alls.{all-at, all_any, all_map}
@@ -64,7 +64,7 @@ module _ (s : List ℕ) (w : well_formed_bytes s ≡ length s) where
       let value = part_well s from.at to.at w (boundary_colon s (at + length (key_at s at)) from w p.colon).1 (boundary_tail s from.at to h.end p.tail p.over)
       (tail_from s from.at to p.tail) (omega (arith, a.past, a.within)) in (
         key_well s at from w h.start p.colon,
-        subst (λ (r : KeyValue). claim (valid (on_key_value r (λ from to end. text_between s from to) []))) (sym l.is) value,
+        subst (λ (r : Option KeyValue). claim (valid (on_key_value r (λ from to end. text_between s from to) []))) (sym l.is) value,
       )
 
   all_valid : {l : List ℕ} → All (Headline s w) l → All (λ at. Valid (header_at s at)) l
@@ -76,8 +76,8 @@ module _ (s : List ℕ) (w : well_formed_bytes s ≡ length s) where
 
 -- ---- keys ascend
 
-not_less : {A : Type 0} (o : Order) → on_order o false true true ≡ true → o ≡ Less → A
-not_less o h e = absurd (true≢false (sym h ∙ ap (λ (p : Order). on_order p false true true) e))
+not_less : {A : Type 0} (o : Ordering) → on_order o false true true ≡ true → o ≡ Less → A
+not_less o h e = absurd (true≢false (sym h ∙ ap (λ (p : Ordering). on_order p false true true) e))
 
 less_before : (a b : List ℕ) → by_bytes a b ≡ Less → before a b ≡ true
 unfolding by_bytes compared before
@@ -133,9 +133,9 @@ module _ (s : List ℕ) (b : (k : ℕ) → get_or s k 0 < 256) where
   key-bytes : (at : ℕ) → Bytes (key_at s at)
   key-bytes at = subst Bytes (sym (key_part s at)) (bytes_take (length (key_at s at)) (bytes_drop at (bytes-from s b)))
 
-  value-bytes : (r : KeyValue) → Bytes (on_key_value r (λ from to end. text_between s from to) [])
-  value-bytes (Pair from to end) = bytes_take (to.at - from.at) (bytes_drop from.at (bytes-from s b))
-  value-bytes NoPair = empty
+  value-bytes : (r : Option KeyValue) → Bytes (on_key_value r (λ from to end. text_between s from to) [])
+  value-bytes (Some r) = bytes_take (r.to.at - r.from.at) (bytes_drop r.from.at (bytes-from s b))
+  value-bytes None = empty
 
   header-bytes : (at : ℕ) → Bytes ((header_at s at).key ++ (header_at s at).value)
   unfolding header_at

@@ -1,5 +1,6 @@
 -- What `measure` tells of a text is what `fill` goes by: both refuse early by one definition, and both ask for one length.   (02, request (vii))
 -- Assumes nothing.
+use Rattle.std.specs.Prelude.{Option, Some, None}
 use Prim.Native.Nat.{ℕ, ◌≤◌, ◌<◌}
 use native.Mathlib.Omega.{arith}
 use mathlib.Core.Path.{◌≡◌, refl, sym, ap, ap₂, subst}
@@ -16,8 +17,6 @@ use Rattle.block.specs.Encode.{encode}
 use Rattle.filling.specs.Filling.{at_front}
 use Rattle.parser.specs.Parse.{parse, record_of, needed}
 use Rattle.parser.specs.Read.{on_early, early_of, measured, measure_of, filled_with, read_stored, fill_of}
-use Rattle.parser.specs.declared.Early.{Early}
-use Rattle.parser.specs.declared.Early.TheVariants.{Refused, Passed}
 use Rattle.laws.specs.Measures.{FilledOrLoose, filled, loose, MeasuresHold}
 use Rattle.laws.proofs.Forming.{EarlySays, refuses, passes, early_says}
 
@@ -56,9 +55,9 @@ module _ (s : List ℕ) where
   unfolding measure_of fill_of
   cases o = go (early_of s) (early_says s)
     where
-      go : (e : Early) → EarlySays s e → Measures (on_early e (λ a. a) (measured n t)) (on_early e (λ a. refuse a o) (read_stored (parse s) o)) o
-      go (Refused a) (refuses h k) = early h k
-      go Passed (passes w) = passed_cases o
+      go : (e : Option Answer) → EarlySays s e → Measures (on_early e (λ a. a) (measured n t)) (on_early e (λ a. refuse a o) (read_stored (parse s) o)) o
+      go (Some a) (refuses h k) = early h k
+      go None (passes w) = passed_cases o
 
   -- ---- the theorems
 

@@ -1,6 +1,7 @@
 -- What reading makes of the lines of play is well formed: the slot comes first and after it entries that were read, each line of play has
 -- one, and comments are parts of a text that is well formed.
 -- Assumes nothing.
+use Rattle.std.specs.Prelude.{Option, Some, None}
 use Prim.Native.Nat.{ℕ, zero, suc, ◌≤◌, ◌<◌}
 use native.Mathlib.Omega.{arith}
 use mathlib.Core.Path.{◌≡◌, refl, sym, subst}
@@ -23,9 +24,7 @@ use Rattle.block.specs.Sound.{valid, kind_test}
 use Rattle.block.specs.Formed.{noted_of, line_fits}
 use Rattle.moves.specs.Moves.{on_remark, on_move_line, move_line_at, comment_line_at}
 use Rattle.moves.specs.declared.Remark.{Remark}
-use Rattle.moves.specs.declared.Remark.TheVariants.{Stands, NoRemark}
 use Rattle.moves.specs.declared.MoveLine.{MoveLine}
-use Rattle.moves.specs.declared.MoveLine.TheVariants.{Numbered, NoLine}
 use Rattle.moves.proofs.Answers.{line_is}
 use Rattle.moves.specs.Fits.{EntryFits, play_fits, end_fits}
 use Rattle.moves.proofs.Fits.{move-line-fits}
@@ -39,25 +38,25 @@ use Rattle.plays.proofs.Items.{text_of}
 
 module _ (s : List ℕ) where
   -- of comments, where it holds of the text of each comment line
-  pub comments-all : (P : List ℕ → Type 0) → ((at : ℕ) (from to end : Cursor) → comment_line_at s at ≡ Stands from to end → P (text_of s from to))
+  pub comments-all : (P : List ℕ → Type 0) → ((at : ℕ) (from to end : Cursor) → comment_line_at s at ≡ Some (record { from = from; to = to; next = end }) → P (text_of s from to))
       → (at : ℕ) → All P (comments_at s at).state
   unfolding comments_at comment_item
   comments-all P h at = many_all (λ at. go at (comment_line_at s at) refl) (length s) at
     where
-      go : (at : ℕ) (r : Remark) → comment_line_at s at ≡ r → OnStep P (on_remark r (λ from to end. more end.at (text_of s from to)) stop)
-      go at (Stands from to end) q = goes (h at from to end q)
-      go at NoRemark q = stops
+      go : (at : ℕ) (r : Option Remark) → comment_line_at s at ≡ r → OnStep P (on_remark r (λ from to end. more end.at (text_of s from to)) stop)
+      go at (Some r) q = goes (h at r.from r.to r.next q)
+      go at None q = stops
 
   -- of entries, where it holds of that of each move line
-  pub entries-all : (P : Noted → Type 0) → ((at n : ℕ) (e : Entry) (c : Cursor) → move_line_at s at ≡ Numbered n e c → P (noted e (comments_at s c.at).state))
+  pub entries-all : (P : Noted → Type 0) → ((at n : ℕ) (e : Entry) (c : Cursor) → move_line_at s at ≡ Some (record { number = n; entry = e; next = c }) → P (noted e (comments_at s c.at).state))
       → (at : ℕ) → All P (entries_at s at).state
   unfolding entries_at entry_item
   entries-all P h at = many_all (λ at. go at (move_line_at s at) refl) (length s) at
     where
-      go : (at : ℕ) (r : MoveLine) → move_line_at s at ≡ r
+      go : (at : ℕ) (r : Option MoveLine) → move_line_at s at ≡ r
           → OnStep P (on_move_line r (λ n e c. more (comments_at s c.at).at (noted e (comments_at s c.at).state)) stop)
-      go at (Numbered n e c) q = goes (h at n e c q)
-      go at NoLine q = stops
+      go at (Some r) q = goes (h at r.number r.entry r.next q)
+      go at None q = stops
 
   -- of variations, where it holds of each line of play that has an entry
   pub variations_all : (P : Play → Type 0) → ((start at : ℕ) → 1 ≤ length (entries_at s at).state → P (play start (entries_at s at).state))

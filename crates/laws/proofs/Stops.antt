@@ -1,5 +1,6 @@
 -- Where reading stops: the laws of the rules' failures, of what is told, and of what filling answers beside it.                    (02, request (ii))
 -- Assumes nothing.
+use Rattle.std.specs.Prelude.{Option, Some, None}
 use Prim.Native.Nat.{ℕ, ◌≤◌}
 use native.Mathlib.Omega.{arith}
 use mathlib.Core.Path.{◌≡◌, refl}
@@ -15,17 +16,12 @@ use Rattle.jkf.specs.Attaching.{Hung, on_hung, first, all, all_hung}
 use Rattle.block.specs.Encode.{encode}
 use Rattle.filling.specs.Filling.{at_front}
 use Rattle.kakinoki.specs.Starts.{on_fault, start_read}
-use Rattle.kakinoki.specs.declared.Fault.{Fault}
-use Rattle.kakinoki.specs.declared.Fault.TheVariants.{NoFault, At as FaultAt}
 use Rattle.moves.specs.Failing.{on_failed}
-use Rattle.moves.specs.declared.Failed.{Failed}
-use Rattle.moves.specs.declared.Failed.TheVariants.{Silent, At}
 use Rattle.moves.specs.declared.Reason.{Reason}
 use Rattle.moves.specs.declared.Reason.TheVariants.{EndOfText}
 use Rattle.plays.specs.Plays.{skips_at, plays_at}
 use Rattle.parser.specs.Parse.{parse, record_of, needed}
 use Rattle.parser.specs.Read.{on_early, early_of, faultless, filled_with, read_stored, fill_of}
-use Rattle.parser.specs.declared.Early.TheVariants.{Refused, Passed}
 use Rattle.stops.specs.Stopping.{begins_at, last_end, seeking_at, tried_at, stopped_with, stopped_at, astray_from, played_stop, stop_of, stop_figures}
 use Rattle.stops.specs.declared.Astray.{Astray}
 use Rattle.stops.specs.declared.StopAnswer.{StopAnswer}
@@ -83,9 +79,9 @@ module _ (s o : List ℕ) where
   b = (start_read s).next.at
 
   -- whatever is told, so much was taken
-  taken_alike : (t n p : ℕ) (f : Failed) → Alike (Done t n) (on_failed f (λ at r. Stopped t r at) (Stopped t EndOfText p))
-  taken_alike t n p (At at r) = stopped
-  taken_alike t n p Silent = stopped
+  taken_alike : (t n p : ℕ) (f : Option (ℕ × Reason)) → Alike (Done t n) (on_failed f (λ at r. Stopped t r at) (Stopped t EndOfText p))
+  taken_alike t n p (Some (at, r)) = stopped
+  taken_alike t n p None = stopped
 
   filled_alike : Alike (filled_with (parse s) o).answer (played_stop s b)
   unfolding filled_with played_stop parse astray_from stopped_at stopped_with
@@ -114,9 +110,9 @@ module _ (s o : List ℕ) where
       (λ e. by_pick (λ (u : Unit {0}). Alike (fill_of s o).answer (stop_of s)) (ltb (well_formed_bytes s) (length s)) tt tt (λ w. rw (e, w) utf8)
       (λ w. rw (e, w) (go (start_read s).fault)))
     where
-      go : (f : Fault) → Alike (on_early (on_fault f (λ at. Refused (HandLine at)) Passed) (λ a. refuse a o) (read_stored (parse s) o)).answer (on_fault f HandStop (played_stop s b))
-      go (FaultAt at) = hand
-      go NoFault = stored_alike
+      go : (f : Option ℕ) → Alike (on_early (on_fault f (λ at. Some (HandLine at)) None) (λ a. refuse a o) (read_stored (parse s) o)).answer (on_fault f HandStop (played_stop s b))
+      go (Some at) = hand
+      go None = stored_alike
 
 -- ---- so their figures are alike
 

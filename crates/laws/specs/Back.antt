@@ -1,7 +1,7 @@
 -- Reading back: what was written is read as the same record, but for what its text loses. Each statement is a type, and the theorem of its
 -- name is proved in proofs/Back.                                                                      (01, Writing, and what is lost)
 -- Assumes nothing: these are definitions.
-use Rattle.std.specs.Prelude.{ℕ, ◌≤◌, ◌<◌, ◌≡◌, true, List, ◌++◌, length, drop}
+use Rattle.std.specs.Prelude.{ℕ, ◌≤◌, ◌<◌, ◌≡◌, true, List, ◌++◌, length, drop, None}
 use Rattle.jkf.specs.Answers.{Outcome}
 use Rattle.jkf.specs.Attaching.{all, parent_in, attach, all_hung}
 use Rattle.jkf.specs.declared.Answer.TheVariants.{Done}
@@ -11,7 +11,6 @@ use Rattle.block.specs.Decode.{version_in, decode}
 use Rattle.block.specs.Sound.{soundb}
 use Rattle.block.specs.Formed.{line_of, Formed}
 use Rattle.kakinoki.specs.Starts.{start_read}
-use Rattle.kakinoki.specs.declared.Fault.TheVariants.{NoFault}
 use Rattle.parser.specs.Parse.{Parsed, parse}
 use Rattle.parser.specs.Read.{fill_of}
 use Rattle.converter.specs.declared.Mode.{Mode}
@@ -19,7 +18,6 @@ use Rattle.converter.specs.declared.Mode.TheVariants.{Plain, Whole}
 use Rattle.converter.specs.Said.{said_record}
 use Rattle.converter.specs.Show.{hands_obstacle}
 use Rattle.converter.specs.Writing.{write_as_of, write_of}
-use Rattle.converter.specs.declared.Obstacle.TheVariants.{Clear}
 use Rattle.edit.specs.Edit.{plays_in}
 use Rattle.edit.specs.Outcomes.{put_in_of, cut_of, restate_of}
 use Rattle.laws.specs.Blocks.{Bytes, front_of}
@@ -90,8 +88,8 @@ parsed_of r n = record { headers = r.headers; position = r.position; plays = pla
 -- A text says, to its last byte, the header entries, the position and the lines of play of what it leaves, and no hand line of it fails.
 abbrev pub SaysBack : Type 0
 SaysBack =
-    (mode : Mode) (r : Record) → Formed r → Sayable r → ColorsFollow r → hands_obstacle r.position ≡ Clear → AllWritten mode r
-    → (parse (text_in mode r) ≡ parsed_of (kept_in mode r) (length (text_in mode r))) × ((start_read (text_in mode r)).fault ≡ NoFault)
+    (mode : Mode) (r : Record) → Formed r → Sayable r → ColorsFollow r → hands_obstacle r.position ≡ None → AllWritten mode r
+    → (parse (text_in mode r) ≡ parsed_of (kept_in mode r) (length (text_in mode r))) × ((start_read (text_in mode r)).fault ≡ None)
 
 -- The parents, in a step of its own: these lines of play all hang, and where they did, if no entry of them has two. (01, Attaching rule; 02,
 -- request (vi))
@@ -115,7 +113,7 @@ StillHangs =
 -- So the text is read to the block of what it leaves.
 abbrev pub ReadsBackIn : Type 0
 ReadsBackIn =
-    (mode : Mode) (r : Record) → Formed r → Sayable r → ColorsFollow r → SingleIn mode r → hands_obstacle r.position ≡ Clear → AllWritten mode r
+    (mode : Mode) (r : Record) → Formed r → Sayable r → ColorsFollow r → SingleIn mode r → hands_obstacle r.position ≡ None → AllWritten mode r
     → length (text_in mode r) ≤ 65535 → (o : List ℕ) → length (encode (kept_in mode r)) ≤ length o
     → fill_of (text_in mode r) o ≡ read_into (length (text_in mode r)) (kept_in mode r) o
 

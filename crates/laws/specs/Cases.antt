@@ -1,20 +1,18 @@
 -- The cases that 01 marks with ●, and its worked example, as one table in 01's order. The texts are real ones, read and edited by what the
 -- public calls promise.                                                                               (01, Positions on the board of cases)
 -- Assumes nothing: these are definitions.
-use Rattle.std.specs.Prelude.{ℕ, ◌-◌, ◌≤◌, ◌≡◌, List, [], ◌∷◌, length, replicate, eqb}
+use Rattle.std.specs.Prelude.{ℕ, ◌-◌, ◌≤◌, ◌≡◌, List, [], ◌∷◌, length, replicate, eqb, Some, None}
 use Rattle.lists.specs.All.{All}
 use Rattle.lists.specs.Pick.{pick}
 use Rattle.text.specs.Text.{cursor}
 use Rattle.spell.specs.Count.{hand_count_at}
-use Rattle.spell.specs.declared.Spelled.TheVariants.{As}
 use Rattle.jkf.specs.Answers.{Outcome, figures, figured}
 use Rattle.jkf.specs.declared.Target.TheVariants.{Same}
-use Rattle.jkf.specs.declared.Origin.TheVariants.{From}
 use Rattle.jkf.specs.declared.Time.TheVariants.{Untimed}
 use Rattle.jkf.specs.declared.Entry.TheVariants.{Moved}
 use Rattle.block.specs.Decode.{run, lines_in, start_of, parent_of}
 use Rattle.moves.specs.Moves.{move_line_at}
-use Rattle.moves.specs.declared.MoveLine.TheVariants.{Numbered, NoLine}
+use Rattle.moves.specs.declared.MoveLine.{MoveLine}
 use Rattle.parser.specs.Read.{fill_of}
 use Rattle.edit.specs.Outcomes.{put_in_of, cut_of}
 use Rattle.shown.specs.Listing.{listing_text, refusal_text}
@@ -108,11 +106,11 @@ Holds o (cuts vs line given) = Gives o given (cutting o vs line)
 -- 1 同歩(n) is a move line, to its last byte, from (x, y).
 Holds o (is_from n x y) =
     move_line_at (origin_line n) 0
-    ≡ Numbered 1 (Moved (record { color = 0; piece = 1; promote = 0; to = Same; from = From x y; time = Untimed })) (cursor (length (origin_line n)))
+    ≡ Some (record { number = 1; entry = (Moved (record { color = 0; piece = 1; promote = 0; to = Same; from = Some (x, y); time = Untimed })); next = (cursor (length (origin_line n))) })
 -- 1 同歩(n) is no move line.
-Holds o (is_no_line n) = move_line_at (origin_line n) 0 ≡ NoLine
+Holds o (is_no_line n) = move_line_at (origin_line n) 0 ≡ None
 -- The characters are this count, to their last byte.
-Holds o (counts t n) = hand_count_at t 0 ≡ As n (cursor (length t))
+Holds o (counts t n) = hand_count_at t 0 ≡ Some (n, cursor (length t))
 -- The listing program prints this of the text.
 Holds o (prints t listed) = listing (fill_of t o) ≡ listed
 

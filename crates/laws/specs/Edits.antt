@@ -1,9 +1,8 @@
 -- The theorems of put-in, cut and restating, for blocks of either version. In `PutTheorems` a put-in was done with the figures n and i, in `CutTheorems` a cut with n and m: the first n bytes of the buffer
 -- are then the new block, i is the new line's number, m how many lines were cut.                   (01, Put-in and cut; 02, request (vi))
 -- Assumes nothing: these are definitions.
-use Rattle.std.specs.Prelude.{ℕ, ◌+◌, ◌-◌, ◌≤◌, ◌<◌, ◌↔◌, ◌≡◌, true, false, List, ◌∷◌, ◌++◌, length, take, drop}
+use Rattle.std.specs.Prelude.{ℕ, ◌+◌, ◌-◌, ◌≤◌, ◌<◌, ◌↔◌, ◌≡◌, true, false, List, ◌∷◌, ◌++◌, length, take, drop, Some}
 use Rattle.jkf.specs.declared.Answer.TheVariants.{Done, BlockTooLong, BufferShort, NotSound}
-use Rattle.jkf.specs.declared.Hang.TheVariants.{On}
 use Rattle.jkf.specs.Attaching.{hangs, parent_in}
 use Rattle.jkf.specs.Trees.{HangAs, HangsFrom, Tree, NoTwo}
 use Rattle.block.specs.Decode.{decode, version_in, lines_in, start_of, entry_count, parent_of}
@@ -40,7 +39,7 @@ pub record PutTheorems (b t o : List ℕ) (k n i : ℕ) : Type 0 where
   -- Line i is the text's line of play, and hangs on line k at the entry whose ply is the text's first number; the attaching rule would find it there
   -- too, in either version.
   pub put-hangs : (line_of (decode (put_block b t o k n)).lines i ≡ record { start = ply_at t 0; parent = k; entries = (entries_at t 0).state })
-      × (hangs (start_of (put_block b t o k n)) (entry_count (put_block b t o k n)) (ply_at t 0) i ≡ On k (ply_at t 0 - start_of b k))
+      × (hangs (start_of (put_block b t o k n)) (entry_count (put_block b t o k n)) (ply_at t 0) i ≡ Some (k, ply_at t 0 - start_of b k))
   -- No line before it hangs on that entry: of several variations of one move the one put in last is written first.   (02, request (vi))
   pub put_first : (l : ℕ) → 0 < l → l < i → parent_of (put_block b t o k n) l ≡ k → start_of (put_block b t o k n) l ≡ ply_at t 0 → ⊥
   -- The cut of line i takes one line out and gives the old block back, byte for byte, where the buffer has room for it.

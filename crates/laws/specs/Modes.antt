@@ -1,12 +1,11 @@
 -- What reading a text back gives in each mode, and which records made by hand read back.                 (01, Writing, and what is lost; 02, xi)
 -- Assumes nothing: these are definitions.
-use Rattle.std.specs.Prelude.{ℕ, ◌<◌, ◌≡◌, List, [], ◌∷◌, ◌++◌, Bool, true, false, length, drop, get_or, eqb}
+use Rattle.std.specs.Prelude.{ℕ, ◌<◌, ◌≡◌, List, [], ◌∷◌, ◌++◌, Bool, true, false, length, drop, get_or, eqb, None}
 use Rattle.lists.specs.All.{All}
 use Rattle.lists.specs.Pick.{pick}
 use Rattle.text.specs.Text.{prefix_from, wide_colon}
 use Rattle.spell.specs.Tables.{specials, sides}
 use Rattle.spell.specs.Spell.{has_number}
-use Rattle.spell.specs.declared.Spelled.TheVariants.{Not}
 use Rattle.jkf.specs.Entries.{special_number}
 use Rattle.jkf.specs.declared.Special.{Special}
 use Rattle.jkf.specs.declared.Time.{Time}
@@ -72,7 +71,7 @@ holds_text t (b ∷ l) = pick (prefix_from t (b ∷ l)) true (holds_text t l)
 -- preset, a hand or a # line; no key that is empty or holds ：; and no CR or LF in a key, a value or a comment.
 pub record ByHand (r : Record) : Type 0 where
   pub entries : All (λ l. All (λ e. EntryByHand e.what) l.entries) r.lines
-  pub no_preset : All (λ h. preset_line_at (header_line h) 0 ≡ Not) r.headers
+  pub no_preset : All (λ h. preset_line_at (header_line h) 0 ≡ None) r.headers
   pub no_hand : All (λ h. begins_hand sides ((h.key ++ wide_colon) ++ h.value) ≡ false) r.headers
   pub no_hash : All (λ h. eqb (get_or h.key 0 0) 35 ≡ false) r.headers
   pub some_key : All (λ h. 0 < length h.key) r.headers

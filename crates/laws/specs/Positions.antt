@@ -1,6 +1,6 @@
 -- What playing keeps, and how one position follows from another.                                        (02, request (i))
 -- Assumes nothing: these are definitions.
-use Rattle.std.specs.Prelude.{ℕ, ◌+◌, ◌-◌, ◌<◌, ◌≡◌, true, List, ◌++◌}
+use Rattle.std.specs.Prelude.{ℕ, ◌+◌, ◌-◌, ◌<◌, ◌≡◌, true, List, ◌++◌, None}
 use Rattle.lists.specs.Test.{claim}
 use Rattle.jkf.specs.declared.Answer.TheVariants.{Done}
 use Rattle.jkf.specs.declared.Move.{Move}
@@ -8,7 +8,6 @@ use Rattle.jkf.specs.declared.Position.{Position}
 use Rattle.block.specs.Decode.{decode, run, lines_in, parent_of, entry_count}
 use Rattle.block.specs.Sound.{soundb, fits_test}
 use Rattle.positions.specs.declared.Course.{Course}
-use Rattle.positions.specs.declared.Verdict.TheVariants.{Goes}
 use Rattle.positions.specs.Steps.{other, stepped}
 use Rattle.positions.specs.Examples.{ThreeRight, FourRight, FiveRight, StopsRight}
 use Rattle.positions.specs.Pieces.{FitDiagram, Keeps}
@@ -20,7 +19,7 @@ pub record PositionTheorems : Type 0 where
   -- kings; and what was a sound diagram is one again. So it is for every move and wherever the last one landed.
   pub step_keeps : (p : Position) (last : ℕ) (m : Move) → FitDiagram p → Keeps p (stepped p last m).position
   -- The side to move alternates with each move that is played.
-  pub turn_alternates : (p : Position) (last : ℕ) (m : Move) → (stepped p last m).how ≡ Goes → (stepped p last m).position.turn ≡ other p.turn
+  pub turn_alternates : (p : Position) (last : ℕ) (m : Move) → (stepped p last m).how ≡ None → (stepped p last m).position.turn ≡ other p.turn
   -- A position that is answered has the pieces of the start, and is a sound diagram.
   pub answer_keeps : (b : List ℕ) (k e x y : ℕ) → Bytes b → (position_after b k e).answer ≡ Done x y → Keeps (start_on (decode b).position) (position_after b k e).position
   -- Which is one that a block may hold.

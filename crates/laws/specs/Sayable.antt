@@ -1,12 +1,11 @@
 -- What a text can say of a record's header and lines, so that it is read as it was written; and colours that follow their plies. A reading
 -- gives what can be said, and edits by text keep it so.                                               (01, Reading rules; 02, xi)
 -- Assumes nothing: these are definitions.
-use Rattle.std.specs.Prelude.{ℕ, ◌+◌, ◌<◌, ◌≡◌, List, [], ◌∷◌, ◌++◌, Bool, true, false, length, get_or, eqb}
+use Rattle.std.specs.Prelude.{ℕ, ◌+◌, ◌<◌, ◌≡◌, List, [], ◌∷◌, ◌++◌, Bool, true, false, length, get_or, eqb, None}
 use Rattle.lists.specs.All.{All, Led}
 use Rattle.lists.specs.Pick.{pick}
 use Rattle.text.specs.Text.{is_text, prefix_from, wide_colon, key_from}
 use Rattle.spell.specs.Tables.{Spelling, sides}
-use Rattle.spell.specs.declared.Spelled.TheVariants.{Not}
 use Rattle.jkf.specs.declared.Special.{Special}
 use Rattle.jkf.specs.declared.Time.{Time}
 use Rattle.jkf.specs.declared.Move.{Move}
@@ -45,7 +44,7 @@ pub record HeaderSayable (h : Header) : Type 0 where
   pub value : OneLine h.value
   pub no_hash : eqb (get_or h.key 0 0) 35 ≡ false
   pub no_hand : begins_hand sides ((h.key ++ wide_colon) ++ h.value) ≡ false
-  pub no_preset : preset_line_at (header_line h) 0 ≡ Not
+  pub no_preset : preset_line_at (header_line h) 0 ≡ None
 
 -- ---- entries
 

@@ -9,8 +9,8 @@ use native.Mathlib.Nat.{lt_of_le_of_lt}
 use native.Mathlib.Omega.{arith}
 use mathlib.Core.Path.{◌≡◌, refl, sym, ap, ◌∙◌}
 use mathlib.Core.List.{List, [], ◌∷◌, ◌++◌, append_assoc, append-nil}
-use lib.ListN.{length, get_or, take, drop, set, replicate, length-append, length-drop, drop_of_length-le, replicate-append-replicate}
-use lib.Seq.{take_all, take-nil, take-length, take_at, drop_at, drop-drop, set_at}
+use lib.ListN.{length, get_or, take, drop, set, length-append, length-drop, drop_of_length-le}
+use lib.Seq.{take_all, take-length, take_at, drop_at, drop-drop, set_at}
 use mir.Syntax.{w8, w64}
 use mir.Val.{Fits}
 use borrow.Rule.Slice.PartMut.{mid_of, put_mid}
@@ -91,11 +91,6 @@ wrote_whole {t} {o} {o'} {n} w e = w.bytes ∙ ap (λ (l : List ℕ). t ++ l) (d
 pub rest : (o : List ℕ) (n : ℕ) → mid_of n (length o - n) o ≡ drop n o
 rest o n = take_all (length o - n) (drop n o) (simp length-drop (omega arith))
 
--- past the end there is none
-pub rest_none : (b : List ℕ) (at : ℕ) → length b ≤ at → take (length b - length b) (drop (length b) b) ≡ drop at b
-rest_none b at h =
-    ap (take (length b - length b)) (drop_of_length-le b {i = length b} (omega arith)) ∙ take-nil (length b - length b) ∙ sym (drop_of_length-le b h)
-
 pub rest_length : (o : List ℕ) (n : ℕ) → length (mid_of n (length o - n) o) ≡ length o - n
 rest_length o n = rw (rest o n) (length-drop n o)
 
@@ -127,10 +122,6 @@ then_byte {t} {o} {o₁} {n} b w h =
           ∙ sym (append_assoc t (b ∷ []) (drop (n + 1) o));
       fits = omega arith;
     }
-
--- a run of one byte, a byte longer
-pub run_more : (i b : ℕ) → replicate i b ++ (b ∷ []) ≡ replicate (i + 1) b
-run_more i b = replicate-append-replicate i 1 b
 
 -- ---- numbers of two bytes
 

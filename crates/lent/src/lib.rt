@@ -18,7 +18,7 @@ pub fn wide(b: u8) -> usize
 pub fn peek(s: &[u8], at: usize) -> u8
     ensures { result ≡ get_or s.now at 0 }
 {
-    if at < s.len() { s[at] } else { 0 }
+    s.get(at).copied().unwrap_or(0)
 }
 
 // The number of two bytes at a place, the low one first; bytes past the end are 0.
@@ -35,20 +35,14 @@ pub fn get16(s: &[u8], at: usize) -> usize
 pub fn front(s: &[u8], n: usize) -> &[u8]
     ensures { result.now ≡ take n s.now }
 {
-    if s.len() <= n {
-        return s;
-    }
-    &s[..n]
+    &s[..n.min(s.len())]
 }
 
 // What stands from a place on; nothing past the end.
 pub fn rest(s: &[u8], at: usize) -> &[u8]
     ensures { result.now ≡ drop at s.now }
 {
-    if s.len() <= at {
-        return &s[s.len()..];
-    }
-    &s[at..]
+    &s[at.min(s.len())..]
 }
 
 // A text: a constant, a record's bytes, a part of another slice.   (the Rust's write_str)
@@ -69,11 +63,7 @@ pub fn put_run(out: &mut [u8], b: u8, n: usize) -> usize
     if out.len() < n {
         return 0;
     }
-    let mut i = 0;
-    while i < n {
-        out[i] = b;
-        i += 1;
-    }
+    out[..n].fill(b);
     n
 }
 
@@ -83,8 +73,9 @@ pub fn decimal_len(v: u64) -> usize
 {
     let mut rest = v;
     let mut n = 1;
+    // no range: the number says how many digits it has
     while 10 <= rest {
-        rest = rest / 10;
+        rest /= 10;
         n += 1;
     }
     n

@@ -22,8 +22,7 @@ fn print_listing(rt: &impl Print, taken: u64, b: &[u8]) -> io::Result<()> {
 fn list(rt: &impl Print, text: &[u8]) -> io::Result<()> {
     let mut block = [0u8; 65535];
     let r = parser::fill(text, &mut block);
-    let a = r.answer;
-    let f = jkf::figures_of(a);
+    let f = jkf::Figures::from(r.answer);
     if f.number != 0 {
         return print_refusal(rt, f.number, f.first, f.second);
     }

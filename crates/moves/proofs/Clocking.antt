@@ -4,6 +4,7 @@
 --     now-clock, total-clock    what was taken, and the total
 --     usual-time                the whole
 -- Assumes nothing.
+use Rattle.std.specs.Prelude.{Some, None, Ok}
 use Prim.Native.Nat.{ℕ, ◌+◌, ◌-◌, ◌≤◌, ◌<◌}
 use native.Mathlib.Omega.{arith}
 use mathlib.Core.Path.{◌≡◌, refl, sym, ap, ◌∙◌}
@@ -12,26 +13,23 @@ use mathlib.Core.Bool.{true, false}
 use lib.ListN.{length, get_or}
 use borrow.Author.Tests.{ne_eqb}
 use Rattle.text.specs.Text.{cursor, is_blank, is_digit, blanks_at, stands_at, tag_at, digits_at}
-use Rattle.text.specs.declared.Place.TheVariants.{Past, Absent}
-use Rattle.text.specs.declared.Number.TheVariants.{Value}
 use Rattle.text.proofs.Laws.{span-stop, span_go, stands_on, stands_done, stands_off, digit_bounds}
 use Rattle.text.proofs.Readings.{one-digit, two-digits, digit_in}
 use Rattle.jkf.specs.declared.Clock.TheVariants.{Hms, Ms}
 use Rattle.jkf.specs.declared.Time.TheVariants.{Timed}
 use Rattle.moves.specs.Moves.{timing, figure_at, hms_at, ms_at, clock_at, spaced_at, clocks_at, time_at}
 use Rattle.moves.specs.inner.Usuals.{Two, two_digits, UsualNow, UsualTotal, Usual}
-use Rattle.moves.specs.declared.Clocked.TheVariants.{Shows, NoClock}
 
 module _ (s : List ℕ) where
   -- a byte stands here, and e is the place past it
-  pub tag_here : (b at e : ℕ) → at < length s → get_or s at 0 ≡ b → e ≡ at + 1 → tag_at (b ∷ []) s at ≡ Past (cursor e)
+  pub tag_here : (b at e : ℕ) → at < length s → get_or s at 0 ≡ b → e ≡ at + 1 → tag_at (b ∷ []) s at ≡ Some (cursor e)
   unfolding tag_at
   tag_here b at e h g z =
       let on : stands_at (b ∷ []) s at ≡ true = stands_on (b ∷ []) s 0 at (omega arith) h g ∙ stands_done (b ∷ []) s 1 (at + 1) (omega arith) in
       rw (on, z)
 
   -- another stands here
-  pub tag_other : (b : ℕ) (t : List ℕ) (at : ℕ) → at < length s → (get_or s at 0 ≡ b → ⊥) → tag_at (b ∷ t) s at ≡ Absent
+  pub tag_other : (b : ℕ) (t : List ℕ) (at : ℕ) → at < length s → (get_or s at 0 ≡ b → ⊥) → tag_at (b ∷ t) s at ≡ None
   unfolding tag_at
   tag_other b t at h g = rw (stands_off (b ∷ t) s 0 at (omega arith) h g)
 
@@ -45,19 +43,19 @@ module _ (s : List ℕ) where
       here at (get_or s at 0) refl (rw (ne_eqb (get_or s at 0) 32 (λ e. omega arith), ne_eqb (get_or s at 0) 9 (λ e. omega arith)))
 
   -- two digits and another byte after them
-  pub two_at : (at e b : ℕ) → Two s at → e ≡ at + 2 → get_or s e 0 ≡ b → is_digit b ≡ false → digits_at 255 s at ≡ Value (two_digits s at) (cursor e)
+  pub two_at : (at e b : ℕ) → Two s at → e ≡ at + 2 → get_or s e 0 ≡ b → is_digit b ≡ false → digits_at 255 s at ≡ Ok (two_digits s at, cursor e)
   two_at at e b t z g n =
       let r = two-digits 255 s at (get_or s at 0) (get_or s (at + 1) 0) (omega arith) refl t.tens refl t.ones (get_or s (at + 2) 0) refl (ap (λ (p : ℕ). is_digit (get_or s p 0)) (sym z) ∙ ap is_digit g ∙ n) in
-      r ∙ ap (λ (p : ℕ). Value (two_digits s at) (cursor p)) (sym z)
+      r ∙ ap (λ (p : ℕ). Ok (two_digits s at, cursor p)) (sym z)
 
   -- with the colon
-  figure-at : (at e f : ℕ) → Two s at → e ≡ at + 2 → f ≡ at + 3 → e < length s → get_or s e 0 ≡ 58 → figure_at s at ≡ Value (two_digits s at) (cursor f)
+  figure-at : (at e f : ℕ) → Two s at → e ≡ at + 2 → f ≡ at + 3 → e < length s → get_or s e 0 ≡ 58 → figure_at s at ≡ Ok (two_digits s at, cursor f)
   unfolding figure_at
   figure-at at e f t z y h g = rw (two_at at e 58 t z g refl, tag_here 58 e f h g (omega arith))
 
   -- what was taken: minutes of one digit after a blank, so that h:m:s finds no third figure
   module _ (at : ℕ) (r : at + 7 ≤ length s) (u : UsualNow s at) where
-    minute_is : figure_at s (at + 2) ≡ Value (get_or s (at + 2) 0 - 48) (cursor (at + 4))
+    minute_is : figure_at s (at + 2) ≡ Ok (get_or s (at + 2) 0 - 48, cursor (at + 4))
     unfolding figure_at
     minute_is =
         let e : at + 2 + 1 ≡ at + 3 = omega arith in
@@ -65,14 +63,14 @@ module _ (s : List ℕ) where
         let d = one-digit 255 s (at + 2) (get_or s (at + 2) 0) (get_or s (at + 2 + 1) 0) (omega arith) refl u.minute refl (ap is_digit g) in
         rw (d, tag_here 58 (at + 2 + 1) (at + 4) (omega arith) g (omega arith))
 
-    second_is : digits_at 255 s (at + 4) ≡ Value (two_digits s (at + 4)) (cursor (at + 6))
+    second_is : digits_at 255 s (at + 4) ≡ Ok (two_digits s (at + 4), cursor (at + 6))
     second_is = two_at (at + 4) (at + 6) 47 u.second (omega arith) u.slash refl
 
-    no_hour : hms_at s (at + 2) ≡ NoClock
+    no_hour : hms_at s (at + 2) ≡ None
     unfolding hms_at figure_at
     no_hour = rw (minute_is, second_is, tag_other 58 [] (at + 6) (omega arith) (λ e. omega (arith, u.slash)))
 
-    now_clock : spaced_at s (at + 1) ≡ Shows (Ms (get_or s (at + 2) 0 - 48) (two_digits s (at + 4))) (cursor (at + 6))
+    now_clock : spaced_at s (at + 1) ≡ Some (Ms (get_or s (at + 2) 0 - 48) (two_digits s (at + 4)), cursor (at + 6))
     unfolding spaced_at clock_at ms_at
     now_clock =
         let e : at + 1 + 1 ≡ at + 2 = omega arith in
@@ -81,7 +79,7 @@ module _ (s : List ℕ) where
 
   -- the total
   module _ (at : ℕ) (r : at + 9 ≤ length s) (u : UsualTotal s at) where
-    total_clock : spaced_at s at ≡ Shows (Hms (two_digits s at) (two_digits s (at + 3)) (two_digits s (at + 6))) (cursor (at + 8))
+    total_clock : spaced_at s at ≡ Some (Hms (two_digits s at) (two_digits s (at + 3)) (two_digits s (at + 6)), cursor (at + 8))
     unfolding spaced_at clock_at hms_at
     total_clock =
         rw (digit_here at u.hour.tens, figure-at at (at + 2) (at + 3) u.hour refl refl (omega arith) u.colon, figure-at (at + 3) (at + 5) (at + 6) u.minute (omega arith) (omega arith) (omega arith) u.colon₂, two_at (at + 6) (at + 8) 41 u.second (omega arith) u.closes refl, here (at + 8) 41 u.closes refl)

@@ -1,5 +1,6 @@
 -- Why the parts of a move line fail: each rule reads over text and is silent, or it does not read and its failure is told.
 -- Assumes nothing.
+use Rattle.std.specs.Prelude.{Option, Some, None, Result, Ok, Err}
 use Prim.Native.Nat.{ℕ, ◌≤◌}
 use native.Mathlib.Nat.{le_refl}
 use native.Mathlib.Omega.{arith}
@@ -12,35 +13,22 @@ use borrow.Author.Tests.{ltb-false}
 use Rattle.lists.proofs.Laws.{by_pick}
 use Rattle.text.specs.Text.{on_place, by_number, is_text, tag_at, text_at, line_end_at, wide_space, digits_at}
 use Rattle.text.specs.declared.Cursor.{Cursor}
-use Rattle.text.specs.declared.Place.{Place}
-use Rattle.text.specs.declared.Place.TheVariants.{Past, Absent}
-use Rattle.text.specs.declared.Number.{Number}
-use Rattle.text.specs.declared.Number.TheVariants.{Value, NoDigit, TooLarge as TooLargeNumber}
+use Rattle.text.specs.declared.FigureError.{FigureError}
 use Rattle.text.proofs.Laws.{span_ge}
 use Rattle.text.proofs.Answers.{by_past}
 use Rattle.spell.specs.Words.{same_word, promotes, declines, drops}
 use Rattle.spell.specs.Spell.{on_spelled, first_of}
 use Rattle.spell.specs.Tables.{kinds, specials, numerals, files}
-use Rattle.spell.specs.declared.Spelled.{Spelled}
-use Rattle.spell.specs.declared.Spelled.TheVariants.{As, Not}
 use Rattle.jkf.specs.declared.Target.{Target}
-use Rattle.jkf.specs.declared.Origin.{Origin}
 use Rattle.jkf.specs.declared.Entry.{Entry}
 use Rattle.moves.specs.Moves.{on_aim, on_source, on_what, square_at, move_to_at, promote_at, origin_at, move_from_at, move_entry, kind_to_origin_at, move_at, what_at}
 use Rattle.moves.specs.Failing.{on_failed, or_fail, line_end_fail, square_fail, move_to_fail, origin_fail, move_from_fail, piece_fail, move_fail, what_fail, Seen, large_origin, place, rank, kind, origin, digits, bracket, break}
-use Rattle.moves.specs.declared.Aim.{Aim}
-use Rattle.moves.specs.declared.Aim.TheVariants.{To, NoAim}
-use Rattle.moves.specs.declared.Source.{Source}
-use Rattle.moves.specs.declared.Source.TheVariants.{Out, NoSource, TooLarge as TooLargeSource}
-use Rattle.moves.specs.declared.What.{What}
-use Rattle.moves.specs.declared.What.TheVariants.{Is, Nothing}
 use Rattle.moves.specs.declared.Mark.{Mark}
-use Rattle.moves.specs.declared.Failed.{Failed}
-use Rattle.moves.specs.declared.Failed.TheVariants.{Silent, At}
 use Rattle.moves.specs.declared.Reason.{Reason}
 use Rattle.moves.specs.declared.Reason.TheVariants.{NoNumber, TooLarge, NoPlace, NoKind, NoOrigin, NoBreak, CommentHere, EndOfText}
 use Rattle.moves.proofs.Shortcuts.{span_along}
 use Rattle.moves.proofs.Overs.{Over, over_on, tag_over, first_over, digits_over, line-break}
+use Rattle.text.specs.declared.FigureError.TheVariants.{Absent, TooLarge as LargeFigure}
 
 -- ---- a rule and its failure
 
@@ -56,9 +44,9 @@ is_end CommentHere = false
 is_end EndOfText = true
 
 -- a rule reads and is silent, or it does not and tells its failure
-pub data Rule (R : Cursor → Type 0) (T : ℕ → Reason → Type 0) : Place → Failed → Type 0 where
-  reads : {c : Cursor} → R c → Rule R T (Past c) Silent
-  fails : {p : ℕ} {r : Reason} → T p r → Rule R T Absent (At p r)
+pub data Rule (R : Cursor → Type 0) (T : ℕ → Reason → Type 0) : Option Cursor → Option (ℕ × Reason) → Type 0 where
+  reads : {c : Cursor} → R c → Rule R T (Some c) None
+  fails : {p : ℕ} {r : Reason} → T p r → Rule R T None (Some (p, r))
 
 -- what is told of a failure at p: that p is from one place to another, and, given K, what is seen there
 pub record Told (K : Type 0) (s : List ℕ) (at e p : ℕ) (r : Reason) : Type 0 where
@@ -84,7 +72,7 @@ pub record First (K : Type 0) (r₀ : Reason) (s : List ℕ) (at p : ℕ) (r : R
   pub first : p ≤ at → r ≡ r₀
 
 -- the rule of a part of a move: what it reads is text
-abbrev pub Part : Type 0 → Reason → List ℕ → ℕ → Place → Failed → Type 0
+abbrev pub Part : Type 0 → Reason → List ℕ → ℕ → Option Cursor → Option (ℕ × Reason) → Type 0
 Part K r₀ s at = Rule (λ c. Over s at c.at) (First K r₀ s at)
 
 -- it fails at its own place
@@ -100,71 +88,71 @@ first_on o g t =
     record { told = told-wide (omega arith) (omega arith) g t.told; first = λ z. absurd (omega arith) }
 
 -- one part after another
-part_on : {K L : Type 0} {q r₀ : Reason} {s : List ℕ} {a b : ℕ} {x : Place} {f : Failed} → Over s a b → (L → K) → Part K q s b x f → Part L r₀ s a x f
+part_on : {K L : Type 0} {q r₀ : Reason} {s : List ℕ} {a b : ℕ} {x : Option Cursor} {f : Option (ℕ × Reason)} → Over s a b → (L → K) → Part K q s b x f → Part L r₀ s a x f
 part_on o g (reads n) = reads (over_on o n)
 part_on o g (fails t) = fails (first_on o g t)
 
 -- the same where more is given
-part_if : {K L : Type 0} {r₀ : Reason} {s : List ℕ} {at : ℕ} {x : Place} {f : Failed} → (L → K) → Part K r₀ s at x f → Part L r₀ s at x f
+part_if : {K L : Type 0} {r₀ : Reason} {s : List ℕ} {at : ℕ} {x : Option Cursor} {f : Option (ℕ × Reason)} → (L → K) → Part K r₀ s at x f → Part L r₀ s at x f
 part_if g (reads n) = reads n
 part_if {at = at} g (fails t) = fails (record { told = told-wide (le_refl at) (le_refl _) g t.told; first = t.first })
 
 -- of two ways the first of which fails at the place of both
-part_or : {K : Type 0} {r₀ : Reason} {s : List ℕ} {at : ℕ} {x : Place} {f : Failed} → Part K r₀ s at x f → Part K r₀ s at x (or_fail (At at r₀) f)
+part_or : {K : Type 0} {r₀ : Reason} {s : List ℕ} {at : ℕ} {x : Option Cursor} {f : Option (ℕ × Reason)} → Part K r₀ s at x f → Part K r₀ s at x (or_fail (Some (at, r₀)) f)
 part_or (reads n) = reads n
 part_or {K} {r₀} {s} {at} (fails {p} {r} t) =
-    by_pick (Part K r₀ s at Absent) (ltb at p) (At p r) (At at r₀) (λ h. fails t)
+    by_pick (Part K r₀ s at None) (ltb at p) (Some (p, r)) (Some (at, r₀)) (λ h. fails t)
     (λ h. let i = t.told.from in
     let e : p ≡ at = omega (arith, ltb-false at p h) in
     let q : r ≡ r₀ = t.first (omega arith) in
     fails (subst (λ (n : ℕ). First K r₀ s at n r₀) e (subst (First K r₀ s at p) q t)))
 
 -- a rule is silent exactly where it reads
-pub rule_silent : {R : Cursor → Type 0} {T : ℕ → Reason → Type 0} {x : Place} {f : Failed} → Rule R T x f → on_failed f (λ p r. false) true ≡ on_place x (λ c. true) false
+pub rule_silent : {R : Cursor → Type 0} {T : ℕ → Reason → Type 0} {x : Option Cursor} {f : Option (ℕ × Reason)} → Rule R T x f → on_failed f (λ p r. false) true ≡ on_place x (λ c. true) false
 rule_silent (reads h) = refl
 rule_silent (fails t) = refl
 
 -- and what it reads is known
-pub rule_reads : {R : Cursor → Type 0} {T : ℕ → Reason → Type 0} {c : Cursor} {f : Failed} → Rule R T (Past c) f → R c
+pub rule_reads : {R : Cursor → Type 0} {T : ℕ → Reason → Type 0} {c : Cursor} {f : Option (ℕ × Reason)} → Rule R T (Some c) f → R c
 rule_reads (reads h) = h
 
 -- ---- two answers taken apart together
 
 module _ {A B : Type 0} (Q : A → B → Type 0) {d : A} {e : B} where
-  two_places : (r : Place) {f : Cursor → A} {g : Cursor → B} → (r ≡ Absent → Q d e) → ((c : Cursor) → r ≡ Past c → Q (f c) (g c)) → Q (on_place r f d) (on_place r g e)
-  two_places (Past c) z k = k c refl
-  two_places Absent z k = z refl
+  two_places : (r : Option Cursor) {f : Cursor → A} {g : Cursor → B} → (r ≡ None → Q d e) → ((c : Cursor) → r ≡ Some c → Q (f c) (g c)) → Q (on_place r f d) (on_place r g e)
+  two_places (Some c) z k = k c refl
+  two_places None z k = z refl
 
-  two_words : (r : Spelled) {f : ℕ → Cursor → A} {g : ℕ → Cursor → B} → (r ≡ Not → Q d e) → ((n : ℕ) (c : Cursor) → r ≡ As n c → Q (f n c) (g n c))
+  two_words : (r : Option (ℕ × Cursor)) {f : ℕ → Cursor → A} {g : ℕ → Cursor → B} → (r ≡ None → Q d e) → ((n : ℕ) (c : Cursor) → r ≡ Some (n, c) → Q (f n c) (g n c))
       → Q (on_spelled r f d) (on_spelled r g e)
-  two_words (As n c) z k = k n c refl
-  two_words Not z k = z refl
+  two_words (Some (n, c)) z k = k n c refl
+  two_words None z k = z refl
 
-  two_numbers : {d₁ : A} {e₁ : B} (r : Number) {f : ℕ → Cursor → A} {g : ℕ → Cursor → B} → (r ≡ NoDigit → Q d e) → (r ≡ TooLargeNumber → Q d₁ e₁)
-      → ((n : ℕ) (c : Cursor) → r ≡ Value n c → Q (f n c) (g n c)) → Q (by_number r f d d₁) (by_number r g e e₁)
-  two_numbers (Value n c) z y k = k n c refl
-  two_numbers NoDigit z y k = z refl
-  two_numbers TooLargeNumber z y k = y refl
+  two_numbers : {d₁ : A} {e₁ : B} (r : Result (ℕ × Cursor) FigureError) {f : ℕ → Cursor → A} {g : ℕ → Cursor → B} → (r ≡ Err Absent → Q d e) → (r ≡ Err LargeFigure → Q d₁ e₁)
+      → ((n : ℕ) (c : Cursor) → r ≡ Ok (n, c) → Q (f n c) (g n c)) → Q (by_number r f d d₁) (by_number r g e e₁)
+  two_numbers (Ok (n, c)) z y k = k n c refl
+  two_numbers (Err Absent) z y k = z refl
+  two_numbers (Err LargeFigure) z y k = y refl
 
-  two_aims : (r : Aim) {f : Target → Cursor → A} {g : Target → Cursor → B} → (r ≡ NoAim → Q d e) → ((t : Target) (c : Cursor) → r ≡ To t c → Q (f t c) (g t c))
+  two_aims : (r : Option (Target × Cursor)) {f : Target → Cursor → A} {g : Target → Cursor → B} → (r ≡ None → Q d e) → ((t : Target) (c : Cursor) → r ≡ Some (t, c) → Q (f t c) (g t c))
       → Q (on_aim r f d) (on_aim r g e)
-  two_aims (To t c) z k = k t c refl
-  two_aims NoAim z k = z refl
+  two_aims (Some (t, c)) z k = k t c refl
+  two_aims None z k = z refl
 
-  pub two_whats : (r : What) {f : Entry → Cursor → A} {g : Entry → Cursor → B} → (r ≡ Nothing → Q d e) → ((t : Entry) (c : Cursor) → r ≡ Is t c → Q (f t c) (g t c))
+  pub two_whats : (r : Option (Entry × Cursor)) {f : Entry → Cursor → A} {g : Entry → Cursor → B} → (r ≡ None → Q d e) → ((t : Entry) (c : Cursor) → r ≡ Some (t, c) → Q (f t c) (g t c))
       → Q (on_what r f d) (on_what r g e)
-  two_whats (Is t c) z k = k t c refl
-  two_whats Nothing z k = z refl
+  two_whats (Some (t, c)) z k = k t c refl
+  two_whats None z k = z refl
 
 -- ---- the parts of a move
 
 -- neither a special nor 同 stands here
 record Bare (s : List ℕ) (at : ℕ) : Type 0 where
-  special : first_of specials s at ≡ Not
-  same : tag_at same_word s at ≡ Absent
+  special : first_of specials s at ≡ None
+  same : tag_at same_word s at ≡ None
 
 -- a file and a rank
-square_part : (s : List ℕ) (at : ℕ) → Part (Bare s at) NoPlace s at (on_aim (square_at s at) (λ t c. Past c) Absent) (square_fail s at)
+square_part : (s : List ℕ) (at : ℕ) → Part (Bare s at) NoPlace s at (on_aim (square_at s at) (λ t c. Some c) None) (square_fail s at)
 unfolding square_at square_fail
 square_part s at =
     two_words Q (first_of files s at) (λ e. fails (here NoPlace refl (λ b. place b.special b.same e)))
@@ -172,22 +160,22 @@ square_part s at =
     two_words Q (first_of numerals s c.at) (λ q. fails (first_on o (λ b. b) (here NoPlace refl (λ b. rank at x e q))))
     (λ y d q. reads (over_on o (first_over numerals s c.at refl q))))
   where
-    Q : Aim → Failed → Type 0
-    Q a = Part (Bare s at) NoPlace s at (on_aim a (λ t c. Past c) Absent)
+    Q : Option (Target × Cursor) → Option (ℕ × Reason) → Type 0
+    Q a = Part (Bare s at) NoPlace s at (on_aim a (λ t c. Some c) None)
 
 -- 同, or a square
-move_to_part : (s : List ℕ) (at : ℕ) → Part (first_of specials s at ≡ Not) NoPlace s at (on_aim (move_to_at s at) (λ t c. Past c) Absent) (move_to_fail s at)
+move_to_part : (s : List ℕ) (at : ℕ) → Part (first_of specials s at ≡ None) NoPlace s at (on_aim (move_to_at s at) (λ t c. Some c) None) (move_to_fail s at)
 unfolding move_to_at move_to_fail
 move_to_part s at =
     two_places Q (tag_at same_word s at) (λ e. part_or (part_if (λ n. record { special = n; same = e }) (square_part s at)))
     (λ c e. let o = tag_over same_word s at refl e in
-    by_past (λ (a : Aim). Q a Silent) (reads o) (tag_at wide_space s c.at) (λ d q. reads (over_on o (tag_over wide_space s c.at refl q))))
+    by_past (λ (a : Option (Target × Cursor)). Q a None) (reads o) (tag_at wide_space s c.at) (λ d q. reads (over_on o (tag_over wide_space s c.at refl q))))
   where
-    Q : Aim → Failed → Type 0
-    Q a = Part (first_of specials s at ≡ Not) NoPlace s at (on_aim a (λ t c. Past c) Absent)
+    Q : Option (Target × Cursor) → Option (ℕ × Reason) → Type 0
+    Q a = Part (first_of specials s at ≡ None) NoPlace s at (on_aim a (λ t c. Some c) None)
 
 -- a number of at most 255 in brackets
-origin_part : (s : List ℕ) (at : ℕ) → Part (tag_at drops s at ≡ Absent) NoOrigin s at (on_source (origin_at s at) (λ o c. Past c) Absent) (origin_fail s at)
+origin_part : (s : List ℕ) (at : ℕ) → Part (tag_at drops s at ≡ None) NoOrigin s at (on_source (origin_at s at) (λ o c. Some c) None) (origin_fail s at)
 unfolding origin_at origin_fail
 origin_part s at =
     two_places Q (tag_at (40 ∷ []) s at) (λ e. fails (here NoOrigin refl (λ n. origin n e)))
@@ -199,14 +187,14 @@ origin_part s at =
     two_places Q (tag_at (41 ∷ []) s d.at) (λ z. fails (first_on p (λ n. n) (here NoOrigin refl (λ _. bracket c.at n q z))))
     (λ f z. reads (over_on p (tag_over (41 ∷ []) s d.at refl z)))))
   where
-    Q : Source → Failed → Type 0
-    Q a = Part (tag_at drops s at ≡ Absent) NoOrigin s at (on_source a (λ o c. Past c) Absent)
+    Q : Result (Option (ℕ × ℕ) × Cursor) FigureError → Option (ℕ × Reason) → Type 0
+    Q a = Part (tag_at drops s at ≡ None) NoOrigin s at (on_source a (λ o c. Some c) None)
 
 -- 打, or an origin
-move-from_part : (s : List ℕ) (at : ℕ) → Part (Unit {0}) NoOrigin s at (on_source (move_from_at s at) (λ o c. Past c) Absent) (move_from_fail s at)
+move-from_part : (s : List ℕ) (at : ℕ) → Part (Unit {0}) NoOrigin s at (on_source (move_from_at s at) (λ o c. Some c) None) (move_from_fail s at)
 unfolding move_from_at move_from_fail
 move-from_part s at =
-    two_places (λ (a : Source). Part (Unit {0}) NoOrigin s at (on_source a (λ o c. Past c) Absent)) (tag_at drops s at) (λ e. part_or (part_if (λ _. e) (origin_part s at)))
+    two_places (λ (a : Result (Option (ℕ × ℕ) × Cursor) FigureError). Part (Unit {0}) NoOrigin s at (on_source a (λ o c. Some c) None)) (tag_at drops s at) (λ e. part_or (part_if (λ _. e) (origin_part s at)))
     (λ c e. reads (tag_over drops s at refl e))
 
 -- past a mark, if any
@@ -219,31 +207,31 @@ promote_past s at b o =
     Q m = Over s b m.next.at
 
 -- an entry is made where an origin is
-source_what : (a : Source) (g : Origin → Entry) → on_what (on_source a (λ o d. Is (g o) d) Nothing) (λ e c. Past c) Absent ≡ on_source a (λ o d. Past d) Absent
-source_what (Out o c) g = refl
-source_what NoSource g = refl
-source_what TooLargeSource g = refl
+source_what : (a : Result (Option (ℕ × ℕ) × Cursor) FigureError) (g : Option (ℕ × ℕ) → Entry) → on_what (on_source a (λ o d. Some (g o, d)) None) (λ e c. Some c) None ≡ on_source a (λ o d. Some d) None
+source_what (Ok (o, c)) g = refl
+source_what (Err Absent) g = refl
+source_what (Err LargeFigure) g = refl
 
 -- a kind, its mark if any, and where it comes from
-piece_part : (t : Target) (s : List ℕ) (at : ℕ) → Part (Unit {0}) NoKind s at (on_what (kind_to_origin_at t s at) (λ e c. Past c) Absent) (piece_fail s at)
+piece_part : (t : Target) (s : List ℕ) (at : ℕ) → Part (Unit {0}) NoKind s at (on_what (kind_to_origin_at t s at) (λ e c. Some c) None) (piece_fail s at)
 unfolding kind_to_origin_at piece_fail
 piece_part t s at =
-    two_words (λ (w : What). Part (Unit {0}) NoKind s at (on_what w (λ e c. Past c) Absent)) (first_of kinds s at) (λ e. fails (here NoKind refl (λ _. kind e)))
+    two_words (λ (w : Option (Entry × Cursor)). Part (Unit {0}) NoKind s at (on_what w (λ e c. Some c) None)) (first_of kinds s at) (λ e. fails (here NoKind refl (λ _. kind e)))
     (λ k c e. rw (source_what (move_from_at s (promote_at s c.at).next.at) (move_entry t k (promote_at s c.at).promote))
     (part_on (promote_past s c.at at (first_over kinds s at refl e)) (λ _. tt) (move-from_part s (promote_at s c.at).next.at)))
 
 -- a target and a piece
-move_part : (s : List ℕ) (at : ℕ) → Part (first_of specials s at ≡ Not) NoPlace s at (on_what (move_at s at) (λ e c. Past c) Absent) (move_fail s at)
+move_part : (s : List ℕ) (at : ℕ) → Part (first_of specials s at ≡ None) NoPlace s at (on_what (move_at s at) (λ e c. Some c) None) (move_fail s at)
 unfolding move_at move_fail
 move_part s at =
-    two_aims (λ (w : What). Part (first_of specials s at ≡ Not) NoPlace s at (on_what w (λ e c. Past c) Absent)) (move_to_at s at) (λ e. rw e at (move_to_part s at))
+    two_aims (λ (w : Option (Entry × Cursor)). Part (first_of specials s at ≡ None) NoPlace s at (on_what w (λ e c. Some c) None)) (move_to_at s at) (λ e. rw e at (move_to_part s at))
     (λ t c e. part_on (rule_reads (rw e at (move_to_part s at))) (λ _. tt) (piece_part t s c.at))
 
 -- a special, or a move
-pub what_part : (s : List ℕ) (at : ℕ) → Part (Unit {0}) NoPlace s at (on_what (what_at s at) (λ e c. Past c) Absent) (what_fail s at)
+pub what_part : (s : List ℕ) (at : ℕ) → Part (Unit {0}) NoPlace s at (on_what (what_at s at) (λ e c. Some c) None) (what_fail s at)
 unfolding what_at what_fail
 what_part s at =
-    two_words (λ (w : What). Part (Unit {0}) NoPlace s at (on_what (on_what w (λ e c. Is e c) (move_at s at)) (λ e c. Past c) Absent)) (first_of specials s at)
+    two_words (λ (w : Option (Entry × Cursor)). Part (Unit {0}) NoPlace s at (on_what (on_what w (λ e c. Some (e, c)) (move_at s at)) (λ e c. Some c) None)) (first_of specials s at)
     (λ e. part_or (part_if (λ _. e) (move_part s at))) (λ n c e. reads (first_over specials s at refl e))
 
 -- ---- a tail and its break: they fail where the text ends, for no break stands there
@@ -252,9 +240,9 @@ pub line-end_rule : (s : List ℕ) (at : ℕ) → Rule (λ c. Unit {0}) (ToldIn 
 unfolding line_end_fail
 line-end_rule s at = go (line_end_at s at) refl
   where
-    go : (r : Place) → line_end_at s at ≡ r → Rule (λ c. Unit {0}) (ToldIn s at (text_at s at)) r (on_place r (λ c. Silent) (At (text_at s at) NoBreak))
-    go (Past c) e = reads tt
-    go Absent e =
+    go : (r : Option Cursor) → line_end_at s at ≡ r → Rule (λ c. Unit {0}) (ToldIn s at (text_at s at)) r (on_place r (λ c. None) (Some (text_at s at, NoBreak)))
+    go (Some c) e = reads tt
+    go None e =
         fails (record {
           from = span_ge is_text s at;
           up_to = le_refl _;
@@ -265,14 +253,14 @@ line-end_rule s at = go (line_end_at s at) refl
 -- ---- a rule is silent exactly where it reads
 
 -- an answer is there where it has a place
-source_place : (a : Source) → on_place (on_source a (λ o c. Past c) Absent) (λ c. true) false ≡ on_source a (λ o c. true) false
-source_place (Out o c) = refl
-source_place NoSource = refl
-source_place TooLargeSource = refl
+source_place : (a : Result (Option (ℕ × ℕ) × Cursor) FigureError) → on_place (on_source a (λ o c. Some c) None) (λ c. true) false ≡ on_source a (λ o c. true) false
+source_place (Ok (o, c)) = refl
+source_place (Err Absent) = refl
+source_place (Err LargeFigure) = refl
 
-what-place : (w : What) → on_place (on_what w (λ e c. Past c) Absent) (λ c. true) false ≡ on_what w (λ e c. true) false
-what-place (Is e c) = refl
-what-place Nothing = refl
+what-place : (w : Option (Entry × Cursor)) → on_place (on_what w (λ e c. Some c) None) (λ c. true) false ≡ on_what w (λ e c. true) false
+what-place (Some (e, c)) = refl
+what-place None = refl
 
 -- a tail and its break are silent exactly where they are read
 pub line-end_silent : (s : List ℕ) (at : ℕ) → on_failed (line_end_fail s at) (λ p r. false) true ≡ on_place (line_end_at s at) (λ c. true) false

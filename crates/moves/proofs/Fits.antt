@@ -1,6 +1,7 @@
 -- What is read is fit: every figure of an answer is in its range, and every answer goes on from its place. One law for each step.
 -- So a line's entry is one that a block can hold, and its bytes are bytes.
 -- Assumes nothing.
+use Rattle.std.specs.Prelude.{Option, Some, Result}
 use Prim.Native.Nat.{ℕ, ◌/◌, ◌%◌, ◌≤◌, ◌<◌}
 use native.Mathlib.Nat.{le_refl}
 use native.Mathlib.Omega.{arith}
@@ -13,7 +14,6 @@ use borrow.Author.Tests.{eqb-true}
 use Rattle.lists.proofs.Laws.{range_at}
 use Rattle.text.specs.Text.{cursor, tag_at, line_end_at, is_blank, blanks_at, wide_space}
 use Rattle.text.specs.declared.Cursor.{Cursor}
-use Rattle.text.specs.declared.Place.TheVariants.{Past}
 use Rattle.text.proofs.Laws.{span_ge, tag_after, After, line-end_after}
 use Rattle.text.proofs.Answers.{by_past, by-number, by_three, Counted, digits_fit}
 use Rattle.spell.specs.Tables.{Spelling, kinds, specials, numerals, files}
@@ -25,20 +25,14 @@ use Rattle.jkf.specs.declared.Time.{Time}
 use Rattle.jkf.specs.declared.Time.TheVariants.{Untimed, Timed}
 use Rattle.jkf.specs.declared.Target.{Target}
 use Rattle.jkf.specs.declared.Target.TheVariants.{Square}
-use Rattle.jkf.specs.declared.Origin.{Origin}
-use Rattle.jkf.specs.declared.Origin.TheVariants.{From}
 use Rattle.jkf.specs.declared.Move.{Move}
 use Rattle.jkf.specs.declared.Entry.{Entry}
 use Rattle.jkf.specs.declared.Entry.TheVariants.{Moved, End}
 use Rattle.moves.specs.Moves.{on_what, square_at, move_to_at, promote_at, origin_at, move_from_at, move_entry, kind_to_origin_at, move_at, what_at, hms_at, ms_at, clock_at, spaced_at, clocks_at, timing, time_at, color_of, finished, move_line_at}
 use Rattle.spell.specs.Words.{same_word, promotes, declines, drops}
 use Rattle.moves.specs.Fits.{ClockFits, hms_fits, ms_fits, TimeFits, untimed_fits, timed_fits, TargetFits, same_fits, square_fits, OriginFits, from_fits, MoveFits, EntryFits, play_fits, end_fits}
-use Rattle.moves.specs.declared.Aim.{Aim}
-use Rattle.moves.specs.declared.Source.{Source}
+use Rattle.text.specs.declared.FigureError.{FigureError}
 use Rattle.moves.specs.declared.Mark.{Mark}
-use Rattle.moves.specs.declared.Clocked.{Clocked}
-use Rattle.moves.specs.declared.What.{What}
-use Rattle.moves.specs.declared.What.TheVariants.{Is}
 use Rattle.moves.specs.declared.MoveLine.{MoveLine}
 use Rattle.moves.specs.declared.Timing.{Timing}
 use Rattle.moves.proofs.Figures.{figure_fits}
@@ -50,7 +44,7 @@ pub record Read {A : Type 0} (F : A → Type 0) (at : ℕ) (a : A) (c : Cursor) 
   pub fit : F a
   pub past : at < c.at
 
-tag_past : (t s : List ℕ) (at : ℕ) (c : Cursor) → 0 < length t → tag_at t s at ≡ Past c → at < c.at
+tag_past : (t s : List ℕ) (at : ℕ) (c : Cursor) → 0 < length t → tag_at t s at ≡ Some c → at < c.at
 tag_past t s at c n e = (tag_after t s at c n e).past
 
 -- a spelling of a table that does not have 0
@@ -64,7 +58,7 @@ unfolding square_at has_number
 square-fits s at =
     by_spelled Q no_aim (listed 10 files refl refl s at) (λ x c h. by_spelled Q no_aim (listed 10 numerals refl refl s c.at) (λ y d k. to (seen x y c d h k)))
   where
-    Q : Aim → Type 0
+    Q : Option (Target × Cursor) → Type 0
     Q = OnAim (Read TargetFits at)
 
     seen : (x y : ℕ) (c d : Cursor) → Known 10 at x c × (1 ≤ x) → Known 10 c.at y d × (1 ≤ y) → Read TargetFits at (Square x y) d
@@ -83,7 +77,7 @@ move_to_fits s at =
     by_past Q (to (record { fit = same_fits; past = a })) (tag_at wide_space s c.at)
     (λ d q. let b = tag_past wide_space s c.at d (omega arith) q in to (record { fit = same_fits; past = omega arith })))
   where
-    Q : Aim → Type 0
+    Q : Option (Target × Cursor) → Type 0
     Q = OnAim (Read TargetFits at)
 
 pub promote_fits : (s : List ℕ) (at : ℕ) → ((promote_at s at).promote ≤ 2) × (at ≤ (promote_at s at).next.at)
@@ -104,10 +98,10 @@ origin-fits s at =
     (λ n d h. by_past Q no_source (tag_at (41 ∷ []) s d.at)
     (λ e q. out (seen n c d e (tag_past _ s at c (omega arith) p) h (tag_past _ s d.at e (omega arith) q)))))
   where
-    Q : Source → Type 0
+    Q : Result (Option (ℕ × ℕ) × Cursor) FigureError → Type 0
     Q = OnSource (Read OriginFits at)
 
-    seen : (n : ℕ) (c d e : Cursor) → at < c.at → Counted 255 c.at n d → d.at < e.at → Read OriginFits at (From (n / 10) (n % 10)) e
+    seen : (n : ℕ) (c d e : Cursor) → at < c.at → Counted 255 c.at n d → d.at < e.at → Read OriginFits at (Some (n / 10, n % 10)) e
     seen n c d e a h b =
         let k = h.small in
         let p = h.past in
@@ -125,10 +119,10 @@ piece_fits t f s b at g =
     by_spelled Q nothing (listed 15 kinds refl refl s at)
     (λ k c h. by_source Q nothing (move-from-fits s (promote_at s c.at).next.at) (λ o d i. is (seen k c o d h (promote_fits s c.at) i)))
   where
-    Q : What → Type 0
+    Q : Option (Entry × Cursor) → Type 0
     Q = OnWhat (Read EntryFits b)
 
-    seen : {m : Mark} (k : ℕ) (c : Cursor) (o : Origin) (d : Cursor) → Known 15 at k c × (1 ≤ k) → (m.promote ≤ 2) × (c.at ≤ m.next.at) → Read OriginFits m.next.at o d
+    seen : {m : Mark} (k : ℕ) (c : Cursor) (o : Option (ℕ × ℕ)) (d : Cursor) → Known 15 at k c × (1 ≤ k) → (m.promote ≤ 2) × (c.at ≤ m.next.at) → Read OriginFits m.next.at o d
         → Read EntryFits b (move_entry t k m.promote o) d
     seen k c o d (h, i) (u, v) w =
         let a = h.small in
@@ -151,7 +145,7 @@ special_same n h = eqb-true _ _ (range_at (λ k. eqb (special_number (special_of
 pub what-fits : (s : List ℕ) (at : ℕ) → OnWhat (Read EntryFits at) (what_at s at)
 unfolding what_at
 what-fits s at =
-    by_spelled (λ (w : What). OnWhat (Read EntryFits at) (on_what w (λ e c. Is e c) (move_at s at))) (move-fits s at) (both_spelled (first_known 14 specials refl s at) (first_has specials s at))
+    by_spelled (λ (w : Option (Entry × Cursor)). OnWhat (Read EntryFits at) (on_what w (λ e c. Some (e, c)) (move_at s at))) (move-fits s at) (both_spelled (first_known 14 specials refl s at) (first_has specials s at))
     (λ n c h. is (record { fit = end_fits (rw (special_same n h.0.small) h.1) untimed_fits; past = h.0.past }))
 
 -- ---- a time
@@ -164,7 +158,7 @@ hms-fits s at =
     (λ m d j. by-number Q no_clock (digits_fit 255 s d.at)
     (λ n e k. let p = i.past in let q = j.past in let r = k.past in shows (record { fit = hms_fits i.small j.small k.small; past = omega arith }))))
   where
-    Q : Clocked → Type 0
+    Q : Option (Clock × Cursor) → Type 0
     Q = OnClocked (Read ClockFits at)
 
 pub ms-fits : (s : List ℕ) (at : ℕ) → OnClocked (Read ClockFits at) (ms_at s at)
@@ -174,7 +168,7 @@ ms-fits s at =
     (λ m c i. by-number Q no_clock (digits_fit 255 s c.at)
     (λ n d j. let p = i.past in let q = j.past in shows (record { fit = ms_fits i.small j.small; past = omega arith })))
   where
-    Q : Clocked → Type 0
+    Q : Option (Clock × Cursor) → Type 0
     Q = OnClocked (Read ClockFits at)
 
 pub clock_fits : (s : List ℕ) (at : ℕ) → OnClocked (Read ClockFits at) (clock_at s at)
@@ -243,7 +237,7 @@ move-line-fits s at =
     (λ e d k. by_past Q no_line (line_end_at s (time_at s (blanks_at s d.at)).next.at)
     (λ f q. numbered (seen n c e d f h k (time-fits s (blanks_at s d.at)) (line-end_after s _ f q)))))
   where
-    Q : MoveLine → Type 0
+    Q : Option MoveLine → Type 0
     Q = OnMoveLine (LineFits s at)
 
     seen : {t : Timing} (n : ℕ) (c : Cursor) (e : Entry) (d f : Cursor) → Counted 18446744073709551615 (blanks_at s at) n c → Read EntryFits (blanks_at s c.at) e d → TimingFits (blanks_at s d.at) t
@@ -266,7 +260,7 @@ move-line-fits s at =
 pub line-fits : (s : List ℕ) (at : ℕ) → OnMoveLine (λ n e c. (n < 18446744073709551616) × EntryFits e) (move_line_at s at)
 line-fits s at = go (move-line-fits s at)
   where
-    go : {r : MoveLine} → OnMoveLine (LineFits s at) r → OnMoveLine (λ n e c. (n < 18446744073709551616) × EntryFits e) r
+    go : {r : Option MoveLine} → OnMoveLine (LineFits s at) r → OnMoveLine (λ n e c. (n < 18446744073709551616) × EntryFits e) r
     go (numbered h) = numbered (h.number, h.entry)
     go no_line = no_line
 

@@ -1,5 +1,6 @@
 -- From one place of a line to a later one stands text: words and numbers are text, so that the line ends where it ends from before them.
 -- Assumes nothing.
+use Rattle.std.specs.Prelude.{Some, Ok}
 use Prim.Native.Nat.{ℕ, zero, suc, ◌+◌, ◌-◌, ◌≤◌, ◌<◌}
 use native.Mathlib.Nat.{le_refl}
 use native.Mathlib.Omega.{arith}
@@ -13,13 +14,10 @@ use Rattle.lists.specs.Pick.{pick}
 use Rattle.lists.proofs.Laws.{by_pick, pick_both, drop_step}
 use Rattle.text.specs.Text.{cursor, is_text, prefix_from, stands_at, tag_at, text_at, break_at, tail_at, line_end_at, digits_at}
 use Rattle.text.specs.declared.Cursor.{Cursor}
-use Rattle.text.specs.declared.Place.TheVariants.{Past}
-use Rattle.text.specs.declared.Number.TheVariants.{Value}
 use Rattle.text.proofs.Laws.{span_ge, span-on, span_off, span-end, stands_fits, tag_back}
 use Rattle.text.proofs.Answers.{digits_fit}
 use Rattle.spell.specs.Spell.{first_of}
 use Rattle.spell.specs.Tables.{Spelling}
-use Rattle.spell.specs.declared.Spelled.TheVariants.{As}
 use Rattle.spell.proofs.Answers.{OnSpelled, is_as, is_not, as_is}
 use Rattle.moves.proofs.Figures.{value_is}
 use Rattle.moves.proofs.Shortcuts.{digits_along}
@@ -106,7 +104,7 @@ stands_over (b ∷ t) s at w e = record { past = omega arith; text = stands_text
 stands_over [] s at w e = let z : ◌≡◌ {A = ℕ} 0 1 = cc in absurd (omega arith)
 
 -- by a tag
-pub tag_over : (t s : List ℕ) (at : ℕ) {c : Cursor} → is_word t ≡ true → tag_at t s at ≡ Past c → Over s at c.at
+pub tag_over : (t s : List ℕ) (at : ℕ) {c : Cursor} → is_word t ≡ true → tag_at t s at ≡ Some c → Over s at c.at
 tag_over t s at {c} w e = let (p, q) = tag_back t s at c e in subst (Over s at) (sym q) (stands_over t s at w p)
 
 -- all spellings of a table are words
@@ -120,13 +118,13 @@ unfolding first_of
 spelled_over [] w s at = is_not
 spelled_over (e ∷ es) w s at =
     let (p, q) = pick_both (is_word e.bytes) (words es) w in
-    by_pick (OnSpelled (λ n c. Over s at c.at)) (stands_at e.bytes s at) (As e.number (cursor (at + length e.bytes))) (first_of es s at)
+    by_pick (OnSpelled (λ n c. Over s at c.at)) (stands_at e.bytes s at) (Some (e.number, cursor (at + length e.bytes))) (first_of es s at)
     (λ t. is_as (stands_over e.bytes s at p t)) (λ t. spelled_over es q s at)
 
 -- the same where it is known which
-pub first_over : (es : List Spelling) (s : List ℕ) (at : ℕ) {n : ℕ} {c : Cursor} → words es ≡ true → first_of es s at ≡ As n c → Over s at c.at
+pub first_over : (es : List Spelling) (s : List ℕ) (at : ℕ) {n : ℕ} {c : Cursor} → words es ≡ true → first_of es s at ≡ Some (n, c) → Over s at c.at
 first_over es s at w e = as_is (spelled_over es w s at) e
 
 -- by a number
-pub digits_over : (largest : ℕ) (s : List ℕ) (at : ℕ) {n : ℕ} {c : Cursor} → digits_at largest s at ≡ Value n c → Over s at c.at
+pub digits_over : (largest : ℕ) (s : List ℕ) (at : ℕ) {n : ℕ} {c : Cursor} → digits_at largest s at ≡ Ok (n, c) → Over s at c.at
 digits_over largest s at e = record { past = (value_is (digits_fit largest s at) e).past; text = value_is (digits_along s largest at) e }

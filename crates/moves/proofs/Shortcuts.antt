@@ -1,5 +1,6 @@
 -- The code's shorter ways through a move line are those of the definitions.
 -- Assumes nothing.
+use Rattle.std.specs.Prelude.{Option, Some, None, Result, Ok, Err}
 use Prim.Native.Nat.{ℕ, zero, suc, ◌+◌, ◌≤◌, ◌<◌}
 use native.Mathlib.Omega.{arith}
 use mathlib.Core.Path.{◌≡◌, refl, sym, ap, ◌∙◌}
@@ -12,16 +13,12 @@ use Rattle.lists.specs.Pick.{pick}
 use Rattle.lists.proofs.Laws.{by_pick, drop_step, pick_both}
 use Rattle.text.specs.Text.{cursor, on_place, on_number, by_number, is_blank, is_text, is_digit, prefix_from, span_at, stands_at, tag_at, text_at, break_at, tail_end, tail_at, line_end_at, blanks_at, number_at, digits_at}
 use Rattle.text.specs.declared.Cursor.{Cursor}
-use Rattle.text.specs.declared.Place.{Place}
-use Rattle.text.specs.declared.Place.TheVariants.{Past, Absent}
-use Rattle.text.specs.declared.Number.{Number}
-use Rattle.text.specs.declared.Number.TheVariants.{Value, NoDigit, TooLarge}
+use Rattle.text.specs.declared.FigureError.{FigureError}
+use Rattle.text.specs.declared.FigureError.TheVariants.{Absent, TooLarge}
 use Rattle.text.proofs.Laws.{span-end, span-on, span_off, digit_bounds, stands_fits, stands_short, stands_off, tag_back}
 use Rattle.text.proofs.Answers.{OnNumber, value, no_digit, too_large, by-number, by_three, by_past}
 use Rattle.spell.specs.Spell.{on_spelled, first_of}
 use Rattle.spell.specs.Tables.{spelling, files, numerals, specials}
-use Rattle.spell.specs.declared.Spelled.{Spelled}
-use Rattle.spell.specs.declared.Spelled.TheVariants.{As, Not}
 use Rattle.spell.proofs.Lookups.{apart_first}
 use Rattle.jkf.specs.declared.Clock.TheVariants.{Hms, Ms}
 use Rattle.jkf.specs.declared.Target.{Target}
@@ -30,106 +27,100 @@ use Rattle.jkf.specs.declared.Time.TheVariants.{Untimed}
 use Rattle.jkf.specs.declared.Entry.{Entry}
 use Rattle.moves.specs.Moves.{colon, on_clocked, on_what, on_move_line, timing, square_at, move_to_at, kind_to_origin_at, move_at, what_at, figure_at, hms_at, ms_at, clock_at, spaced_at, clocks_at, time_at, color_of, finished, move_line_at, kept_at, comment_line_at, move_line_end_at, begins_comment, ending_at}
 use Rattle.spell.specs.Words.{same_word}
-use Rattle.moves.specs.declared.Aim.TheVariants.{To, NoAim}
-use Rattle.moves.specs.declared.Clocked.{Clocked}
-use Rattle.moves.specs.declared.Clocked.TheVariants.{Shows, NoClock}
 use Rattle.moves.specs.declared.Timing.{Timing}
-use Rattle.moves.specs.declared.What.{What}
-use Rattle.moves.specs.declared.What.TheVariants.{Is, Nothing}
 use Rattle.moves.specs.declared.MoveLine.{MoveLine}
-use Rattle.moves.specs.declared.MoveLine.TheVariants.{Numbered, NoLine}
-use Rattle.moves.specs.declared.Remark.TheVariants.{NoRemark}
 use Rattle.moves.proofs.Answers.{OnClocked, shows, no_clock, by_clocked}
+use Rattle.jkf.specs.declared.Clock.{Clock}
 
 -- ---- a special or a move
 
 -- where 同 stands, no special does
-same_apart : (s : List ℕ) (at : ℕ) → stands_at same_word s at ≡ true → first_of specials s at ≡ Not
+same_apart : (s : List ℕ) (at : ℕ) → stands_at same_word s at ≡ true → first_of specials s at ≡ None
 unfolding first_of
 same_apart s at t = apart_first (spelling 0 same_word ∷ []) specials refl refl refl s at 0 (cursor (at + 3)) (rw t)
 
 -- nor where a file does
-square_apart : (s : List ℕ) (at : ℕ) (t : Target) (c : Cursor) → square_at s at ≡ To t c → first_of specials s at ≡ Not
+square_apart : (s : List ℕ) (at : ℕ) (t : Target) (c : Cursor) → square_at s at ≡ Some (t, c) → first_of specials s at ≡ None
 unfolding square_at
 square_apart s at t c q = go (first_of files s at) refl q
   where
-    go : (r : Spelled) → first_of files s at ≡ r
-        → on_spelled r (λ x c. on_spelled (first_of numerals s c.at) (λ y d. To (Square x y) d) NoAim) NoAim ≡ To t c → first_of specials s at ≡ Not
-    go (As x d) e q = apart_first files specials refl refl refl s at x d e
-    go Not e q = let z : ◌≡◌ {A = ℕ} 0 1 = cc in absurd (omega arith)
+    go : (r : Option (ℕ × Cursor)) → first_of files s at ≡ r
+        → on_spelled {A = Option (Target × Cursor)} r (λ x c. on_spelled {A = Option (Target × Cursor)} (first_of numerals s c.at) (λ y d. Some (Square x y, d)) None) None ≡ Some (t, c) → first_of specials s at ≡ None
+    go (Some (x, d)) e q = apart_first files specials refl refl refl s at x d e
+    go None e q = let z : ◌≡◌ {A = ℕ} 0 1 = cc in absurd (omega arith)
 
-aim_apart : (s : List ℕ) (at : ℕ) (t : Target) (c : Cursor) → move_to_at s at ≡ To t c → first_of specials s at ≡ Not
+aim_apart : (s : List ℕ) (at : ℕ) (t : Target) (c : Cursor) → move_to_at s at ≡ Some (t, c) → first_of specials s at ≡ None
 unfolding move_to_at tag_at
 aim_apart s at t c q = go (stands_at same_word s at) refl q
   where
     go : (u : Bool) → stands_at same_word s at ≡ u
-        → on_place (pick u (Past (cursor (at + 3))) Absent) (λ c. on_place (tag_at (227 ∷ 128 ∷ 128 ∷ []) s c.at) (λ d. To Same d) (To Same c)) (square_at s at) ≡ To t c
-        → first_of specials s at ≡ Not
+        → on_place (pick u (Some (cursor (at + 3))) None) (λ c. on_place (tag_at (227 ∷ 128 ∷ 128 ∷ []) s c.at) (λ d. Some (Same, d)) (Some (Same, c))) (square_at s at) ≡ Some (t, c)
+        → first_of specials s at ≡ None
     go true e q = same_apart s at e
     go false e q = square_apart s at t c q
 
 -- what has a target is a move
-pub what-move : (s : List ℕ) (at : ℕ) (t : Target) (c : Cursor) → move_to_at s at ≡ To t c → what_at s at ≡ kind_to_origin_at t s c.at
+pub what-move : (s : List ℕ) (at : ℕ) (t : Target) (c : Cursor) → move_to_at s at ≡ Some (t, c) → what_at s at ≡ kind_to_origin_at t s c.at
 unfolding what_at move_at
 what-move s at t c q = rw (aim_apart s at t c q, q)
 
 -- and what has none can only be a special
-pub what-ending : (s : List ℕ) (at : ℕ) → move_to_at s at ≡ NoAim → what_at s at ≡ ending_at s at
+pub what-ending : (s : List ℕ) (at : ℕ) → move_to_at s at ≡ None → what_at s at ≡ ending_at s at
 unfolding what_at move_at
 what-ending s at q = rw q (alone (ending_at s at))
   where
-    alone : (w : What) → on_what w (λ e c. Is e c) Nothing ≡ w
-    alone (Is e c) = refl
-    alone Nothing = refl
+    alone : (w : Option (Entry × Cursor)) → on_what w (λ e c. Some (e, c)) None ≡ w
+    alone (Some (e, c)) = refl
+    alone None = refl
 
 -- ---- a clock in one pass
 
 -- from the second figure on, after the first
-abbrev pub clock_from : List ℕ → ℕ → ℕ → Clocked
+abbrev pub clock_from : List ℕ → ℕ → ℕ → Option (Clock × Cursor)
 clock_from s a at =
     on_number (digits_at 255 s at)
     (λ b c. on_place (tag_at colon s c.at)
-    (λ d. on_number (digits_at 255 s d.at) (λ n e. Shows (Hms a b n) e) (Shows (Ms a b) c))
-    (Shows (Ms a b) c))
-    NoClock
+    (λ d. on_number (digits_at 255 s d.at) (λ n e. Some (Hms a b n, e)) (Some (Ms a b, c)))
+    (Some (Ms a b, c)))
+    None
 
 clock-from : (s : List ℕ) (a at : ℕ)
-    → on_clocked (on_number (figure_at s at) (λ m d. on_number (digits_at 255 s d.at) (λ n e. Shows (Hms a m n) e) NoClock) NoClock) Shows
-    (on_number (digits_at 255 s at) (λ n d. Shows (Ms a n) d) NoClock) ≡ clock_from s a at
+    → on_clocked (on_number (figure_at s at) (λ m d. on_number (digits_at 255 s d.at) (λ n e. Some (Hms a m n, e)) None) None) (λ k e. Some (k, e))
+    (on_number (digits_at 255 s at) (λ n d. Some (Ms a n, d)) None) ≡ clock_from s a at
 unfolding figure_at
 clock-from s a at = go (digits_at 255 s at)
   where
-    third : (b : ℕ) (c : Cursor) (r : Number)
-        → on_clocked (on_number r (λ n e. Shows (Hms a b n) e) NoClock) Shows (Shows (Ms a b) c) ≡ on_number r (λ n e. Shows (Hms a b n) e) (Shows (Ms a b) c)
-    third b c (Value n e) = refl
-    third b c NoDigit = refl
-    third b c TooLarge = refl
+    third : (b : ℕ) (c : Cursor) (r : Result (ℕ × Cursor) FigureError)
+        → on_clocked {A = Option (Clock × Cursor)} (on_number {A = Option (Clock × Cursor)} r (λ n e. Some (Hms a b n, e)) None) (λ k e. Some (k, e)) (Some (Ms a b, c)) ≡ on_number {A = Option (Clock × Cursor)} r (λ n e. Some (Hms a b n, e)) (Some (Ms a b, c))
+    third b c (Ok (n, e)) = refl
+    third b c (Err Absent) = refl
+    third b c (Err TooLarge) = refl
 
-    second : (b : ℕ) (c : Cursor) (p : Place)
-        → on_clocked (on_number (on_place p (λ e. Value b e) NoDigit) (λ m d. on_number (digits_at 255 s d.at) (λ n e. Shows (Hms a m n) e) NoClock) NoClock) Shows (Shows (Ms a b) c)
-        ≡ on_place p (λ d. on_number (digits_at 255 s d.at) (λ n e. Shows (Hms a b n) e) (Shows (Ms a b) c)) (Shows (Ms a b) c)
-    second b c (Past d) = third b c (digits_at 255 s d.at)
-    second b c Absent = refl
+    second : (b : ℕ) (c : Cursor) (p : Option Cursor)
+        → on_clocked {A = Option (Clock × Cursor)} (on_number {A = Option (Clock × Cursor)} (on_place p (λ e. Ok (b, e)) (Err Absent)) (λ m d. on_number (digits_at 255 s d.at) (λ n e. Some (Hms a m n, e)) None) None) (λ k e. Some (k, e)) (Some (Ms a b, c))
+        ≡ on_place {A = Option (Clock × Cursor)} p (λ d. on_number (digits_at 255 s d.at) (λ n e. Some (Hms a b n, e)) (Some (Ms a b, c))) (Some (Ms a b, c))
+    second b c (Some d) = third b c (digits_at 255 s d.at)
+    second b c None = refl
 
-    go : (r : Number)
-        → on_clocked (on_number (by_number r (λ n c. on_place (tag_at colon s c.at) (λ e. Value n e) NoDigit) NoDigit TooLarge) (λ m d. on_number (digits_at 255 s d.at) (λ n e. Shows (Hms a m n) e) NoClock) NoClock) Shows
-        (on_number r (λ n d. Shows (Ms a n) d) NoClock)
-        ≡ on_number r (λ b c. on_place (tag_at colon s c.at) (λ d. on_number (digits_at 255 s d.at) (λ n e. Shows (Hms a b n) e) (Shows (Ms a b) c)) (Shows (Ms a b) c)) NoClock
-    go (Value b c) = second b c (tag_at colon s c.at)
-    go NoDigit = refl
-    go TooLarge = refl
+    go : (r : Result (ℕ × Cursor) FigureError)
+        → on_clocked {A = Option (Clock × Cursor)} (on_number {A = Option (Clock × Cursor)} (by_number r (λ n c. on_place (tag_at colon s c.at) (λ e. Ok (n, e)) (Err Absent)) (Err Absent) (Err TooLarge)) (λ m d. on_number (digits_at 255 s d.at) (λ n e. Some (Hms a m n, e)) None) None) (λ k e. Some (k, e))
+        (on_number {A = Option (Clock × Cursor)} r (λ n d. Some (Ms a n, d)) None)
+        ≡ on_number {A = Option (Clock × Cursor)} r (λ b c. on_place (tag_at colon s c.at) (λ d. on_number (digits_at 255 s d.at) (λ n e. Some (Hms a b n, e)) (Some (Ms a b, c))) (Some (Ms a b, c))) None
+    go (Ok (b, c)) = second b c (tag_at colon s c.at)
+    go (Err Absent) = refl
+    go (Err TooLarge) = refl
 
-pub clock_is : (s : List ℕ) (at : ℕ) → clock_at s at ≡ on_number (figure_at s at) (λ a c. clock_from s a c.at) NoClock
+pub clock_is : (s : List ℕ) (at : ℕ) → clock_at s at ≡ on_number (figure_at s at) (λ a c. clock_from s a c.at) None
 unfolding clock_at hms_at ms_at
 clock_is s at = go (figure_at s at)
   where
-    go : (r : Number)
-        → on_clocked (on_number r (λ h c. on_number (figure_at s c.at) (λ m d. on_number (digits_at 255 s d.at) (λ n e. Shows (Hms h m n) e) NoClock) NoClock) NoClock) Shows
-        (on_number r (λ m c. on_number (digits_at 255 s c.at) (λ n d. Shows (Ms m n) d) NoClock) NoClock)
-        ≡ on_number r (λ a c. clock_from s a c.at) NoClock
-    go (Value a c) = clock-from s a c.at
-    go NoDigit = refl
-    go TooLarge = refl
+    go : (r : Result (ℕ × Cursor) FigureError)
+        → on_clocked (on_number r (λ h c. on_number (figure_at s c.at) (λ m d. on_number (digits_at 255 s d.at) (λ n e. Some (Hms h m n, e)) None) None) None) (λ k e. Some (k, e))
+        (on_number r (λ m c. on_number (digits_at 255 s c.at) (λ n d. Some (Ms m n, d)) None) None)
+        ≡ on_number r (λ a c. clock_from s a c.at) None
+    go (Ok (a, c)) = clock-from s a c.at
+    go (Err Absent) = refl
+    go (Err TooLarge) = refl
 
 -- ---- a time is text
 
@@ -161,15 +152,15 @@ module _ (s : List ℕ) where
   digits_along largest at =
       let n : ℕ = number_at s at 0 in
       let e : ℕ = span_at is_digit s at in
-      by_pick (OnNumber (λ n c. Along at c.at)) (eqb e at) NoDigit (pick (leb n largest) (Value n (cursor e)) TooLarge) (λ t. no_digit)
-      (λ t. by_pick (OnNumber (λ n c. Along at c.at)) (leb n largest) (Value n (cursor e)) TooLarge
+      by_pick (OnNumber (λ n c. Along at c.at)) (eqb e at) (Err Absent) (pick (leb n largest) (Ok (n, cursor e)) (Err TooLarge)) (λ t. no_digit)
+      (λ t. by_pick (OnNumber (λ n c. Along at c.at)) (leb n largest) (Ok (n, cursor e)) (Err TooLarge)
       (λ u. value (span_along is_digit digit-text (length s) at (omega arith))) (λ u. too_large))
 
   one_stands : (b at : ℕ) → at < length s → stands_at (b ∷ []) s at ≡ true → get_or s at 0 ≡ b
   unfolding stands_at prefix_from
   one_stands b at h e = eqb-true (get_or s at 0) b (pick_both (eqb (get_or s at 0) b) true (rw (drop_step s at h) at e)).0
 
-  tag_along : (b : ℕ) → is_text b ≡ true → (at : ℕ) (c : Cursor) → tag_at (b ∷ []) s at ≡ Past c → Along at c.at
+  tag_along : (b : ℕ) → is_text b ≡ true → (at : ℕ) (c : Cursor) → tag_at (b ∷ []) s at ≡ Some c → Along at c.at
   tag_along b t at c e =
       let (p, q) = tag_back (b ∷ []) s at c e in
       let h : at < length s = omega (arith, stands_fits (b ∷ []) s at p) in
@@ -221,71 +212,71 @@ module _ (s : List ℕ) where
   -- the line ends where it ends from before the time
   line_along : (a b : ℕ) → Along a b → line_end_at s a ≡ line_end_at s b
   unfolding line_end_at tail_at
-  line_along a b p = ap (λ (e : ℕ). on_place (tail_end s e) (λ c. break_at s c.at) Absent) p
+  line_along a b p = ap (λ (e : ℕ). on_place (tail_end s e) (λ c. break_at s c.at) None) p
 
   time-line : (d : ℕ) → line_end_at s (time_at s (blanks_at s d)).next.at ≡ line_end_at s d
   time-line d = sym (line_along d (time_at s (blanks_at s d)).next.at (blanks_along d ∙ time_along (blanks_at s d)))
 
 -- ---- the place past a move line
 
-abbrev line_at : List ℕ → ℕ → Entry → Cursor → MoveLine
+abbrev line_at : List ℕ → ℕ → Entry → Cursor → Option MoveLine
 line_at s n e d =
-    on_place (line_end_at s (time_at s (blanks_at s d.at)).next.at) (λ f. Numbered n (finished (color_of n) (time_at s (blanks_at s d.at)).time e) f) NoLine
+    on_place (line_end_at s (time_at s (blanks_at s d.at)).next.at) (λ f. Some (record { number = n; entry = (finished (color_of n) (time_at s (blanks_at s d.at)).time e); next = f })) None
 
-place-line : (n : ℕ) (e : Entry) (p : Place) → on_move_line (on_place p (λ f. Numbered n e f) NoLine) (λ n e c. Past c) Absent ≡ p
-place-line n e (Past c) = refl
-place-line n e Absent = refl
+place-line : (n : ℕ) (e : Entry) (p : Option Cursor) → on_move_line (on_place p (λ f. Some (record { number = n; entry = e; next = f })) None) (λ n e c. Some c) None ≡ p
+place-line n e (Some c) = refl
+place-line n e None = refl
 
 pub line-end_is : (s : List ℕ) (at : ℕ)
-    → move_line_end_at s at ≡ on_number (digits_at 18446744073709551615 s (blanks_at s at)) (λ n c. on_what (what_at s (blanks_at s c.at)) (λ e d. line_end_at s d.at) Absent) Absent
+    → move_line_end_at s at ≡ on_number (digits_at 18446744073709551615 s (blanks_at s at)) (λ n c. on_what (what_at s (blanks_at s c.at)) (λ e d. line_end_at s d.at) None) None
 unfolding move_line_end_at move_line_at
 line-end_is s at = go (digits_at 18446744073709551615 s (blanks_at s at))
   where
-    played : (n : ℕ) (w : What) → on_move_line (on_what w (λ e d. (line_at s n e d)) NoLine) (λ n e c. Past c) Absent ≡ on_what w (λ e d. line_end_at s d.at) Absent
-    played n (Is e d) = place-line n (finished (color_of n) (time_at s (blanks_at s d.at)).time e) (line_end_at s (time_at s (blanks_at s d.at)).next.at) ∙ time-line s d.at
-    played n Nothing = refl
+    played : (n : ℕ) (w : Option (Entry × Cursor)) → on_move_line (on_what w (λ e d. (line_at s n e d)) None) (λ n e c. Some c) None ≡ on_what w (λ e d. line_end_at s d.at) None
+    played n (Some (e, d)) = place-line n (finished (color_of n) (time_at s (blanks_at s d.at)).time e) (line_end_at s (time_at s (blanks_at s d.at)).next.at) ∙ time-line s d.at
+    played n None = refl
 
-    go : (r : Number) → on_move_line (on_number r (λ n c. on_what (what_at s (blanks_at s c.at)) (λ e d. (line_at s n e d)) NoLine) NoLine) (λ n e c. Past c) Absent
-        ≡ on_number r (λ n c. on_what (what_at s (blanks_at s c.at)) (λ e d. line_end_at s d.at) Absent) Absent
-    go (Value n c) = played n (what_at s (blanks_at s c.at))
-    go NoDigit = refl
-    go TooLarge = refl
+    go : (r : Result (ℕ × Cursor) FigureError) → on_move_line (on_number r (λ n c. on_what (what_at s (blanks_at s c.at)) (λ e d. (line_at s n e d)) None) None) (λ n e c. Some c) None
+        ≡ on_number r (λ n c. on_what (what_at s (blanks_at s c.at)) (λ e d. line_end_at s d.at) None) None
+    go (Ok (n, c)) = played n (what_at s (blanks_at s c.at))
+    go (Err Absent) = refl
+    go (Err TooLarge) = refl
 
 -- where it is there, the line is, and where it is not, there is none
-pub line_back : (s : List ℕ) (at : ℕ) (c : Cursor) → move_line_end_at s at ≡ Past c → (n : ℕ) × (e : Entry) × (move_line_at s at ≡ Numbered n e c)
+pub line_back : (s : List ℕ) (at : ℕ) (c : Cursor) → move_line_end_at s at ≡ Some c → (n : ℕ) × (e : Entry) × (move_line_at s at ≡ Some (record { number = n; entry = e; next = c }))
 unfolding move_line_end_at
 line_back s at c q = go (move_line_at s at) q
   where
-    go : (r : MoveLine) → on_move_line r (λ n e c. Past c) Absent ≡ Past c → (n : ℕ) × (e : Entry) × (r ≡ Numbered n e c)
-    go (Numbered n e d) q = let z : d ≡ c = cc in (n, e, ap (Numbered n e) z)
-    go NoLine q = let z : ◌≡◌ {A = ℕ} 0 1 = cc in absurd (omega arith)
+    go : (r : Option MoveLine) → on_move_line r (λ n e c. Some c) None ≡ Some c → (n : ℕ) × (e : Entry) × (r ≡ Some (record { number = n; entry = e; next = c }))
+    go (Some r) q = let z : r.next ≡ c = cc in (r.number, r.entry, ap (λ (x : Cursor). Some (record { number = r.number; entry = r.entry; next = x })) z)
+    go None q = let z : ◌≡◌ {A = ℕ} 0 1 = cc in absurd (omega arith)
 
-pub line-none : (s : List ℕ) (at : ℕ) → move_line_end_at s at ≡ Absent → move_line_at s at ≡ NoLine
+pub line-none : (s : List ℕ) (at : ℕ) → move_line_end_at s at ≡ None → move_line_at s at ≡ None
 unfolding move_line_end_at
 line-none s at q = go (move_line_at s at) q
   where
-    go : (r : MoveLine) → on_move_line r (λ n e c. Past c) Absent ≡ Absent → r ≡ NoLine
-    go (Numbered n e d) q = let z : ◌≡◌ {A = ℕ} 0 1 = cc in absurd (omega arith)
-    go NoLine q = refl
+    go : (r : Option MoveLine) → on_move_line r (λ n e c. Some c) None ≡ None → r ≡ None
+    go (Some r) q = let z : ◌≡◌ {A = ℕ} 0 1 = cc in absurd (omega arith)
+    go None q = refl
 
 -- ---- a comment
 
 module _ (s : List ℕ) (at : ℕ) where
   -- another byte stands here, or none
-  no_tag : (b : ℕ) → (get_or s at 0 ≡ b → ⊥) → tag_at (b ∷ []) s at ≡ Absent
+  no_tag : (b : ℕ) → (get_or s at 0 ≡ b → ⊥) → tag_at (b ∷ []) s at ≡ None
   unfolding tag_at
   no_tag b g = go (ltb at (length s)) refl
     where
-      go : (u : Bool) → ltb at (length s) ≡ u → pick (stands_at (b ∷ []) s at) (Past (cursor (at + 1))) Absent ≡ Absent
+      go : (u : Bool) → ltb at (length s) ≡ u → pick (stands_at (b ∷ []) s at) (Some (cursor (at + 1))) None ≡ None
       go true p = rw (stands_off (b ∷ []) s 0 at (omega arith) (ltb-true _ _ p) g)
       go false p = rw (stands_short (b ∷ []) s 0 at (omega arith) (ltb-false _ _ p))
 
   -- where none begins, none stands
-  pub no_comment : begins_comment s at ≡ false → comment_line_at s at ≡ NoRemark
+  pub no_comment : begins_comment s at ≡ false → comment_line_at s at ≡ None
   unfolding begins_comment comment_line_at kept_at
   no_comment = go (eqb (get_or s at 0) 42) (eqb (get_or s at 0) 38) refl refl
     where
-      go : (u v : Bool) → eqb (get_or s at 0) 42 ≡ u → eqb (get_or s at 0) 38 ≡ v → pick (eqb (get_or s at 0) 42) true (eqb (get_or s at 0) 38) ≡ false → comment_line_at s at ≡ NoRemark
+      go : (u v : Bool) → eqb (get_or s at 0) 42 ≡ u → eqb (get_or s at 0) 38 ≡ v → pick (eqb (get_or s at 0) 42) true (eqb (get_or s at 0) 38) ≡ false → comment_line_at s at ≡ None
       go true v p q h = absurd (true≢false (rw p at h))
       go false true p q h = absurd (true≢false (rw (p, q) at h))
       go false false p q h = rw (no_tag 42 (eqb-false _ _ p), no_tag 38 (eqb-false _ _ q))

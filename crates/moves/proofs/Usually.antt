@@ -4,6 +4,7 @@
 --     short-named, marked-named, long-named    the kind, the mark and the origin
 --     usual-what, usual-played                 the whole, and the line with a usual time after it
 -- Assumes nothing.
+use Rattle.std.specs.Prelude.{Some, None, Ok}
 use Prim.Native.Nat.{ℕ, ◌+◌, ◌-◌, ◌/◌, ◌%◌, ◌≤◌, ◌<◌}
 use native.Mathlib.Omega.{arith}
 use mathlib.Core.Path.{◌≡◌, refl, sym, ap, ◌∙◌}
@@ -15,20 +16,14 @@ use borrow.Author.Tests.{eq-eqb, ne_eqb, eqb-true}
 use Rattle.lists.specs.Pick.{pick}
 use Rattle.lists.proofs.Laws.{drop_step, pick_both}
 use Rattle.text.specs.Text.{cursor, on_place, on_number, prefix_from, stands_at, tag_at, same, blanks_at, line_end_at, digits_at}
-use Rattle.text.specs.declared.Place.TheVariants.{Past}
 use Rattle.text.proofs.Laws.{digit_bounds}
 use Rattle.spell.specs.Spell.{first_of, number_spelled}
 use Rattle.spell.specs.inner.Codes.{three_at}
 use Rattle.spell.specs.Tables.{kinds, numerals}
-use Rattle.spell.specs.declared.Spelled.TheVariants.{As}
 use Rattle.spell.proofs.Lookups.{numeral_known, kind_known, file_known, promoted_known}
-use Rattle.jkf.specs.declared.Origin.TheVariants.{From}
 use Rattle.moves.specs.Moves.{mark, square_at, move_to_at, promote_at, origin_at, move_from_at, kind_to_origin_at, what_at, time_at, color_of, finished, move_line_at, played_line}
 use Rattle.spell.specs.Words.{promotes}
 use Rattle.moves.specs.inner.Usuals.{Two, two_digits, Usual, aim_of, kind_of, mark_of, entry_of, Bracketed, UsualTarget, UsualKind, UsualMove}
-use Rattle.moves.specs.declared.Source.TheVariants.{Out}
-use Rattle.moves.specs.declared.What.TheVariants.{Is}
-use Rattle.moves.specs.declared.MoveLine.TheVariants.{Numbered, NoLine}
 use Rattle.moves.proofs.Clocking.{tag_here, tag_other, two_at, two_known, usual_time}
 use Rattle.moves.proofs.Shortcuts.{what-move}
 
@@ -46,7 +41,7 @@ module _ (s : List ℕ) where
 
   -- e is the place past them
   tag_three : (a b c at e : ℕ) → at + 3 ≤ length s → get_or s at 0 ≡ a → get_or s (at + 1) 0 ≡ b → get_or s (at + 2) 0 ≡ c → e ≡ at + 3
-      → tag_at (a ∷ b ∷ c ∷ []) s at ≡ Past (cursor e)
+      → tag_at (a ∷ b ∷ c ∷ []) s at ≡ Some (cursor e)
   unfolding tag_at
   tag_three a b c at e h p q r z = rw (stands_three a b c at h, eq-eqb _ _ p, eq-eqb _ _ q, eq-eqb _ _ r, z)
 
@@ -95,7 +90,7 @@ module _ (s : List ℕ) where
 
   -- p and q are the places of the digits, e the place past the bracket
   origin_is : (at p q e : ℕ) → at + 4 ≤ length s → Bracketed s at → p ≡ at + 1 → q ≡ at + 1 + 1 → e ≡ at + 4
-      → move_from_at s at ≡ Out (From (get_or s p 0 - 48) (get_or s q 0 - 48)) (cursor e)
+      → move_from_at s at ≡ Ok ((Some (get_or s p 0 - 48, get_or s q 0 - 48)), cursor e)
   unfolding move_from_at origin_at
   origin_is at p q e h b e₁ e₂ e₃ =
       let o = b.opens in
@@ -120,7 +115,7 @@ module _ (s : List ℕ) (bytes : (i : ℕ) → get_or s i 0 < 256) (at n : ℕ) 
       }
 
   -- a kind of one character
-  kind_three : n ≡ number_spelled kinds (three_at s (at + 6)) → first_of kinds s (at + 6) ≡ As (number_spelled kinds (three_at s (at + 6))) (cursor (at + 9))
+  kind_three : n ≡ number_spelled kinds (three_at s (at + 6)) → first_of kinds s (at + 6) ≡ Some (number_spelled kinds (three_at s (at + 6)), cursor (at + 9))
   kind_three e = let p : at + 6 + 3 ≡ at + 9 = omega arith in rw p at (kind_known s (at + 6) bytes (λ k. z (e ∙ k)))
 
   pub short-named : at + 13 ≤ length s → Bracketed s (at + 9) → n ≡ number_spelled kinds (three_at s (at + 6)) → UsualKind s at 13
@@ -163,7 +158,7 @@ module _ (s : List ℕ) (bytes : (i : ℕ) → get_or s i 0 < 256) (at n : ℕ) 
 
 -- ---- the whole
 
-pub usual_what : (s : List ℕ) (at width : ℕ) → UsualMove s at width → what_at s at ≡ Is (entry_of s at width) (cursor (at + width))
+pub usual_what : (s : List ℕ) (at width : ℕ) → UsualMove s at width → what_at s at ≡ Some (entry_of s at width, cursor (at + width))
 unfolding kind_to_origin_at
 usual_what s at width u =
     let w = u.wide in
@@ -182,13 +177,13 @@ origin-digits s at width u =
     ((digit_bounds _ (rw p at b.tens)).0, (digit_bounds _ (rw q at b.ones)).0)
 
 -- a line after its number
-pub line-played : (s : List ℕ) (at : ℕ) → move_line_at s at ≡ on_number (digits_at 18446744073709551615 s (blanks_at s at)) (λ n c. played_line n s (blanks_at s c.at)) NoLine
+pub line-played : (s : List ℕ) (at : ℕ) → move_line_at s at ≡ on_number (digits_at 18446744073709551615 s (blanks_at s at)) (λ n c. played_line n s (blanks_at s c.at)) None
 unfolding move_line_at
 line-played s at = refl
 
 -- with a time at t in the usual form
 pub usual_played : (s : List ℕ) (n at width t : ℕ) → UsualMove s at width → Usual s t → t ≡ blanks_at s (at + width)
-    → played_line n s at ≡ on_place (line_end_at s (t + 16)) (λ f. Numbered n (finished (color_of n) (time_at s t).time (entry_of s at width)) f) NoLine
+    → played_line n s at ≡ on_place (line_end_at s (t + 16)) (λ f. Some (record { number = n; entry = (finished (color_of n) (time_at s t).time (entry_of s at width)); next = f })) None
 usual_played s n at width t u v e =
     let z = ap (λ k. k.next.at) (usual_time s t (t + 7) (t + 7 + 3) (t + 7 + 6) v refl refl refl) in
     rw (usual_what s at width u, ← e, z)

@@ -1,126 +1,122 @@
 -- Why a line cannot be read: the place of the part that was sought, and what is not there.          (02, request (ii))
 -- Assumes nothing: these are definitions.
-use Rattle.std.specs.Prelude.{ℕ, ◌+◌, ◌≤◌, ◌≡◌, List, [], ◌∷◌, length, get_or, eqb, leb, ltb}
+use Rattle.std.specs.Prelude.{ℕ, ◌+◌, ◌≤◌, ◌≡◌, List, [], ◌∷◌, length, get_or, eqb, leb, ltb, Option, Some, None, Ok, Err}
 use Rattle.lists.specs.Pick.{pick}
 use Rattle.text.specs.Text.{cursor, on_place, by_number, tag_at, break_at, text_at, line_end_at, blanks_at, digits_at}
-use Rattle.text.specs.declared.Place.TheVariants.{Past, Absent}
-use Rattle.text.specs.declared.Number.TheVariants.{Value, NoDigit, TooLarge as TooLargeNumber}
-use Rattle.spell.specs.declared.Spelled.TheVariants.{As, Not}
 use Rattle.text.specs.Utf8.{character_at}
 use Rattle.spell.specs.Words.{same_word, drops}
 use Rattle.spell.specs.Spell.{on_spelled, first_of}
 use Rattle.spell.specs.Tables.{kinds, specials, numerals, files}
 use Rattle.moves.specs.Moves.{on_aim, on_what, move_to_at, promote_at, what_at, begins_no_skip, begins_comment}
-use Rattle.moves.specs.declared.Failed.{Failed}
-use Rattle.moves.specs.declared.Failed.TheVariants.{Silent, At}
 use Rattle.moves.specs.declared.Reason.{Reason}
 use Rattle.moves.specs.declared.Reason.TheVariants.{NoNumber, TooLarge, NoPlace, NoKind, NoOrigin, NoBreak, CommentHere, EndOfText}
+use Rattle.text.specs.declared.FigureError.TheVariants.{Absent, TooLarge as LargeFigure}
 
 -- ---- words
 
 -- What is told of several failures: the one that got further, else the one tried first.
-abbrev pub further : Failed → Failed → Failed
-further Silent b = b
-further (At p r) Silent = At p r
-further (At p r) (At q t) = pick (ltb p q) (At q t) (At p r)
+abbrev pub further : Option (ℕ × Reason) → Option (ℕ × Reason) → Option (ℕ × Reason)
+further None b = b
+further (Some (p, r)) None = Some (p, r)
+further (Some (p, r)) (Some (q, t)) = pick (ltb p q) (Some (q, t)) (Some (p, r))
 
 -- An answer taken apart.
-abbrev pub on_failed : {A : Type 0} → Failed → (ℕ → Reason → A) → A → A
-on_failed (At p r) f d = f p r
-on_failed Silent f d = d
+abbrev pub on_failed : {A : Type 0} → Option (ℕ × Reason) → (ℕ → Reason → A) → A → A
+on_failed (Some (p, r)) f d = f p r
+on_failed None f d = d
 
 -- Of two ways it fails only where both do.
-abbrev pub or_fail : Failed → Failed → Failed
-or_fail Silent b = Silent
-or_fail (At p r) Silent = Silent
-or_fail (At p r) (At q t) = further (At p r) (At q t)
+abbrev pub or_fail : Option (ℕ × Reason) → Option (ℕ × Reason) → Option (ℕ × Reason)
+or_fail None b = None
+or_fail (Some (p, r)) None = None
+or_fail (Some (p, r)) (Some (q, t)) = further (Some (p, r)) (Some (q, t))
 
 -- ---- a move
 
 -- A tail and its break fail where the tail ends.
-unfoldable pub line_end_fail : List ℕ → ℕ → Failed
-line_end_fail s at = on_place (line_end_at s at) (λ c. Silent) (At (text_at s at) NoBreak)
+unfoldable pub line_end_fail : List ℕ → ℕ → Option (ℕ × Reason)
+line_end_fail s at = on_place (line_end_at s at) (λ c. None) (Some (text_at s at, NoBreak))
 
 -- A file, and a rank behind it.
-unfoldable pub square_fail : List ℕ → ℕ → Failed
+unfoldable pub square_fail : List ℕ → ℕ → Option (ℕ × Reason)
 square_fail s at =
-    on_spelled (first_of files s at) (λ x c. on_spelled (first_of numerals s c.at) (λ y d. Silent) (At c.at NoPlace)) (At at NoPlace)
+    on_spelled (first_of files s at) (λ x c. on_spelled (first_of numerals s c.at) (λ y d. None) (Some (c.at, NoPlace))) (Some (at, NoPlace))
 
 -- 同, or a square.
-unfoldable pub move_to_fail : List ℕ → ℕ → Failed
-move_to_fail s at = on_place (tag_at same_word s at) (λ c. Silent) (or_fail (At at NoPlace) (square_fail s at))
+unfoldable pub move_to_fail : List ℕ → ℕ → Option (ℕ × Reason)
+move_to_fail s at = on_place (tag_at same_word s at) (λ c. None) (or_fail (Some (at, NoPlace)) (square_fail s at))
 
 -- A number of at most 255 in brackets.
-unfoldable pub origin_fail : List ℕ → ℕ → Failed
+unfoldable pub origin_fail : List ℕ → ℕ → Option (ℕ × Reason)
 origin_fail s at =
     on_place (tag_at (40 ∷ []) s at)
     (λ c. by_number (digits_at 255 s c.at)
-    (λ n d. on_place (tag_at (41 ∷ []) s d.at) (λ e. Silent) (At d.at NoOrigin))
-    (At c.at NoOrigin)
-    (At c.at TooLarge))
-    (At at NoOrigin)
+    (λ n d. on_place (tag_at (41 ∷ []) s d.at) (λ e. None) (Some (d.at, NoOrigin)))
+    (Some (c.at, NoOrigin))
+    (Some (c.at, TooLarge)))
+    (Some (at, NoOrigin))
 
 -- 打, or an origin.
-unfoldable pub move_from_fail : List ℕ → ℕ → Failed
-move_from_fail s at = on_place (tag_at drops s at) (λ c. Silent) (or_fail (At at NoOrigin) (origin_fail s at))
+unfoldable pub move_from_fail : List ℕ → ℕ → Option (ℕ × Reason)
+move_from_fail s at = on_place (tag_at drops s at) (λ c. None) (or_fail (Some (at, NoOrigin)) (origin_fail s at))
 
 -- A kind, its mark if any, and where it comes from.
-unfoldable pub piece_fail : List ℕ → ℕ → Failed
-piece_fail s at = on_spelled (first_of kinds s at) (λ k c. move_from_fail s (promote_at s c.at).next.at) (At at NoKind)
+unfoldable pub piece_fail : List ℕ → ℕ → Option (ℕ × Reason)
+piece_fail s at = on_spelled (first_of kinds s at) (λ k c. move_from_fail s (promote_at s c.at).next.at) (Some (at, NoKind))
 
 -- A target and a piece.
-unfoldable pub move_fail : List ℕ → ℕ → Failed
+unfoldable pub move_fail : List ℕ → ℕ → Option (ℕ × Reason)
 move_fail s at = on_aim (move_to_at s at) (λ t c. piece_fail s c.at) (move_to_fail s at)
 
 -- A special, or a move.
-unfoldable pub what_fail : List ℕ → ℕ → Failed
-what_fail s at = on_spelled (first_of specials s at) (λ n c. Silent) (or_fail (At at NoPlace) (move_fail s at))
+unfoldable pub what_fail : List ℕ → ℕ → Option (ℕ × Reason)
+what_fail s at = on_spelled (first_of specials s at) (λ n c. None) (or_fail (Some (at, NoPlace)) (move_fail s at))
 
 -- ---- lines
 
 -- Any line but a comment is sought: no byte is left, or a comment stands here.
-abbrev pub sought : List ℕ → ℕ → Failed → Failed
-sought s at f = pick (leb (length s) at) (At at EndOfText) (pick (eqb (get_or s at 0) 42) (At at CommentHere) f)
+abbrev pub sought : List ℕ → ℕ → Option (ℕ × Reason) → Option (ℕ × Reason)
+sought s at f = pick (leb (length s) at) (Some (at, EndOfText)) (pick (eqb (get_or s at 0) 42) (Some (at, CommentHere)) f)
 
 -- A move line past its number. Nothing is asked of its time, which is a part of the tail where it cannot be read, and ends no line.
-unfoldable pub played_fail : List ℕ → ℕ → Failed
+unfoldable pub played_fail : List ℕ → ℕ → Option (ℕ × Reason)
 played_fail s at = on_what (what_at s at) (λ e d. line_end_fail s d.at) (what_fail s at)
 
 -- A move line from its blanks on.
-unfoldable pub numbered_fail : List ℕ → ℕ → Failed
+unfoldable pub numbered_fail : List ℕ → ℕ → Option (ℕ × Reason)
 numbered_fail s at =
     by_number (digits_at 18446744073709551615 s (blanks_at s at))
     (λ n c. played_fail s (blanks_at s c.at))
-    (At (blanks_at s at) NoNumber)
-    (At (blanks_at s at) TooLarge)
+    (Some (blanks_at s at, NoNumber))
+    (Some (blanks_at s at, TooLarge))
 
 -- A move line.
-unfoldable pub move_line_fail : List ℕ → ℕ → Failed
+unfoldable pub move_line_fail : List ℕ → ℕ → Option (ℕ × Reason)
 move_line_fail s at = sought s at (numbered_fail s at)
 
 -- A skip line; a line that begins none is left to move lines.
-unfoldable pub skip_line_fail : List ℕ → ℕ → Failed
-skip_line_fail s at = sought s at (pick (begins_no_skip s at) Silent (on_place (character_at s at) (λ c. line_end_fail s c.at) Silent))
+unfoldable pub skip_line_fail : List ℕ → ℕ → Option (ℕ × Reason)
+skip_line_fail s at = sought s at (pick (begins_no_skip s at) None (on_place (character_at s at) (λ c. line_end_fail s c.at) None))
 
 -- A comment; a line that begins none is left to the others.
-unfoldable pub comment_fail : List ℕ → ℕ → Failed
-comment_fail s at = pick (leb (length s) at) (At at EndOfText) (pick (begins_comment s at) (line_end_fail s (at + 1)) Silent)
+unfoldable pub comment_fail : List ℕ → ℕ → Option (ℕ × Reason)
+comment_fail s at = pick (leb (length s) at) (Some (at, EndOfText)) (pick (begins_comment s at) (line_end_fail s (at + 1)) None)
 
 -- ---- what a reason says of the text at its place
 
 -- A number, a word, a break, or anything at all is sought there and does not stand there; or a number too large does, or a comment. NoPlace is told
 -- of the place of a move and of the rank after its file; NoOrigin of an origin, of its digits and of its closing bracket.
 pub data Seen (s : List ℕ) (p : ℕ) : Reason → Type 0 where
-  number : digits_at 18446744073709551615 s p ≡ NoDigit → Seen s p NoNumber
-  large_number : digits_at 18446744073709551615 s p ≡ TooLargeNumber → Seen s p TooLarge
-  large_origin : (at : ℕ) → tag_at (40 ∷ []) s at ≡ Past (cursor p) → digits_at 255 s p ≡ TooLargeNumber → Seen s p TooLarge
-  place : first_of specials s p ≡ Not → tag_at same_word s p ≡ Absent → first_of files s p ≡ Not → Seen s p NoPlace
-  rank : (at x : ℕ) → first_of files s at ≡ As x (cursor p) → first_of numerals s p ≡ Not → Seen s p NoPlace
-  kind : first_of kinds s p ≡ Not → Seen s p NoKind
-  origin : tag_at drops s p ≡ Absent → tag_at (40 ∷ []) s p ≡ Absent → Seen s p NoOrigin
-  digits : (at : ℕ) → tag_at (40 ∷ []) s at ≡ Past (cursor p) → digits_at 255 s p ≡ NoDigit → Seen s p NoOrigin
-  bracket : (at n : ℕ) → digits_at 255 s at ≡ Value n (cursor p) → tag_at (41 ∷ []) s p ≡ Absent → Seen s p NoOrigin
-  break : text_at s p ≡ p → break_at s p ≡ Absent → Seen s p NoBreak
+  number : digits_at 18446744073709551615 s p ≡ Err Absent → Seen s p NoNumber
+  large_number : digits_at 18446744073709551615 s p ≡ Err LargeFigure → Seen s p TooLarge
+  large_origin : (at : ℕ) → tag_at (40 ∷ []) s at ≡ Some (cursor p) → digits_at 255 s p ≡ Err LargeFigure → Seen s p TooLarge
+  place : first_of specials s p ≡ None → tag_at same_word s p ≡ None → first_of files s p ≡ None → Seen s p NoPlace
+  rank : (at x : ℕ) → first_of files s at ≡ Some (x, cursor p) → first_of numerals s p ≡ None → Seen s p NoPlace
+  kind : first_of kinds s p ≡ None → Seen s p NoKind
+  origin : tag_at drops s p ≡ None → tag_at (40 ∷ []) s p ≡ None → Seen s p NoOrigin
+  digits : (at : ℕ) → tag_at (40 ∷ []) s at ≡ Some (cursor p) → digits_at 255 s p ≡ Err Absent → Seen s p NoOrigin
+  bracket : (at n : ℕ) → digits_at 255 s at ≡ Ok (n, cursor p) → tag_at (41 ∷ []) s p ≡ None → Seen s p NoOrigin
+  break : text_at s p ≡ p → break_at s p ≡ None → Seen s p NoBreak
   comment : get_or s p 0 ≡ 42 → Seen s p CommentHere
   end : length s ≤ p → Seen s p EndOfText
 
@@ -128,6 +124,6 @@ pub data Seen (s : List ℕ) (p : ℕ) : Reason → Type 0 where
 
 -- The rule that failed at the place q, and so told the reason r at the place p.
 pub data ToldBy (s : List ℕ) (q p : ℕ) (r : Reason) : Type 0 where
-  by_move : move_line_fail s q ≡ At p r → ToldBy s q p r
-  by_skip : skip_line_fail s q ≡ At p r → ToldBy s q p r
-  by_comment : comment_fail s q ≡ At p r → ToldBy s q p r
+  by_move : move_line_fail s q ≡ Some (p, r) → ToldBy s q p r
+  by_skip : skip_line_fail s q ≡ Some (p, r) → ToldBy s q p r
+  by_comment : comment_fail s q ≡ Some (p, r) → ToldBy s q p r

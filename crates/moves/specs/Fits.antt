@@ -1,6 +1,6 @@
 -- What an entry can be that was read off a move line.                                                 (01, Reading rules: move line, time)
 -- Assumes nothing: these are definitions.
-use Rattle.std.specs.Prelude.{ℕ, ◌*◌, ◌+◌, ◌≤◌, ◌≡◌, true}
+use Rattle.std.specs.Prelude.{ℕ, ◌*◌, ◌+◌, ◌≤◌, ◌≡◌, true, Option, Some}
 use Rattle.spell.specs.Tables.{specials}
 use Rattle.spell.specs.Spell.{has_number}
 use Rattle.jkf.specs.Entries.{special_number}
@@ -11,8 +11,6 @@ use Rattle.jkf.specs.declared.Time.{Time}
 use Rattle.jkf.specs.declared.Time.TheVariants.{Untimed, Timed}
 use Rattle.jkf.specs.declared.Target.{Target}
 use Rattle.jkf.specs.declared.Target.TheVariants.{Same, Square}
-use Rattle.jkf.specs.declared.Origin.{Origin}
-use Rattle.jkf.specs.declared.Origin.TheVariants.{From}
 use Rattle.jkf.specs.declared.Move.{Move}
 use Rattle.jkf.specs.declared.Entry.{Entry}
 use Rattle.jkf.specs.declared.Entry.TheVariants.{Moved, End}
@@ -33,8 +31,8 @@ pub data TargetFits : Target → Type 0 where
   square_fits : {x y : ℕ} → 1 ≤ x → x ≤ 9 → 1 ≤ y → y ≤ 9 → TargetFits (Square x y)
 
 -- The tens and ones of a number up to 255; 打 is (0,0).
-pub data OriginFits : Origin → Type 0 where
-  from_fits : {x y : ℕ} → x ≤ 25 → y ≤ 9 → x * 10 + y ≤ 255 → OriginFits (From x y)
+pub data OriginFits : Option (ℕ × ℕ) → Type 0 where
+  from_fits : {x y : ℕ} → x ≤ 25 → y ≤ 9 → x * 10 + y ≤ 255 → OriginFits (Some (x, y))
 
 -- A move of either side, of one of the 14 kinds, with one of the three marks.
 pub record MoveFits (m : Move) : Type 0 where

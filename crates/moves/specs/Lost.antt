@@ -1,19 +1,20 @@
 -- Times that are lost to a figure too large.                                                        (02, request (iv))
 -- Assumes nothing: these are definitions.
-use Rattle.std.specs.Prelude.{ℕ, List, [], ◌∷◌, Bool, true, false}
+use Rattle.std.specs.Prelude.{ℕ, List, [], ◌∷◌, Bool, true, false, Option, Result}
 use Rattle.lists.specs.Pick.{pick}
 use Rattle.text.specs.Text.{on_place, on_number, by_number, tag_at, line_end_at, blanks_at, digits_at}
-use Rattle.text.specs.declared.Number.{Number}
+use Rattle.text.specs.declared.FigureError.{FigureError}
 use Rattle.jkf.specs.declared.Time.{Time}
 use Rattle.jkf.specs.declared.Time.TheVariants.{Untimed, Timed}
 use Rattle.moves.specs.Moves.{on_clocked, on_what, what_at, figure_at, spaced_at, time_at}
 use Rattle.moves.specs.declared.MoveLine.{MoveLine}
 use Rattle.moves.specs.declared.TakenLine.{TakenLine}
+use Rattle.text.specs.declared.Cursor.{Cursor}
 
 -- ---- words
 
 -- A figure over the largest allowed.
-abbrev pub is_large : Number → Bool
+abbrev pub is_large : Result (ℕ × Cursor) FigureError → Bool
 is_large n = by_number n (λ v c. false) false true
 
 -- There is a time.
@@ -22,7 +23,7 @@ is_timed (Timed now total) = true
 is_timed Untimed = false
 
 -- A move line, and whether its time is lost.
-abbrev pub taken_line : MoveLine → Bool → TakenLine
+abbrev pub taken_line : Option MoveLine → Bool → TakenLine
 taken_line l b = record { line = l; lost = b }
 
 -- ---- a clock

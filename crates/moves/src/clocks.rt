@@ -3,69 +3,62 @@ ghost use Rattle.std.specs.Prelude.{◌≡◌, true, ◌+◌, ◌≤◌, length}
 ghost use Rattle.moves.specs.Moves.{clock_at, spaced_at, clocks_at, time_at, figure_at};
 ghost use Rattle.moves.specs.inner.Usuals.{Two, two_digits, UsualNow, UsualTotal, Usual};
 
-use crate::{Clocked, Timing};
+use crate::Timing;
 use jkf::{Clock, Time};
-use text::{Cursor, Number, Place};
+use text::{Cursor, FigureError};
 
 // A number up to 255 and the colon after it; a number that is too large is told, whatever follows it.
-pub(crate) fn figure(c: Cursor, s: &[u8]) -> Number
+pub(crate) fn figure(c: Cursor, s: &[u8]) -> Result<(u64, Cursor), FigureError>
     ensures { result ≡ figure_at s.now c.at }
 {
-    match c.digits(s, 255) {
-        Number::NoDigit => Number::NoDigit,
-        Number::TooLarge => Number::TooLarge,
-        Number::Value(n, past) => {
-            let Place::Past(end) = past.tag(s, b":") else {
-                return Number::NoDigit;
-            };
-            Number::Value(n, end)
-        }
-    }
+    let (n, past) = c.digits(s, 255)?;
+    let Some(end) = past.tag(s, b":") else {
+        return Err(FigureError::Absent);
+    };
+    Ok((n, end))
 }
 
 // h:m:s, or else m:s, with the figures before the last read once.   (the Rust's move_time_format)
-fn clock(c: Cursor, s: &[u8]) -> Clocked
+fn clock(c: Cursor, s: &[u8]) -> Option<(Clock, Cursor)>
     ensures { result ≡ clock_at s.now c.at }
 {
-    let Number::Value(a, first) = figure(c, s) else {
-        return Clocked::NoClock;
+    let Ok((a, first)) = figure(c, s) else {
+        return None;
     };
-    let Number::Value(b, second) = first.digits(s, 255) else {
-        return Clocked::NoClock;
+    let Ok((b, second)) = first.digits(s, 255) else {
+        return None;
     };
-    let Place::Past(third) = second.tag(s, b":") else {
-        return Clocked::Shows(Clock::Ms(a as u8, b as u8), second);
+    let Some(third) = second.tag(s, b":") else {
+        return Some((Clock::Ms(a as u8, b as u8), second));
     };
-    let Number::Value(n, end) = third.digits(s, 255) else {
-        return Clocked::Shows(Clock::Ms(a as u8, b as u8), second);
+    let Ok((n, end)) = third.digits(s, 255) else {
+        return Some((Clock::Ms(a as u8, b as u8), second));
     };
-    Clocked::Shows(Clock::Hms(a as u8, b as u8, n as u8), end)
+    Some((Clock::Hms(a as u8, b as u8, n as u8), end))
 }
 
 // With blanks around it.
-pub(crate) fn spaced(c: Cursor, s: &[u8]) -> Clocked
+pub(crate) fn spaced(c: Cursor, s: &[u8]) -> Option<(Clock, Cursor)>
     ensures { result ≡ spaced_at s.now c.at }
 {
-    let Clocked::Shows(k, end) = clock(c.blanks(s), s) else {
-        return Clocked::NoClock;
-    };
-    Clocked::Shows(k, end.blanks(s))
+    let (k, end) = clock(c.blanks(s), s)?;
+    Some((k, end.blanks(s)))
 }
 
 // The two clocks and the bracket after them; where they cannot be read, none.   (the Rust's move_time)
 fn two_clocks(c: Cursor, s: &[u8], none: Timing) -> Timing
     ensures { result ≡ clocks_at s.now c.at none }
 {
-    let Clocked::Shows(now, first) = spaced(c, s) else {
+    let Some((now, first)) = spaced(c, s) else {
         return none;
     };
-    let Place::Past(slash) = first.tag(s, b"/") else {
+    let Some(slash) = first.tag(s, b"/") else {
         return none;
     };
-    let Clocked::Shows(total, second) = spaced(slash, s) else {
+    let Some((total, second)) = spaced(slash, s) else {
         return none;
     };
-    let Place::Past(end) = second.tag(s, b")") else {
+    let Some(end) = second.tag(s, b")") else {
         return none;
     };
     Timing {
@@ -82,7 +75,7 @@ pub(crate) fn time(c: Cursor, s: &[u8]) -> Timing
         time: Time::Untimed,
         next: c,
     };
-    let Place::Past(inside) = c.tag(s, b"(") else {
+    let Some(inside) = c.tag(s, b"(") else {
         return none;
     };
     two_clocks(inside, s, none)

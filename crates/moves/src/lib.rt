@@ -7,47 +7,24 @@ mod played;
 mod reasons;
 mod remarks;
 
-ghost use Rattle.std.specs.Prelude.{◌≡◌, false, ◌+◌};
+ghost use Rattle.std.specs.Prelude.{◌≡◌, false, ◌+◌, None};
 ghost use Rattle.text.specs.Text.{blanks_at};
 ghost use Rattle.moves.specs.Moves.{move_line_end_at, color_of, finished, move_line_at, played_line};
 ghost use Rattle.moves.specs.Lost.{taken_line, played_lost, line_lost};
-ghost use Rattle.moves.specs.declared.MoveLine.TheVariants.{NoLine};
 ghost use Rattle.moves.specs.inner.Usuals.{Usual, UsualMove};
 
 use clocks::time;
-use jkf::{Clock, Entry, Move, Origin, Target, Time};
+use jkf::{Entry, Move, Time};
 use played::what;
 pub use reasons::{comment_fails, further_of, move_line_fails, skip_line_fails};
 pub use remarks::{begins_comment, comment_line, skip_line};
-use text::{Cursor, Number, Place};
-
-// Where a move goes, and the place past it.
-#[derive(Clone, Copy)]
-pub enum Aim {
-    To(Target, Cursor),
-    NoAim,
-}
-
-// Where it comes from, and the place past it; or that nothing says so, or a figure too large.
-#[derive(Clone, Copy)]
-pub enum Source {
-    Out(Origin, Cursor),
-    NoSource,
-    TooLarge,
-}
+use text::Cursor;
 
 // 2 for 成, 1 for 不成, 0 for neither, and the place past it.
 #[derive(Clone, Copy)]
 pub struct Mark {
     pub promote: u8,
     pub next: Cursor,
-}
-
-// A clock's time, and the place past it.
-#[derive(Clone, Copy)]
-pub enum Clocked {
-    Shows(Clock, Cursor),
-    NoClock,
 }
 
 // A time, or that there is none, and the place past it.
@@ -57,35 +34,31 @@ pub struct Timing {
     pub next: Cursor,
 }
 
-// What is played, and the place past it.
-#[derive(Clone, Copy)]
-pub enum What {
-    Is(Entry, Cursor),
-    Nothing,
-}
-
 // A comment: where its text begins and ends, and the place past its line.
 #[derive(Clone, Copy)]
-pub enum Remark {
-    Stands(Cursor, Cursor, Cursor),
-    NoRemark,
+pub struct Remark {
+    pub from: Cursor,
+    pub to: Cursor,
+    pub next: Cursor,
 }
 
 // A move line: its number, its entry and the place past it.
 #[derive(Clone, Copy)]
-pub enum MoveLine {
-    Numbered(u64, Entry, Cursor),
-    NoLine,
+pub struct MoveLine {
+    pub number: u64,
+    pub entry: Entry,
+    pub next: Cursor,
 }
 
 // A move line, and whether it has no time because a figure was too large.
 #[derive(Clone, Copy)]
 pub struct TakenLine {
-    pub line: MoveLine,
+    pub line: Option<MoveLine>,
     pub lost: bool,
 }
 
 // Why a rule fails.   (02, request (ii))
+// An `Option<(usize, Reason)>` is the place where it fails and why; None where it reads, or where the line begins as none of its own.
 #[derive(Clone, Copy)]
 pub enum Reason {
     NoNumber,
@@ -98,31 +71,14 @@ pub enum Reason {
     EndOfText,
 }
 
-// Where a rule fails and why; silent where it reads, and of a line that begins as none of its own.
-#[derive(Clone, Copy)]
-pub enum Failed {
-    Silent,
-    At(usize, Reason),
-}
-
 // An entry with its colour and its time.
+#[tactic(auto, unfolding(crate::specs::Moves::finished))]
 fn finish(color: u8, time: Time, entry: Entry) -> Entry
     ensures { result ≡ finished color time entry }
 {
     match entry {
         Entry::Slot => Entry::Slot,
-        Entry::Moved(m) => {
-            let to = m.to;
-            let from = m.from;
-            Entry::Moved(Move {
-                color,
-                piece: m.piece,
-                promote: m.promote,
-                to,
-                from,
-                time,
-            })
-        }
+        Entry::Moved(m) => Entry::Moved(Move { color, time, ..m }),
         Entry::End(special, _) => Entry::End(special, time),
     }
 }
@@ -136,10 +92,10 @@ fn color(ply: u64) -> u8
 
 // No move line, which so has no time to lose.
 fn no_line() -> TakenLine
-    ensures { result ≡ taken_line NoLine false }
+    ensures { result ≡ taken_line None false }
 {
     TakenLine {
-        line: MoveLine::NoLine,
+        line: None,
         lost: false,
     }
 }
@@ -148,17 +104,21 @@ fn no_line() -> TakenLine
 fn any_line(ply: u64, from: Cursor, s: &[u8]) -> TakenLine
     ensures { result ≡ taken_line (played_line ply s.now from.at) (played_lost s.now from.at) }
 {
-    let What::Is(entry, played) = what(from, s) else {
+    let Some((entry, played)) = what(from, s) else {
         return no_line();
     };
     let start = played.blanks(s);
     let timing = time(start, s);
-    let Place::Past(end) = timing.next.line_end(s) else {
+    let Some(end) = timing.next.line_end(s) else {
         return no_line();
     };
     let taken = timing.time;
     TakenLine {
-        line: MoveLine::Numbered(ply, finish(color(ply), taken, entry), end),
+        line: Some(MoveLine {
+            number: ply,
+            entry: finish(color(ply), taken, entry),
+            next: end,
+        }),
         lost: lost::is_lost(taken, start, s),
     }
 }
@@ -168,12 +128,16 @@ fn usual_line(ply: u64, at: usize, width: usize, t: usize, s: &[u8]) -> TakenLin
     requires { UsualMove s.now at width × Usual s.now t × (t ≡ blanks_at s.now (at + width)) }
     ensures { result ≡ taken_line (played_line ply s.now at) (played_lost s.now at) }
 {
-    let Place::Past(end) = Cursor { at: t + 16 }.line_end(s) else {
+    let Some(end) = Cursor { at: t + 16 }.line_end(s) else {
         return no_line();
     };
     let taken = clocks::usual(s, t).time;
     TakenLine {
-        line: MoveLine::Numbered(ply, played::usual(s, at, width, color(ply), taken), end),
+        line: Some(MoveLine {
+            number: ply,
+            entry: played::usual(s, at, width, color(ply), taken),
+            next: end,
+        }),
         lost: false,
     }
 }
@@ -182,7 +146,7 @@ fn usual_line(ply: u64, at: usize, width: usize, t: usize, s: &[u8]) -> TakenLin
 pub fn taken_line(c: Cursor, s: &[u8]) -> TakenLine
     ensures { result ≡ taken_line (move_line_at s.now c.at) (line_lost s.now c.at) }
 {
-    let Number::Value(ply, numbered) = c.blanks(s).digits(s, u64::MAX) else {
+    let Ok((ply, numbered)) = c.blanks(s).digits(s, u64::MAX) else {
         return no_line();
     };
     let from = numbered.blanks(s);
@@ -198,27 +162,23 @@ pub fn taken_line(c: Cursor, s: &[u8]) -> TakenLine
 }
 
 // A move line.   (the Rust's move_line)
-pub fn move_line(c: Cursor, s: &[u8]) -> MoveLine
+pub fn move_line(c: Cursor, s: &[u8]) -> Option<MoveLine>
     ensures { result ≡ move_line_at s.now c.at }
 {
     taken_line(c, s).line
 }
 
 // Past a move line. Its time, if it has one, is text, so that the tail may begin before it.
-pub fn move_line_end(c: Cursor, s: &[u8]) -> Place
+pub fn move_line_end(c: Cursor, s: &[u8]) -> Option<Cursor>
     ensures { result ≡ move_line_end_at s.now c.at }
 {
-    let Number::Value(_, numbered) = c.blanks(s).digits(s, u64::MAX) else {
-        return Place::Absent;
-    };
+    let (_, numbered) = c.blanks(s).digits(s, u64::MAX).ok()?;
     let from = numbered.blanks(s);
     let at = from.at;
     let width = played::usual_width(s, at);
     if 0 < width {
         return Cursor { at: at + width }.line_end(s);
     }
-    let What::Is(_, played) = what(from, s) else {
-        return Place::Absent;
-    };
+    let (_, played) = what(from, s)?;
     played.line_end(s)
 }

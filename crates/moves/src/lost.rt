@@ -3,19 +3,15 @@ ghost use Rattle.std.specs.Prelude.{◌≡◌};
 ghost use Rattle.moves.specs.Moves.{time_at};
 ghost use Rattle.moves.specs.Lost.{is_large, forms_over, over_at, lost_at};
 
-use crate::Clocked;
 use crate::clocks::{figure, spaced};
 use jkf::Time;
-use text::{Cursor, Number, Place};
+use text::{Cursor, FigureError};
 
 // Whether a number is too large.
-fn is_large(n: Number) -> bool
+fn is_large(n: Result<(u64, Cursor), FigureError>) -> bool
     ensures { result ≡ is_large n }
 {
-    match n {
-        Number::TooLarge => true,
-        _ => false,
-    }
+    matches!(n, Err(FigureError::TooLarge))
 }
 
 // Whether one of a clock's forms comes to a figure too large: h:m:s comes to every figure that m:s comes to.
@@ -23,11 +19,11 @@ fn clock_over(c: Cursor, s: &[u8]) -> bool
     ensures { result ≡ forms_over s.now c.at }
 {
     let first = figure(c, s);
-    let Number::Value(_, past) = first else {
+    let Ok((_, past)) = first else {
         return is_large(first);
     };
     let second = figure(past, s);
-    let Number::Value(_, end) = second else {
+    let Ok((_, end)) = second else {
         return is_large(second);
     };
     is_large(end.digits(s, 255))
@@ -37,16 +33,16 @@ fn clock_over(c: Cursor, s: &[u8]) -> bool
 fn over(c: Cursor, s: &[u8]) -> bool
     ensures { result ≡ over_at s.now c.at }
 {
-    let Place::Past(inside) = c.tag(s, b"(") else {
+    let Some(inside) = c.tag(s, b"(") else {
         return false;
     };
     if clock_over(inside.blanks(s), s) {
         return true;
     }
-    let Clocked::Shows(_, now) = spaced(inside, s) else {
+    let Some((_, now)) = spaced(inside, s) else {
         return false;
     };
-    let Place::Past(slash) = now.tag(s, b"/") else {
+    let Some(slash) = now.tag(s, b"/") else {
         return false;
     };
     clock_over(slash.blanks(s), s)

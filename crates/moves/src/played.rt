@@ -5,43 +5,36 @@ ghost use Rattle.moves.specs.Moves.{square_at, move_to_at, promote_at, origin_at
 ghost use Rattle.spell.specs.Words.{promotes};
 ghost use Rattle.moves.specs.inner.Usuals.{Bracketed, UsualTarget, UsualKind, UsualMove, aim_of, kind_of, mark_of, entry_of};
 
-use crate::{Aim, Mark, Source, What};
-use jkf::{Entry, Move, Origin, Target, Time};
-use spell::Spelled;
-use text::{Cursor, Number, Place};
+use crate::Mark;
+use jkf::{Entry, Move, Target, Time};
+use text::{Cursor, FigureError};
 
 // A file and a rank.
-fn square(c: Cursor, s: &[u8]) -> Aim
+fn square(c: Cursor, s: &[u8]) -> Option<(Target, Cursor)>
     ensures { result ≡ square_at s.now c.at }
 {
-    let Spelled::As(x, past) = spell::file(c, s) else {
-        return Aim::NoAim;
-    };
-    let Spelled::As(y, end) = spell::numeral(past, s) else {
-        return Aim::NoAim;
-    };
-    Aim::To(Target::Square(x, y), end)
+    let (x, past) = spell::file(c, s)?;
+    let (y, end) = spell::numeral(past, s)?;
+    Some((Target::Square(x, y), end))
 }
 
 // 同 with one U+3000 or none, or a file and a rank.   (the Rust's move_to)
-pub(crate) fn move_to(c: Cursor, s: &[u8]) -> Aim
+#[tactic(auto, unfolding(crate::specs::Moves::move_to_at))]
+pub(crate) fn move_to(c: Cursor, s: &[u8]) -> Option<(Target, Cursor)>
     ensures { result ≡ move_to_at s.now c.at }
 {
-    let Place::Past(past) = c.tag(s, b"\xe5\x90\x8c") else {
+    let Some(past) = c.tag(s, b"\xe5\x90\x8c") else {
         return square(c, s);
     };
-    let Place::Past(end) = past.tag(s, b"\xe3\x80\x80") else {
-        return Aim::To(Target::Same, past);
-    };
-    Aim::To(Target::Same, end)
+    Some((Target::Same, past.tag(s, b"\xe3\x80\x80").unwrap_or(past)))
 }
 
 // 成 or 不成 or neither.
 pub(crate) fn promote(c: Cursor, s: &[u8]) -> Mark
     ensures { result ≡ promote_at s.now c.at }
 {
-    let Place::Past(end) = c.tag(s, b"\xe6\x88\x90") else {
-        let Place::Past(past) = c.tag(s, b"\xe4\xb8\x8d\xe6\x88\x90") else {
+    let Some(end) = c.tag(s, b"\xe6\x88\x90") else {
+        let Some(past) = c.tag(s, b"\xe4\xb8\x8d\xe6\x88\x90") else {
             return Mark {
                 promote: 0,
                 next: c,
@@ -59,46 +52,40 @@ pub(crate) fn promote(c: Cursor, s: &[u8]) -> Mark
 }
 
 // A number in brackets, split into tens and ones; one that is too large is told, whatever follows it.
-fn origin(c: Cursor, s: &[u8]) -> Source
+#[tactic(auto, unfolding(crate::specs::Moves::origin_at))]
+fn origin(c: Cursor, s: &[u8]) -> Result<(Option<(u8, u8)>, Cursor), FigureError>
     ensures { result ≡ origin_at s.now c.at }
 {
-    let Place::Past(inside) = c.tag(s, b"(") else {
-        return Source::NoSource;
+    let Some(inside) = c.tag(s, b"(") else {
+        return Err(FigureError::Absent);
     };
-    match inside.digits(s, 255) {
-        Number::NoDigit => Source::NoSource,
-        Number::TooLarge => Source::TooLarge,
-        Number::Value(n, past) => {
-            let Place::Past(end) = past.tag(s, b")") else {
-                return Source::NoSource;
-            };
-            Source::Out(Origin::From((n / 10) as u8, (n % 10) as u8), end)
-        }
-    }
+    let (n, past) = inside.digits(s, 255)?;
+    let Some(end) = past.tag(s, b")") else {
+        return Err(FigureError::Absent);
+    };
+    Ok((Some(((n / 10) as u8, (n % 10) as u8)), end))
 }
 
 // 打, which is from (0,0), or an origin.   (the Rust's move_from)
-fn move_from(c: Cursor, s: &[u8]) -> Source
+fn move_from(c: Cursor, s: &[u8]) -> Result<(Option<(u8, u8)>, Cursor), FigureError>
     ensures { result ≡ move_from_at s.now c.at }
 {
-    let Place::Past(end) = c.tag(s, b"\xe6\x89\x93") else {
+    let Some(end) = c.tag(s, b"\xe6\x89\x93") else {
         return origin(c, s);
     };
-    Source::Out(Origin::From(0, 0), end)
+    Ok((Some((0, 0)), end))
 }
 
 // The kind, the mark and the origin, after the target; the line's number will say the colour.
-fn piece(to: Target, c: Cursor, s: &[u8]) -> What
+fn piece(to: Target, c: Cursor, s: &[u8]) -> Option<(Entry, Cursor)>
     ensures { result ≡ kind_to_origin_at to s.now c.at }
 {
-    let Spelled::As(kind, past) = spell::kind(c, s) else {
-        return What::Nothing;
-    };
+    let (kind, past) = spell::kind(c, s)?;
     let mark = promote(past, s);
-    let Source::Out(from, end) = move_from(mark.next, s) else {
-        return What::Nothing;
+    let Ok((from, end)) = move_from(mark.next, s) else {
+        return None;
     };
-    What::Is(
+    Some((
         Entry::Moved(Move {
             color: 0,
             piece: kind,
@@ -108,24 +95,22 @@ fn piece(to: Target, c: Cursor, s: &[u8]) -> What
             time: Time::Untimed,
         }),
         end,
-    )
+    ))
 }
 
 // A special.   (the Rust's move_special)
-fn ending(c: Cursor, s: &[u8]) -> What
+fn ending(c: Cursor, s: &[u8]) -> Option<(Entry, Cursor)>
     ensures { result ≡ ending_at s.now c.at }
 {
-    let Spelled::As(n, end) = spell::special(c, s) else {
-        return What::Nothing;
-    };
-    What::Is(Entry::End(jkf::special_of(n), Time::Untimed), end)
+    let (n, end) = spell::special(c, s)?;
+    Some((Entry::End(jkf::Special::from(n), Time::Untimed), end))
 }
 
 // A special or a move: what has a target is a move, since no special begins as a target does.   (of the Rust's move_line)
-pub(crate) fn what(c: Cursor, s: &[u8]) -> What
+pub(crate) fn what(c: Cursor, s: &[u8]) -> Option<(Entry, Cursor)>
     ensures { result ≡ what_at s.now c.at }
 {
-    let Aim::To(to, past) = move_to(c, s) else {
+    let Some((to, past)) = move_to(c, s) else {
         return ending(c, s);
     };
     piece(to, past, s)
@@ -306,7 +291,7 @@ pub(crate) fn usual(s: &[u8], at: usize, width: usize, color: u8, time: Time) ->
         piece: usual_kind(s, at),
         promote: usual_mark(s, at, width),
         to: usual_aim(s, at),
-        from: Origin::From(s[at + width - 3] - b'0', s[at + width - 2] - b'0'),
+        from: Some((s[at + width - 3] - b'0', s[at + width - 2] - b'0')),
         time,
     })
 }

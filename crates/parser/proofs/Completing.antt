@@ -1,5 +1,6 @@
 -- The parts that were filled in are the block of what the text says; or the first variation that does not hang is told.
 -- Assumes nothing.
+use Rattle.std.specs.Prelude.{Option, Some, None, Result, Ok, Err}
 use Prim.Native.Nat.{ℕ, ◌≤◌}
 use native.Mathlib.Omega.{arith}
 use mathlib.Core.Path.{◌≡◌, refl, sym, ap, ap₂, ◌∙◌, subst}
@@ -24,56 +25,49 @@ use Rattle.filling.specs.inner.Parts.{put_headers, Opens}
 use Rattle.filling.specs.inner.Parts.{line_texts, line_ends, LinesFit}
 use Rattle.filling.specs.declared.Sizes.{Sizes}
 use Rattle.filling.specs.declared.Walk.{Walk}
-use Rattle.filling.specs.declared.Opening.TheVariants.{Begun, Refused}
 use Rattle.filling.proofs.Putting.{is_begun, is_refused, fits, opens, refuses, unrefused}
 use Rattle.filling.proofs.Wholes.{front-size, front_rest, opened-lines, opened_block}
 use Rattle.plays.specs.Plays.{plays_at}
 use Rattle.plays.specs.Losses.{plays_lost}
 use Rattle.kakinoki.specs.Starts.{on_fault, start_read}
-use Rattle.kakinoki.specs.declared.Fault.{Fault}
-use Rattle.kakinoki.specs.declared.Fault.TheVariants.{NoFault, At}
-use Rattle.parser.specs.declared.Early.{Early}
-use Rattle.parser.specs.declared.Early.TheVariants.{Refused as RefusedEarly, Passed}
 use Rattle.parser.specs.inner.Headers.{headers_at}
 use Rattle.parser.specs.inner.Lines.{hanging}
 use Rattle.parser.specs.Parse.{Parsed, parse, needed, record_of}
 use Rattle.parser.specs.Read.{on_early, early_of, faultless, filled_with, read_stored, fill_of, lost_of, measured}
 use Rattle.parser.specs.inner.Stores.{Prepared, parsed_sizes, Opened, Surveyed, hung_lost, stored_lost}
 use Rattle.parser.specs.declared.Survey.{Survey}
-use Rattle.parser.specs.declared.Hanging.{Hanging}
-use Rattle.parser.specs.declared.Hanging.TheVariants.{AllHung, Loose}
 use Rattle.parser.proofs.Opening.{start-length}
 use Rattle.parser.proofs.Needing.{needed_is}
 use Rattle.parser.proofs.Storing.{headers_are, needed-length}
 
 -- what a filling of lines answered
-hanging-all : (h : Hung) (at lost : ℕ) (c : Cursor) (n : ℕ) → AllHung c n ≡ hanging h at lost → (h ≡ all) × (c.at ≡ at) × (n ≡ lost)
+hanging-all : (h : Hung) (at lost : ℕ) (c : Cursor) (n : ℕ) → Ok (c, n) ≡ hanging h at lost → (h ≡ all) × (c.at ≡ at) × (n ≡ lost)
 hanging-all all at lost c n e = (refl, ap place e, ap number e)
   where
-    place : Hanging → ℕ
-    place (AllHung d k) = d.at
-    place (Loose k ply) = 0
+    place : Result (Cursor × ℕ) (ℕ × ℕ) → ℕ
+    place (Ok (d, k)) = d.at
+    place (Err (k, ply)) = 0
 
-    number : Hanging → ℕ
-    number (AllHung d k) = k
-    number (Loose k ply) = 0
+    number : Result (Cursor × ℕ) (ℕ × ℕ) → ℕ
+    number (Ok (d, k)) = k
+    number (Err (k, ply)) = 0
 hanging-all (first k ply) at lost c n e = let z : ◌≡◌ {A = ℕ} 0 1 = ap one e in absurd (omega arith)
   where
-    one : Hanging → ℕ
-    one (AllHung d k) = 0
-    one (Loose k ply) = 1
+    one : Result (Cursor × ℕ) (ℕ × ℕ) → ℕ
+    one (Ok (d, k)) = 0
+    one (Err (k, ply)) = 1
 
-hanging-loose : (h : Hung) (at lost k ply : ℕ) → Loose k ply ≡ hanging h at lost → h ≡ first k ply
+hanging-loose : (h : Hung) (at lost k ply : ℕ) → Err (k, ply) ≡ hanging h at lost → h ≡ first k ply
 hanging-loose all at lost k ply e = let z : ◌≡◌ {A = ℕ} 0 1 = ap one e in absurd (omega arith)
   where
-    one : Hanging → ℕ
-    one (AllHung d k) = 1
-    one (Loose k ply) = 0
+    one : Result (Cursor × ℕ) (ℕ × ℕ) → ℕ
+    one (Ok (d, k)) = 1
+    one (Err (k, ply)) = 0
 hanging-loose (first j q) at lost k ply e = sym (ap back e)
   where
-    back : Hanging → Hung
-    back (AllHung d k) = all
-    back (Loose k ply) = first k ply
+    back : Result (Cursor × ℕ) (ℕ × ℕ) → Hung
+    back (Ok (d, k)) = all
+    back (Err (k, ply)) = first k ply
 
 -- the answer and the buffer of a record that hangs, and of one that does not
 hung_filled : (r : Parsed) (o : List ℕ) → all_hung r.plays ≡ all
@@ -147,8 +141,8 @@ module _ (s : List ℕ) {p : Position} (c : Cursor) (hs : List ℕ) (f : Prepare
           subst (λ (ps : List Play). LinesFit (attach ps) v o₁) (sym plays_there)
           (opened-lines 1 (parse s).position hd ls position-long m.1 walk_there buffer_there)
 
-      pub all_stored : (h : Hanging) (end : Cursor) (lost : ℕ) {o₂ : List ℕ} → h ≡ hanging (all_hung (plays_at s c.at).state) (plays_at s c.at).at (plays_lost s c.at)
-          → (all_hung (plays_at s c.at).state ≡ all → o₂ ≡ puts o₁ (line_ends v) (line_texts 0 0 v.bytes (attach (plays_at s c.at).state))) → h ≡ AllHung end lost
+      pub all_stored : (h : Result (Cursor × ℕ) (ℕ × ℕ)) (end : Cursor) (lost : ℕ) {o₂ : List ℕ} → h ≡ hanging (all_hung (plays_at s c.at).state) (plays_at s c.at).at (plays_lost s c.at)
+          → (all_hung (plays_at s c.at).state ≡ all → o₂ ≡ puts o₁ (line_ends v) (line_texts 0 0 v.bytes (attach (plays_at s c.at).state))) → h ≡ Ok (end, lost)
           → (Done end.at n ≡ (filled_with (parse s) o).answer) × ((o₂ ≡ (filled_with (parse s) o).buffer) × (lost ≡ hung_lost s))
       all_stored h end lost {o₂} e g q =
           let (x, y, t) = hanging-all (all_hung (plays_at s c.at).state) (plays_at s c.at).at (plays_lost s c.at) end lost (sym q ∙ e) in
@@ -162,8 +156,8 @@ module _ (s : List ℕ) {p : Position} (c : Cursor) (hs : List ℕ) (f : Prepare
             (z ∙ ap₂ ◌++◌ block_is (sym r ∙ ap (λ (j : ℕ). drop j o) block_long) ∙ sym k.1, t ∙ ap (plays_lost s) f.place ∙ sym (hung-lost s hung)),
           )
 
-      pub none_stored : (h : Hanging) (k ply : ℕ) {o₃ : List ℕ} → h ≡ hanging (all_hung (plays_at s c.at).state) (plays_at s c.at).at (plays_lost s c.at)
-          → h ≡ Loose k ply → o₃ ≡ replicate (length o) 0 → (NoEntry k ply ≡ (filled_with (parse s) o).answer) × ((o₃ ≡ (filled_with (parse s) o).buffer) × (0 ≡ hung_lost s))
+      pub none_stored : (h : Result (Cursor × ℕ) (ℕ × ℕ)) (k ply : ℕ) {o₃ : List ℕ} → h ≡ hanging (all_hung (plays_at s c.at).state) (plays_at s c.at).at (plays_lost s c.at)
+          → h ≡ Err (k, ply) → o₃ ≡ replicate (length o) 0 → (NoEntry k ply ≡ (filled_with (parse s) o).answer) × ((o₃ ≡ (filled_with (parse s) o).buffer) × (0 ≡ hung_lost s))
       none_stored h k ply {o₃} e q b =
           let x = ap all_hung (sym plays_there) ∙ hanging-loose (all_hung (plays_at s c.at).state) (plays_at s c.at).at (plays_lost s c.at) k ply (sym q ∙ e) in
           let l = lost_filled (parse s) o k ply x in
@@ -180,7 +174,7 @@ module _ (s : List ℕ) {p : Position} (c : Cursor) (hs : List ℕ) (f : Prepare
 
   module _ (o : List ℕ) {z : Sizes} (sized : z ≡ parsed_sizes (parse s)) {o₁ : List ℕ} (left : o₁ ≡ opened 1 z p o) where
     -- a refusal is the one that the block's length calls for
-    pub refused_so : {a : Answer} → Refused a ≡ opening z (length o)
+    pub refused_so : {a : Answer} → Err a ≡ opening z (length o)
         → (a ≡ (read_stored (parse s) o).answer) × ((o₁ ≡ (read_stored (parse s) o).buffer) × (0 ≡ stored_lost s (length o)))
     unfolding read_stored stored_lost
     refused_so {a} e =
@@ -188,7 +182,7 @@ module _ (s : List ℕ) {p : Position} (c : Cursor) (hs : List ℕ) (f : Prepare
         subst (λ (n : ℕ). (a ≡ (unless_refused n o (filled_with (parse s) o)).answer) × ((o₁ ≡ (unless_refused n o (filled_with (parse s) o)).buffer) × (0 ≡ if_fits n (length o) (λ b. 0) (hung_lost s))))
         (ap length_of sized ∙ needed-length f) (x.0, (x.1, is_refused z (length o) e (λ b. 0) (hung_lost s)))
 
-    module _ {w : Walk} {n : ℕ} (e : Begun w n ≡ opening z (length o)) where
+    module _ {w : Walk} {n : ℕ} (e : Ok (w, n) ≡ opening z (length o)) where
       opens_so : Opens 1 (parsed_sizes (parse s)) (parse s).position w n o o₁
       opens_so =
           opens 1 (parsed_sizes (parse s)) (parse s).position o (e ∙ ap (λ (y : Sizes). opening y (length o)) sized)
@@ -237,24 +231,24 @@ module _ (s o : List ℕ) where
       go false true = refl
       go false false = hung_told
 
-  abbrev early : Bool → Bool → Fault → Early
-  early a b f = pick a (RefusedEarly (TextTooLong (length s))) (pick b (RefusedEarly (NotUtf8 (well_formed_bytes s))) (on_fault f (λ at. RefusedEarly (HandLine at)) Passed))
+  abbrev early : Bool → Bool → Option ℕ → Option Answer
+  early a b f = pick a (Some (TextTooLong (length s))) (pick b (Some (NotUtf8 (well_formed_bytes s))) (on_fault f (λ at. Some (HandLine at)) None))
 
   lost_told : on_early (early_of s) (λ a. 0) (stored_lost s (length o)) ≡ lost_of s o
   unfolding lost_of fill_of early_of faultless figures
   lost_told = go (ltb 65535 (length s)) (ltb (well_formed_bytes s) (length s)) (start_read s).fault
     where
-      go : (a b : Bool) (f : Fault) → on_early (early a b f) (λ a. 0) (stored_lost s (length o)) ≡ beside (on_early {A = Outcome} (early a b f) (λ a. refuse a o) (read_stored (parse s) o)).answer
+      go : (a b : Bool) (f : Option ℕ) → on_early (early a b f) (λ a. 0) (stored_lost s (length o)) ≡ beside (on_early {A = Outcome} (early a b f) (λ a. refuse a o) (read_stored (parse s) o)).answer
       go true b f = refl
       go false true f = refl
-      go false false (At at) = refl
-      go false false NoFault = stored_told
+      go false false (Some at) = refl
+      go false false None = stored_told
 
-  pub early_lost : {a : Answer} → early_of s ≡ RefusedEarly a → 0 ≡ lost_of s o
-  early_lost e = sym (ap (λ (x : Early). on_early x (λ a. 0) (stored_lost s (length o))) e) ∙ lost_told
+  pub early_lost : {a : Answer} → early_of s ≡ Some a → 0 ≡ lost_of s o
+  early_lost e = sym (ap (λ (x : Option Answer). on_early x (λ a. 0) (stored_lost s (length o))) e) ∙ lost_told
 
-  pub passed_lost : early_of s ≡ Passed → stored_lost s (length o) ≡ lost_of s o
-  passed_lost e = sym (ap (λ (x : Early). on_early x (λ a. 0) (stored_lost s (length o))) e) ∙ lost_told
+  pub passed_lost : early_of s ≡ None → stored_lost s (length o) ≡ lost_of s o
+  passed_lost e = sym (ap (λ (x : Option Answer). on_early x (λ a. 0) (stored_lost s (length o))) e) ∙ lost_told
 
 -- ---- measured
 
@@ -269,10 +263,10 @@ module _ (z : Sizes) (t : ℕ) where
   unfolding measured
   measured-fits = same_test (ltb 65535 (length_of z)) (BlockTooLong (length_of z)) (BufferShort (length_of z)) (Done (length_of z) t)
 
-  pub measured-refused : {a : Answer} → Refused a ≡ opening z 65535 → a ≡ measured (length_of z) t
+  pub measured-refused : {a : Answer} → Err a ≡ opening z 65535 → a ≡ measured (length_of z) t
   measured-refused e = is_refused z 65535 e (λ a. a) (Done (length_of z) t) ∙ measured-fits
 
-  pub measured-begun : {w : Walk} {n : ℕ} → Begun w n ≡ opening z 65535 → Done n t ≡ measured (length_of z) t
+  pub measured-begun : {w : Walk} {n : ℕ} → Ok (w, n) ≡ opening z 65535 → Done n t ≡ measured (length_of z) t
   measured-begun e =
       let q = is_begun z 65535 e in
       ap (λ (k : ℕ). Done k t) q.total ∙ (sym (fits (λ a. a) (Done (length_of z) t) q.short q.room) ∙ measured-fits)

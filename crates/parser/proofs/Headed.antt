@@ -1,5 +1,6 @@
 -- Header entries counted and filled one by one: what is done and what is still to do come to all that there is.
 -- Assumes nothing.
+use Rattle.std.specs.Prelude.{Option, Some, None}
 use Prim.Native.Nat.{ℕ, ◌+◌, ◌-◌, ◌*◌, ◌≤◌, ◌<◌}
 use native.Mathlib.Omega.{arith}
 use mathlib.Core.Path.{◌≡◌, refl, sym, ap, ap₂, ◌∙◌}
@@ -20,7 +21,6 @@ use Rattle.filling.proofs.Texts.{keyed, one-header}
 use Rattle.filling.proofs.Growing.{header-size, Doing, doing_start, doing_step, doing_as, doing_done}
 use Rattle.kakinoki.specs.Informations.{on_key_value, text_between, key_value_at, header_at}
 use Rattle.kakinoki.specs.declared.KeyValue.{KeyValue}
-use Rattle.kakinoki.specs.declared.KeyValue.TheVariants.{Pair, NoPair}
 use Rattle.kakinoki.proofs.Lines.{pair_known}
 use Rattle.parser.specs.inner.Headers.{is_header_line, HeaderLines, headers_at}
 
@@ -34,13 +34,13 @@ pub record Paired (s : List ℕ) (at : ℕ) (from to : Cursor) : Type 0 where
   pub key : (header_at s at).key ≡ take (from.at - 3 - at) (drop at s)
   pub value : (header_at s at).value ≡ text_between s from to
 
-pub paired : (s : List ℕ) (at : ℕ) (from to next : Cursor) → key_value_at s at ≡ Pair from to next → Paired s at from to
+pub paired : (s : List ℕ) (at : ℕ) (from to next : Cursor) → key_value_at s at ≡ Some (record { from = from; to = to; next = next }) → Paired s at from to
 unfolding header_at
 paired s at from to next e =
     let h = pair_known s at from to next e in
     let both = sym h.is ∙ e in
-    let f : h.from ≡ from = ap (λ (r : KeyValue). on_key_value r (λ a b c. a) from) both in
-    let t : h.to ≡ to = ap (λ (r : KeyValue). on_key_value r (λ a b c. b) to) both in
+    let f : h.from ≡ from = ap (λ (r : Option KeyValue). on_key_value r (λ a b c. a) from) both in
+    let t : h.to ≡ to = ap (λ (r : Option KeyValue). on_key_value r (λ a b c. b) to) both in
     let colon : from.at ≡ at + length (key_at s at) + 3 = rw f at h.colon in
     let n : length (key_at s at) ≡ from.at - 3 - at = omega (arith, colon) in
     record {
@@ -66,16 +66,16 @@ module _ (s : List ℕ) (at : ℕ) (from to : Cursor) (h : Paired s at from to) 
   entry-long = omega (arith, one-header (header_at s at), key-long, value-long, h.colon, h.onward)
 
 -- where no pair stands there is no header line
-pub no-line : (s : List ℕ) (at : ℕ) → is_header_line s at ≡ true → key_value_at s at ≡ NoPair → ⊥
-no-line s at l e = false≢true (sym (ap (λ (r : KeyValue). on_key_value r (λ from to next. true) false) e) ∙ l)
+pub no-line : (s : List ℕ) (at : ℕ) → is_header_line s at ≡ true → key_value_at s at ≡ None → ⊥
+no-line s at l e = false≢true (sym (ap (λ (r : Option KeyValue). on_key_value r (λ from to next. true) false) e) ∙ l)
 
 -- a header entry has fewer bytes than the text
 pub entry-short : (s : List ℕ) (at : ℕ) → is_header_line s at ≡ true → length (header_text (header_at s at ∷ [])) ≤ length s
 entry-short s at l = go (key_value_at s at) refl
   where
-    go : (r : KeyValue) → key_value_at s at ≡ r → length (header_text (header_at s at ∷ [])) ≤ length s
-    go (Pair from to next) e = let h = paired s at from to next e in omega (arith, entry-long s at from to h, h.within)
-    go NoPair e = absurd (no-line s at l e)
+    go : (r : Option KeyValue) → key_value_at s at ≡ r → length (header_text (header_at s at ∷ [])) ≤ length s
+    go (Some r) e = let h = paired s at r.from r.to r.next e in omega (arith, entry-long s at r.from r.to h, h.within)
+    go None e = absurd (no-line s at l e)
 
 -- ---- header entries at several places
 

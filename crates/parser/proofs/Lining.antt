@@ -1,5 +1,6 @@
 -- Filling in the lines one after another: those before line k are in the buffer, all of them hang, and the rest is still to be read.
 -- Assumes nothing.
+use Rattle.std.specs.Prelude.{Option, Some, None}
 use Prim.Native.Nat.{ℕ, ◌+◌, ◌≤◌, ◌<◌}
 use native.Mathlib.Omega.{arith}
 use mathlib.Core.Path.{◌≡◌, refl, sym, ap, ap₂, ◌∙◌, subst}
@@ -11,8 +12,6 @@ use Rattle.lent.specs.inner.Regions.{puts, Filled}
 use Rattle.lent.proofs.Regions.{filled-length, put-none}
 use Rattle.text.specs.declared.Cursor.{Cursor}
 use Rattle.jkf.specs.Attaching.{hangs, on_hang, all, first, Play, play_of, starts, counts, parent_in, attach, all_hung}
-use Rattle.jkf.specs.declared.Hang.{Hang}
-use Rattle.jkf.specs.declared.Hang.TheVariants.{On, Nowhere}
 use Rattle.jkf.specs.Model.{Noted, Line}
 use Rattle.block.specs.Formed.{line_of}
 use Rattle.block.specs.Encode.{table, concat}
@@ -37,9 +36,9 @@ pub record Lining (s : List ℕ) (at k : ℕ) (w v : Walk) (to : ℕ) (o₀ o : 
   pub done : Lined (take k (attach (plays_at s at).state)) w v o₀ o
 
 -- the parent of a line that hangs
-parent-of : (ps : List Play) (k p e : ℕ) → hangs (starts ps) (counts ps) (starts ps k) k ≡ On p e → parent_in ps k ≡ p
+parent-of : (ps : List Play) (k p e : ℕ) → hangs (starts ps) (counts ps) (starts ps k) k ≡ Some (p, e) → parent_in ps k ≡ p
 unfolding parent_in
-parent-of ps k p e h = ap (λ (g : Hang). on_hang g (λ p e. p) 0) h
+parent-of ps k p e h = ap (λ (g : Option (ℕ × ℕ)). on_hang g (λ p e. p) 0) h
 
 -- where there is no entry nothing is filled in
 unfilled_by : (es : List Noted) (v x : Walk) {o o₁ : List ℕ} → es ≡ [] → Filled (entry_texts v.noted v.bytes es) o o₁ (entry_ends v) (entry_ends x) → o₁ ≡ o
@@ -161,7 +160,7 @@ module _ (s : List ℕ) (at : ℕ) (w : Walk) (o₀ : List ℕ) (f : LinesFit (a
             lost_more s to some_here
             ∙ ap₂ (λ (i j : ℕ). lost_from s i + variations_lost s j) (sym p) (sym (n ∙ ap (skipped_at s) past))
 
-        hang_is : (h : Hang) (start : ℕ) → start ≡ ply_at s c.at → hanging_of w.lines start x.walk o₁ ≡ h → hangs (starts ps) (counts ps) (starts ps k) k ≡ h
+        hang_is : (h : Option (ℕ × ℕ)) (start : ℕ) → start ≡ ply_at s c.at → hanging_of w.lines start x.walk o₁ ≡ h → hangs (starts ps) (counts ps) (starts ps k) k ≡ h
         hang_is h start e y =
             let z : start ≡ ply_at s place = e ∙ ap (ply_at s) p in
             ap (λ (n : ℕ). hangs (starts ps) (counts ps) n k) (start_here s at k to up some_here ∙ sym z)
@@ -179,18 +178,18 @@ module _ (s : List ℕ) (at : ℕ) (w : Walk) (o₀ : List ℕ) (f : LinesFit (a
         pub next_row : k < length ps
         next_row = more_left s at k to up some_here
 
-        module _ (h : Hang) (start : ℕ) (z : start ≡ ply_at s c.at) (y : hanging_of w.lines start x.walk o₁ ≡ h) where
+        module _ (h : Option (ℕ × ℕ)) (start : ℕ) (z : start ≡ ply_at s c.at) (y : hanging_of w.lines start x.walk o₁ ≡ h) where
           here : line_of ls k ≡ line (ply_at s place) (parent_in ps k) es
           here = line_here some_here
 
           -- it hangs on nothing
-          pub next_lost : h ≡ Nowhere → all_hung ps ≡ first k start
+          pub next_lost : h ≡ None → all_hung ps ≡ first k start
           next_lost e = next-loose s at k to up some_here (hang_is h start z y ∙ e) ∙ ap (first k) (ap (ply_at s) (sym p) ∙ sym z)
 
           -- it hangs, and its row is filled in
-          module _ (parent e : ℕ) (on : h ≡ On parent e) {u : Walk} {o₂ : List ℕ} (row : u ≡ (put_line start parent v.entries x.walk o₁).walk)
+          module _ (parent e : ℕ) (on : h ≡ Some (parent, e)) {u : Walk} {o₂ : List ℕ} (row : u ≡ (put_line start parent v.entries x.walk o₁).walk)
               (rest_of : o₂ ≡ (put_line start parent v.entries x.walk o₁).buffer) where
-            hang : hangs (starts ps) (counts ps) (starts ps k) k ≡ On parent e
+            hang : hangs (starts ps) (counts ps) (starts ps k) k ≡ Some (parent, e)
             hang = hang_is h start z y ∙ on
 
             pub next_more : (q₂ : Cursor) → q₂.at ≡ skipped_at s x.next.at → Lining s at (k + 1) w u q₂.at o₀ o₂

@@ -1,5 +1,6 @@
 -- The main line is filled in: the slot with its comments, the entries, the row.
 -- Assumes nothing.
+use Rattle.std.specs.Prelude.{Option, Some, None}
 use Prim.Native.Nat.{ℕ, ◌-◌, ◌≤◌}
 use native.Mathlib.Omega.{arith}
 use mathlib.Core.Path.{◌≡◌, refl, sym, ap, ◌∙◌, subst}
@@ -12,8 +13,6 @@ use Rattle.jkf.specs.Model.{Noted}
 use Rattle.filling.specs.Filling.{Grown, put_comments, put_entry, put_noted, put_entries, put_line, hooked_of, hooked_in}
 use Rattle.filling.specs.inner.Parts.{EntriesFit, Entered, LineFits, Lined, on_hooked}
 use Rattle.filling.specs.declared.Walk.{Walk}
-use Rattle.filling.specs.declared.Hooked.{Hooked}
-use Rattle.filling.specs.declared.Hooked.TheVariants.{Put, Loose}
 use Rattle.filling.proofs.Hooking.{first-hangs, row-put}
 use Rattle.filling.proofs.Growing.{noted-put, noted_done, entries-front, entries_rest, entries-then, entries-put, line_fit, line-put}
 use Rattle.plays.specs.Plays.{noted, comments_at, entries_at, skipped_at, slot_at, past_main, main_at}
@@ -75,16 +74,16 @@ module _ (s : List ℕ) (at : ℕ) (w : Walk) (o : List ℕ) (f : LineFits (main
       abbrev row : Grown
       row = put_line 0 0 w.entries y.walk o₂
 
-      hooked : (Put row.walk ≡ hooked_of w.lines 0 w.entries y.walk o₂) × (row.buffer ≡ hooked_in w.lines 0 w.entries y.walk o₂)
+      hooked : (Some row.walk ≡ hooked_of w.lines 0 w.entries y.walk o₂) × (row.buffer ≡ hooked_in w.lines 0 w.entries y.walk o₂)
       hooked = row-put w.lines 0 w.entries y.walk o₂ (first-hangs w.lines 0 y.walk o₂ (omega (arith, both.lines)) refl) refl refl
 
-      pub main_lined : {v : Walk} {o₃ : List ℕ} → Put v ≡ hooked_of w.lines 0 w.entries y.walk o₂ → o₃ ≡ hooked_in w.lines 0 w.entries y.walk o₂
+      pub main_lined : {v : Walk} {o₃ : List ℕ} → Some v ≡ hooked_of w.lines 0 w.entries y.walk o₂ → o₃ ≡ hooked_in w.lines 0 w.entries y.walk o₂
           → Lined (main_line s at ∷ []) w v o o₃
       unfolding main_at
       main_lined {v} {o₃} m z =
-          let n : v ≡ row.walk = ap (λ (h : Hooked). on_hooked h (λ k. k) v) (m ∙ sym hooked.0) in
+          let n : v ≡ row.walk = ap (λ (h : Option Walk). on_hooked h (λ k. k) v) (m ∙ sym hooked.0) in
           subst (λ (k : Walk). Lined (main_line s at ∷ []) w k o o₃) (sym n)
           (subst (λ (l : List ℕ). Lined (main_line s at ∷ []) w row.walk o l) (hooked.1 ∙ sym z) (line-put 0 0 (main_at s at).entries f both))
 
-      pub main_hangs : {A : Type 0} → Loose ≡ hooked_of w.lines 0 w.entries y.walk o₂ → A
-      main_hangs m = let n : ◌≡◌ {A = ℕ} 0 1 = ap (λ (h : Hooked). on_hooked h (λ k. 1) 0) (m ∙ sym hooked.0) in absurd (omega arith)
+      pub main_hangs : {A : Type 0} → None ≡ hooked_of w.lines 0 w.entries y.walk o₂ → A
+      main_hangs m = let n : ◌≡◌ {A = ℕ} 0 1 = ap (λ (h : Option Walk). on_hooked h (λ k. 1) 0) (m ∙ sym hooked.0) in absurd (omega arith)

@@ -1,6 +1,7 @@
 -- The position that reading gives: 81 cells and 14 counts, a preset and a side of their tables, and all of it bytes. Each number of an
 -- information line is a table's, a hand has seven counts of at most 255, and hands of two blocks add up to no more.
 -- Assumes nothing.
+use Rattle.std.specs.Prelude.{Option, Some, None}
 use Prim.Native.Nat.{ℕ, zero, suc, ◌+◌, ◌≤◌, ◌<◌}
 use native.Mathlib.Omega.{arith}
 use mathlib.Core.Path.{◌≡◌, refl, ap}
@@ -17,7 +18,6 @@ use Rattle.lists.proofs.Tests.{answers}
 use Rattle.text.specs.Text.{cursor, tag_at}
 use Rattle.text.proofs.Answers.{by_place}
 use Rattle.spell.specs.Tables.{presets, sides}
-use Rattle.spell.specs.declared.Spelled.{Spelled}
 use Rattle.spell.proofs.Answers.{OnSpelled, is_as, is_not, by_spelled, first_known}
 use Rattle.block.specs.PositionBytes.{position_bytes}
 use Rattle.jkf.specs.declared.Position.{Position}
@@ -33,17 +33,15 @@ use Rattle.kakinoki.specs.declared.HandSaid.{HandSaid}
 use Rattle.kakinoki.specs.declared.Held.{Held}
 use Rattle.kakinoki.specs.declared.Held.TheVariants.{By, Unreadable, NoHand}
 use Rattle.kakinoki.specs.declared.KeyValue.{KeyValue}
-use Rattle.kakinoki.specs.declared.KeyValue.TheVariants.{Pair, NoPair}
 use Rattle.kakinoki.specs.declared.Info.TheVariants.{Hands, Keyed, Refused, Nothing}
 use Rattle.kakinoki.specs.declared.Information.{Information}
-use Rattle.kakinoki.specs.declared.Named.{Named}
-use Rattle.kakinoki.specs.declared.Named.TheVariants.{Is, Unsaid}
 use Rattle.kakinoki.specs.declared.Told.{Told}
 use Rattle.kakinoki.specs.declared.Board.{Board}
 use Rattle.kakinoki.proofs.Filled.{Filled, filled_zeros}
 use Rattle.kakinoki.proofs.Pieces.{Byte, hand-bytes}
 use Rattle.kakinoki.proofs.Cells.{Cell, board-made}
 use Rattle.parser.proofs.Alls.{OnStep, goes, stops, many_all}
+use Rattle.text.specs.declared.Cursor.{Cursor}
 
 -- ---- what a line says
 
@@ -67,7 +65,7 @@ module _ (s : List ℕ) where
       by_place Q is_not (tag_at preset_tag s at)
       (λ c. by_spelled Q is_not (first_known 17 presets refl s c.at) (λ n d k. let l = k.small in ends-small n 16 d.at (omega arith)))
     where
-      Q : Spelled → Type 0
+      Q : Option (ℕ × Cursor) → Type 0
       Q = OnSpelled (λ n c. n ≤ 16)
 
   turn_small : (at : ℕ) → OnSpelled (λ n c. n ≤ 1) (turn_line_at s at)
@@ -76,7 +74,7 @@ module _ (s : List ℕ) where
       by_spelled Q is_not (first_known 2 sides refl s at)
       (λ n c k. let l = k.small in by_place Q is_not (tag_at turn_tag s c.at) (λ d. ends-small n 1 d.at (omega arith)))
     where
-      Q : Spelled → Type 0
+      Q : Option (ℕ × Cursor) → Type 0
       Q = OnSpelled (λ n c. n ≤ 1)
 
   held_small : (side at : ℕ) → Filled Byte 7 (held_at side s at).counts
@@ -100,9 +98,9 @@ module _ (s : List ℕ) where
   unfolding keyed_at
   keyed_small at = go (key_value_at s at)
     where
-      go : (r : KeyValue) → LineSmall (on_key_value r (λ from to next. information Keyed empty_hand next) (information Nothing empty_hand (cursor at)))
-      go (Pair from to end) h = tt
-      go NoPair h = tt
+      go : (r : Option KeyValue) → LineSmall (on_key_value r (λ from to next. information Keyed empty_hand next) (information Nothing empty_hand (cursor at)))
+      go (Some r) h = tt
+      go None h = tt
 
   held_or_keyed : (at : ℕ) → LineSmall (hands_or_keyed_at s at)
   unfolding hands_or_keyed_at
@@ -129,9 +127,9 @@ module _ (s : List ℕ) where
 
 -- ---- what blocks say
 
-abbrev Below : ℕ → Named → Type 0
-Below k (Is n) = n ≤ k
-Below k Unsaid = Unit {0}
+abbrev Below : ℕ → Option ℕ → Type 0
+Below k (Some n) = n ≤ k
+Below k None = Unit {0}
 
 record Fine (t : Told) : Type 0 where
   preset : Below 16 t.preset
@@ -156,9 +154,9 @@ all_fine t f (next {x} h k) = all_fine (tell t x) (tell_fine t x f h) k
 block_fine : (s : List ℕ) (at : ℕ) → Fine (tell_all untold (informations_at s at).state)
 block_fine s at = all_fine untold (record { preset = tt; turn = tt; black = no_counts; white = no_counts }) (block_small s at)
 
-either_below : (k : ℕ) (a b : Named) → Below k a → Below k b → Below k (either a b)
-either_below k (Is n) b h g = h
-either_below k Unsaid b h g = g
+either_below : (k : ℕ) (a b : Option ℕ) → Below k a → Below k b → Below k (either a b)
+either_below k (Some n) b h g = h
+either_below k None b h g = g
 
 -- hands that are added
 add-length : (n : ℕ) (a b : List ℕ) → length a ≡ n → length b ≡ n → length (add_hands a b) ≡ n
@@ -197,9 +195,9 @@ record GoodPosition (p : Position) : Type 0 where
   fits : claim (fits_test p)
   bytes : Bytes (position_bytes p)
 
-named_below : (k d : ℕ) (n : Named) → d ≤ k → Below k n → named n d ≤ k
-named_below k d (Is n) h g = g
-named_below k d Unsaid h g = h
+named_below : (k d : ℕ) (n : Option ℕ) → d ≤ k → Below k n → named n d ≤ k
+named_below k d (Some n) h g = g
+named_below k d None h g = h
 
 cell_byte : (v : ℕ) → Cell v → v < 256
 cell_byte v =

@@ -1,6 +1,7 @@
 -- What stands before the moves is ready to be stored: a text of 65,535 bytes has at most 13,107 header lines, and each begins below 65,536,
 -- so all their places are kept as they are, and sorted by key they stand in the front of the buffer.
 -- Assumes nothing.
+use Rattle.std.specs.Prelude.{Option, Some, None}
 use Prim.Native.Nat.{ℕ, suc, ◌+◌, ◌-◌, ◌≤◌, ◌<◌}
 use native.Mathlib.Nat.{mod-eq_of_lt}
 use native.Mathlib.Omega.{arith}
@@ -19,8 +20,6 @@ use Rattle.kakinoki.proofs.Heads.{header-begins, headers-few}
 use Rattle.text.specs.Utf8.{well_formed_bytes}
 use Rattle.jkf.specs.declared.Answer.{Answer}
 use Rattle.parser.specs.Read.{faultless, early_of}
-use Rattle.parser.specs.declared.Early.{Early}
-use Rattle.parser.specs.declared.Early.TheVariants.{Refused, Passed}
 use Rattle.parser.specs.declared.Survey.{Survey}
 use Rattle.parser.specs.inner.Stores.{PlacesIn, Prepared, Surveyed, Sorted}
 
@@ -130,5 +129,5 @@ unfolding early_of
 late s h k = rw (le-ltb 65535 (length s) h, le-ltb (well_formed_bytes s) (length s) k)
 
 -- a refusal has nothing found
-pub no_pass : {A : Type 0} {a : Answer} {e : Early} → e ≡ Refused a → e ≡ Passed → A
+pub no_pass : {A : Type 0} {a : Answer} {e : Option Answer} → e ≡ Some a → e ≡ None → A
 no_pass p q = let z : ◌≡◌ {A = ℕ} 0 1 = cc in absurd (omega arith)

@@ -1,16 +1,15 @@
 -- What is known before a block is stored: which lines are header lines, and how long the block is.
 -- Assumes nothing.
+use Rattle.std.specs.Prelude.{Option}
 use Prim.Native.Nat.{ℕ, suc, ◌+◌, ◌*◌, ◌≤◌, ◌<◌}
 use native.Mathlib.Omega.{arith}
 use mathlib.Core.Path.{◌≡◌, refl, sym, ap, ◌∙◌, subst}
-use mathlib.Core.List.{List, [], ◌∷◌, ◌++◌, append-nil}
+use mathlib.Core.List.{List, [], ◌∷◌}
 use mathlib.Core.Bool.{true, false}
-use lib.ListN.{length, get_or, drop, replicate, length-map, length-replicate, drop_of_length-le}
+use lib.ListN.{length, get_or, length-map}
 use Rattle.jkf.specs.declared.Position.{Position}
 use Rattle.jkf.specs.Model.{Header, Noted}
 use Rattle.jkf.specs.Attaching.{attach}
-use Rattle.lent.specs.Bytes.{Wrote, fitting}
-use Rattle.lent.proofs.Writes.{fitting-all}
 use Rattle.block.specs.Encode.{concat, header_text, entries_of, comments_of, comment_text}
 use Rattle.filling.specs.Filling.{length_of}
 use Rattle.filling.specs.declared.Sizes.{Sizes}
@@ -46,7 +45,7 @@ header-lines s h =
       each =
           all-at 0
           (kept-all s (header_places s) P
-          (index_all P 0 (header_places s) (λ i k. ap (λ (x : KeyValue). on_key_value x (λ from to next. true) false) (header-begins s i k).line.is)));
+          (index_all P 0 (header_places s) (λ i k. ap (λ (x : Option KeyValue). on_key_value x (λ from to next. true) false) (header-begins s i k).line.is)));
     }
 
 -- the record's header entries are those of the places by key
@@ -135,12 +134,3 @@ needed-length {s} {p} {at} {hs} f =
       comments = omega (arith, b.comments, c, ap (λ (y : Extents). y.comments) q);
       bytes = omega (arith, b.bytes, b.text, t, ap (λ (y : Extents). y.bytes) q);
     })))
-
--- a buffer that was filled with zeros
-pub cleared : (o : List ℕ) {x : List ℕ} {r : ℕ} → Wrote (fitting (replicate (length o) 0) o) o x r → x ≡ replicate (length o) 0
-cleared o {x} {r} w =
-    let zeros : List ℕ = replicate (length o) 0 in
-    let n : length zeros ≡ length o = length-replicate {A = ℕ} (length o) 0 in
-    let t : fitting zeros o ≡ zeros = fitting-all zeros o (omega arith) in
-    let c : r ≡ length o = w.count ∙ ap length t ∙ n in
-    w.bytes ∙ ap (λ (l : List ℕ). l ++ drop r o) t ∙ ap (λ (l : List ℕ). zeros ++ l) (drop_of_length-le o {i = r} (omega (arith, c))) ∙ append-nil zeros

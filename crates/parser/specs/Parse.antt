@@ -6,7 +6,7 @@ use Rattle.jkf.specs.Model.{Header, Record}
 use Rattle.jkf.specs.Attaching.{Play, attach}
 use Rattle.block.specs.Encode.{formula_length}
 use Rattle.sorted.specs.Sorted.{by_bytes, enter_all}
-use Rattle.sorted.specs.declared.Order.{Order}
+use Rattle.std.specs.declared.cmp.Ordering.{Ordering}
 use Rattle.kakinoki.specs.Starts.{start_read, headers_said}
 use Rattle.plays.specs.Plays.{plays_at}
 
@@ -16,7 +16,7 @@ pub record Parsed : Type 0 where
   pub plays : List Play
   pub taken : ℕ
 
-abbrev pub by_header : Header → Header → Order
+abbrev pub by_header : Header → Header → Ordering
 by_header a b = by_bytes a.key b.key
 
 -- Header entries ascend by key, and the last value of a key wins.

@@ -1,6 +1,6 @@
 -- What `measure` and `fill` answer, and what the lent buffer then holds.                             (01, Numbers of refusal; 02, request (vii))
 -- Assumes nothing: these are definitions.
-use Rattle.std.specs.Prelude.{ℕ, List, length, replicate, eqb, ltb}
+use Rattle.std.specs.Prelude.{ℕ, List, length, replicate, eqb, ltb, Option, Some, None}
 use Rattle.lists.specs.Pick.{pick}
 use Rattle.text.specs.Utf8.{well_formed_bytes}
 use Rattle.jkf.specs.Attaching.{on_hung, all_hung}
@@ -12,28 +12,26 @@ use Rattle.filling.specs.Filling.{unless_refused, at_front}
 use Rattle.plays.specs.Losses.{plays_lost}
 use Rattle.kakinoki.specs.Starts.{on_fault, start_read}
 use Rattle.parser.specs.Parse.{Parsed, parse, needed, record_of}
-use Rattle.parser.specs.declared.Early.{Early}
-use Rattle.parser.specs.declared.Early.TheVariants.{Refused, Passed}
 
 -- ---- words
 
-abbrev pub on_early : {A : Type 0} → Early → (Answer → A) → A → A
-on_early (Refused a) f d = f a
-on_early Passed f d = d
+abbrev pub on_early : {A : Type 0} → Option Answer → (Answer → A) → A → A
+on_early (Some a) f d = f a
+on_early None f d = d
 
 -- ---- refusals 1 to 3, in this order                                                                 (01, Numbers of refusal: order)
 
 -- Refusal 3: the hand line that cannot be read.
-unfoldable pub faultless : List ℕ → Early
-faultless s = on_fault (start_read s).fault (λ at. Refused (HandLine at)) Passed
+unfoldable pub faultless : List ℕ → Option Answer
+faultless s = on_fault (start_read s).fault (λ at. Some (HandLine at)) None
 
 -- Before it 1 and 2.
-unfoldable pub early_of : List ℕ → Early
+unfoldable pub early_of : List ℕ → Option Answer
 early_of s =
     let r = faultless s in
     pick (ltb 65535 (length s))
-    (Refused (TextTooLong (length s)))
-    (pick (ltb (well_formed_bytes s) (length s)) (Refused (NotUtf8 (well_formed_bytes s))) r)
+    (Some (TextTooLong (length s)))
+    (pick (ltb (well_formed_bytes s) (length s)) (Some (NotUtf8 (well_formed_bytes s))) r)
 
 -- ---- measuring                                                                                       (02, request (vii))
 

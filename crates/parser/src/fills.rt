@@ -7,8 +7,7 @@ ghost use Rattle.plays.specs.Plays.{slot_at, past_main, plays_at};
 ghost use Rattle.plays.specs.Losses.{lost_from, plays_lost};
 ghost use Rattle.parser.specs.inner.Lines.{main_line, hanging};
 
-use crate::Hanging;
-use filling::{Hooked, Walk};
+use filling::Walk;
 use jkf::Entry;
 use plays::FilledPlay;
 use text::Cursor;
@@ -26,7 +25,7 @@ fn fill_main(s: &[u8], c: Cursor, w: Walk, out: &mut [u8]) -> FilledPlay
     let v = line.walk;
     let next = plays::past(slot.next, v.entries - u.entries, line.next, s);
     let lost = line.lost;
-    let Hooked::Put(walk) = filling::hang_line(out, v, w.lines, 0, w.entries) else {
+    let Some(walk) = filling::hang_line(out, v, w.lines, 0, w.entries) else {
         return FilledPlay {
             walk: v,
             next,
@@ -37,7 +36,12 @@ fn fill_main(s: &[u8], c: Cursor, w: Walk, out: &mut [u8]) -> FilledPlay
 }
 
 // All lines, and how many of their times were lost; stops at the first variation that has no entry to hang on.
-pub(crate) fn fill_lines(s: &[u8], c: Cursor, w: Walk, out: &mut [u8]) -> Hanging
+pub(crate) fn fill_lines(
+    s: &[u8],
+    c: Cursor,
+    w: Walk,
+    out: &mut [u8],
+) -> Result<(Cursor, usize), (u64, u64)>
     requires { LinesFit (attach (plays_at s.now c.at).state) w out.old }
     ensures value { result ≡ hanging (all_hung (plays_at s.now c.at).state) (plays_at s.now c.at).at (plays_lost s.now c.at) }
     ensures out_after { all_hung (plays_at s.now c.at).state ≡ all → out.new ≡ puts out.old (line_ends w) (line_texts 0 0 w.bytes (attach (plays_at s.now c.at).state)) }
@@ -53,11 +57,11 @@ pub(crate) fn fill_lines(s: &[u8], c: Cursor, w: Walk, out: &mut [u8]) -> Hangin
         let line = plays::fill_moves(s, at, walk, out);
         let v = line.walk;
         if v.entries == walk.entries {
-            return Hanging::AllHung(next, lost);
+            return Ok((next, lost));
         }
         let start = plays::ply(at, s);
-        let Hooked::Put(u) = filling::hang_line(out, v, table, start, walk.entries) else {
-            return Hanging::Loose(k, start);
+        let Some(u) = filling::hang_line(out, v, table, start, walk.entries) else {
+            return Err((k, start));
         };
         walk = u;
         next = plays::skipped(line.next, s);

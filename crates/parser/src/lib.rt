@@ -23,25 +23,11 @@ pub struct Extents {
     pub next: Cursor,
 }
 
-// That every variation hangs, with the place past the last and how many times were lost; or the first that does not, and its ply.
-#[derive(Clone, Copy)]
-pub enum Hanging {
-    AllHung(Cursor, usize),
-    Loose(u64, u64),
-}
-
-// Whether a text is refused before its block is measured.
-#[derive(Clone, Copy)]
-pub enum Early {
-    Refused(Answer),
-    Passed,
-}
-
-// A text before anything of it is stored: whether it is refused; else its position, where its lines of play begin, the sizes of its block, and
+// A text before anything of it is stored: the refusal, if any; else its position, where its lines of play begin, the sizes of its block, and
 // how many bytes are taken.
 #[derive(Clone, Copy)]
 pub struct Survey {
-    pub early: Early,
+    pub early: Option<Answer>,
     pub position: Position,
     pub moves: Cursor,
     pub sizes: Sizes,

@@ -3,10 +3,10 @@ ghost use Rattle.std.specs.Prelude.{◌≡◌};
 ghost use Rattle.parser.specs.Read.{measured, measure_of, fill_of, lost_of};
 ghost use Rattle.filling.specs.Filling.{length_of};
 
+use crate::FillAnswer;
 use crate::stores::{refused, store};
 use crate::surveys::survey;
-use crate::{Early, FillAnswer};
-use filling::{Opening, Sizes};
+use filling::Sizes;
 use jkf::Answer;
 
 // The length of a block and the bytes taken, or refusal 4: there is room for all that is not too long.
@@ -14,8 +14,8 @@ fn measured(sizes: Sizes, taken: usize) -> Answer
     ensures { result ≡ measured (length_of sizes) taken }
 {
     match filling::admit(sizes, 65535) {
-        Opening::Refused(a) => a,
-        Opening::Begun(_, n) => Answer::Done(n, taken as u64),
+        Err(a) => a,
+        Ok((_, n)) => Answer::Done(n, taken as u64),
     }
 }
 
@@ -25,10 +25,9 @@ pub fn measure(text: &[u8]) -> Answer
 {
     let mut sorted = [0u16; 13107];
     let v = survey(text, &mut sorted);
-    let early = v.early;
-    match early {
-        Early::Refused(a) => a,
-        Early::Passed => measured(v.sizes, v.taken),
+    match v.early {
+        Some(a) => a,
+        None => measured(v.sizes, v.taken),
     }
 }
 
@@ -40,10 +39,9 @@ pub fn fill(text: &[u8], out: &mut [u8]) -> FillAnswer
 {
     let mut sorted = [0u16; 13107];
     let v = survey(text, &mut sorted);
-    let early = v.early;
-    match early {
-        Early::Refused(a) => refused(a),
-        Early::Passed => {
+    match v.early {
+        Some(a) => refused(a),
+        None => {
             let n = v.sizes.headers;
             store(text, v, &sorted[..n], out)
         }

@@ -6,8 +6,8 @@ ghost use Rattle.parser.specs.inner.Stores.{Prepared, Surveyed, Opened, hung_los
 
 use crate::fills::fill_lines;
 use crate::headers::fill_headers;
-use crate::{FillAnswer, Hanging, Survey};
-use filling::{Opening, Walk};
+use crate::{FillAnswer, Survey};
+use filling::Walk;
 use jkf::Answer;
 use text::Cursor;
 
@@ -22,8 +22,7 @@ pub(crate) fn refused(a: Answer) -> FillAnswer
 fn clear(out: &mut [u8])
     ensures { out.new ≡ replicate (length out.old) 0 }
 {
-    let n = out.len();
-    lent::put_run(out, 0, n);
+    out.fill(0);
 }
 
 // All parts of a block that is begun; zeros where a variation has no entry to hang on.
@@ -43,11 +42,11 @@ fn fill_parts(
 {
     let v = fill_headers(s, headers, w, out);
     match fill_lines(s, c, v, out) {
-        Hanging::AllHung(end, lost) => FillAnswer {
+        Ok((end, lost)) => FillAnswer {
             answer: Answer::Done(end.at as u64, total),
             lost: lost as u64,
         },
-        Hanging::Loose(variation, ply) => {
+        Err((variation, ply)) => {
             clear(out);
             refused(Answer::NoEntry(variation, ply))
         }
@@ -61,10 +60,8 @@ pub(crate) fn store(s: &[u8], v: Survey, headers: &[u16], out: &mut [u8]) -> Fil
     ensures out_after { out.new ≡ (read_stored (parse s.now) out.old).buffer }
     ensures lost_value { result.lost ≡ stored_lost s.now (length out.old) }
 {
-    let sizes = v.sizes;
-    let position = v.position;
-    match filling::open(out, 1, sizes, position) {
-        Opening::Begun(w, total) => fill_parts(s, v.moves, headers, w, total, out),
-        Opening::Refused(a) => refused(a),
+    match filling::open(out, 1, v.sizes, v.position) {
+        Ok((w, total)) => fill_parts(s, v.moves, headers, w, total, out),
+        Err(a) => refused(a),
     }
 }

@@ -4,20 +4,20 @@ ghost use Rattle.kakinoki.specs.Starts.{start_read};
 ghost use Rattle.parser.specs.Read.{faultless, early_of};
 ghost use Rattle.parser.specs.inner.Stores.{PlacesIn, Prepared, Surveyed, Sorted};
 
+use crate::Survey;
 use crate::counts::count_lines;
 use crate::headers::count_headers;
-use crate::{Early, Survey};
 use filling::Sizes;
 use jkf::{Answer, Position};
-use kakinoki::{Fault, Start};
+use kakinoki::Start;
 use text::Cursor;
 
 // A text that is refused, of which nothing else is told.
 fn refused(a: Answer) -> Survey
-    ensures { result.early ≡ Early.Refused a }
+    ensures { result.early ≡ Some a }
 {
     Survey {
-        early: Early::Refused(a),
+        early: Some(a),
         position: Position {
             preset: 0,
             board: 0,
@@ -40,11 +40,11 @@ fn refused(a: Answer) -> Survey
 // What the block of a text comes to, of which the places of the header lines are known by key.
 fn sized(s: &[u8], position: Position, c: Cursor, headers: &[u16]) -> Survey
     requires { Prepared s.now position c.at headers.now }
-    ensures { (result.early ≡ Early.Passed) × Surveyed s.now result headers.now }
+    ensures { (result.early ≡ None) × Surveyed s.now result headers.now }
 {
     let all = count_lines(c, s);
     Survey {
-        early: Early::Passed,
+        early: None,
         position,
         moves: c,
         sizes: Sizes {
@@ -62,25 +62,23 @@ fn sized(s: &[u8], position: Position, c: Cursor, headers: &[u16]) -> Survey
 fn survey_start(s: &[u8], start: Start, places: &[u16], sorted: &mut [u16]) -> Survey
     requires s_len_bound { (length s.now ≤ 65535) × (start ≡ start_read s.now) × PlacesIn s.now places.now }
     requires in_bounds { 13107 ≤ length sorted.old }
-    ensures { (result.early ≡ Early.Passed) × Sorted s.now result sorted.new }
+    ensures { (result.early ≡ None) × Sorted s.now result sorted.new }
 {
     let n = start.headers;
     let kept = sorted::sort_keys(s, &places[..n], &mut sorted[..n]);
-    let position = start.position;
-    sized(s, position, start.next, &sorted[..kept])
+    sized(s, start.position, start.next, &sorted[..kept])
 }
 
 // A text that is not too long and is UTF-8, with a scratch that has room for the places of its header lines.
 fn survey_through(s: &[u8], places: &mut [u16], sorted: &mut [u16]) -> Survey
     requires { (length s.now ≤ 65535) × (length s.now ≤ 5 * length places.old) × (13107 ≤ length sorted.old) }
     ensures early_value { result.early ≡ faultless s.now }
-    ensures sorted { result.early ≡ Early.Passed → Sorted s.now result sorted.new }
+    ensures sorted { result.early ≡ None → Sorted s.now result sorted.new }
 {
     let start = kakinoki::parse_without_moves(s, places);
-    let fault = start.fault;
-    match fault {
-        Fault::At(at) => refused(Answer::HandLine(at as u64)),
-        Fault::NoFault => survey_start(s, start, places, sorted),
+    match start.fault {
+        Some(at) => refused(Answer::HandLine(at as u64)),
+        None => survey_start(s, start, places, sorted),
     }
 }
 
@@ -88,7 +86,7 @@ fn survey_through(s: &[u8], places: &mut [u16], sorted: &mut [u16]) -> Survey
 fn survey_text(s: &[u8], sorted: &mut [u16]) -> Survey
     requires { (length s.now ≤ 65535) × (13107 ≤ length sorted.old) }
     ensures early_value { result.early ≡ faultless s.now }
-    ensures sorted { result.early ≡ Early.Passed → Sorted s.now result sorted.new }
+    ensures sorted { result.early ≡ None → Sorted s.now result sorted.new }
 {
     if s.len() <= 16384 {
         let mut few = [0u16; 3277];
@@ -102,7 +100,7 @@ fn survey_text(s: &[u8], sorted: &mut [u16]) -> Survey
 pub(crate) fn survey(s: &[u8], sorted: &mut [u16]) -> Survey
     requires { 13107 ≤ length sorted.old }
     ensures early_value { result.early ≡ early_of s.now }
-    ensures sorted { result.early ≡ Early.Passed → Sorted s.now result sorted.new }
+    ensures sorted { result.early ≡ None → Sorted s.now result sorted.new }
 {
     if 65535 < s.len() {
         return refused(Answer::TextTooLong(s.len() as u64));

@@ -1,5 +1,6 @@
 -- Counting comments and entries one by one: what is counted and what is still to count come to all that there is.
 -- Assumes nothing.
+use Rattle.std.specs.Prelude.{Some, None}
 use Prim.Native.Nat.{ℕ, ◌+◌, ◌-◌, ◌≤◌, ◌<◌}
 use native.Mathlib.Omega.{arith}
 use mathlib.Core.Path.{◌≡◌, refl, sym, ap, ◌∙◌}
@@ -13,8 +14,6 @@ use Rattle.jkf.specs.Model.{Noted}
 use Rattle.block.specs.Encode.{concat, comments_of, comment_text}
 use Rattle.block.proofs.Tabling.{concat-append}
 use Rattle.moves.specs.Moves.{move_line_at, comment_line_at}
-use Rattle.moves.specs.declared.Remark.TheVariants.{Stands, NoRemark}
-use Rattle.moves.specs.declared.MoveLine.TheVariants.{Numbered}
 use Rattle.moves.proofs.Goings.{move_goes, remark_goes}
 use Rattle.plays.specs.Plays.{noted, comments_at}
 use Rattle.plays.specs.Counted.{remarks_at, extent_of}
@@ -34,7 +33,7 @@ pub remarking_start : (s : List ℕ) (at : ℕ) → Remarking s at 0 0 at
 remarking_start s at = record { number = omega arith; size = omega arith; end = refl }
 
 module _ (s : List ℕ) {at₀ count bytes : ℕ} (at : ℕ) (i : Remarking s at₀ count bytes at) where
-  module _ (from to next : Cursor) (q : comment_line_at s at ≡ Stands from to next) where
+  module _ (from to next : Cursor) (q : comment_line_at s at ≡ Some (record { from = from; to = to; next = next })) where
     state_is : (comments_at s at).state ≡ text_of s from to ∷ (comments_at s next.at).state
     state_is = ap (λ (r : Ended (List (List ℕ))). r.state) (comments-more s at from to next q)
 
@@ -64,7 +63,7 @@ module _ (s : List ℕ) {at₀ count bytes : ℕ} (at : ℕ) (i : Remarking s at
         let b = comments-short s at₀ in
         (omega (arith, b, i.end, e, w, i.number, ap length state_is, h), omega (arith, b, i.end, e, w, i.size, text_is, h))
 
-  pub remarking_done : (c : Cursor) → c.at ≡ at → comment_line_at s at ≡ NoRemark → record { count = count; bytes = bytes; next = c } ≡ remarks_at s at₀
+  pub remarking_done : (c : Cursor) → c.at ≡ at → comment_line_at s at ≡ None → record { count = count; bytes = bytes; next = c } ≡ remarks_at s at₀
   unfolding remarks_at concat
   remarking_done c e q =
       let none = comments-none s at q in
@@ -144,7 +143,7 @@ module _ (s : List ℕ) {whole rest : Ended (List Noted)} {x : Extent} (i : Exte
       rw (n, m, b, a)
 
 -- past a move line and its comments, within the text
-pub line-past : (s : List ℕ) (at n : ℕ) (e : Entry) (c : Cursor) → move_line_at s at ≡ Numbered n e c
+pub line-past : (s : List ℕ) (at n : ℕ) (e : Entry) (c : Cursor) → move_line_at s at ≡ Some (record { number = n; entry = e; next = c })
     → (at < (remarks_at s c.at).next.at) × ((remarks_at s c.at).next.at ≤ length s)
 unfolding remarks_at
 line-past s at n e c q =

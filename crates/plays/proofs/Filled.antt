@@ -1,5 +1,6 @@
 -- Comments and entries of a text are filled in one by one: what is still to do from here comes to what was to do at first.
 -- Assumes nothing.
+use Rattle.std.specs.Prelude.{Some, None}
 use Prim.Native.Nat.{ℕ}
 use mathlib.Core.Path.{◌≡◌, refl, sym, ap, ◌∙◌}
 use mathlib.Core.List.{List, ◌∷◌}
@@ -8,8 +9,6 @@ use Rattle.text.specs.declared.Cursor.{Cursor}
 use Rattle.jkf.specs.declared.Entry.{Entry}
 use Rattle.jkf.specs.Model.{Noted}
 use Rattle.moves.specs.Moves.{move_line_at, comment_line_at}
-use Rattle.moves.specs.declared.Remark.TheVariants.{Stands, NoRemark}
-use Rattle.moves.specs.declared.MoveLine.TheVariants.{Numbered, NoLine}
 use Rattle.filling.specs.Filling.{put_comment, put_noted, put_comments, put_all}
 use Rattle.filling.specs.declared.Walk.{Walk}
 use Rattle.filling.proofs.Growing.{comment-size, noted-size, Doing, doing_start, doing_step, doing_as, doing_done}
@@ -26,7 +25,7 @@ pub commenting_start : {s : List ℕ} {at : ℕ} {w : Walk} {o : List ℕ} → C
 commenting_start = record { doing = doing_start; end = refl }
 
 module _ {s : List ℕ} {at₀ at : ℕ} {w₀ w : Walk} {o₀ o : List ℕ} (i : Commenting s at₀ at w₀ w o₀ o) where
-  pub commenting_step : {w' : Walk} {o' : List ℕ} (from to next : Cursor) → comment_line_at s at ≡ Stands from to next
+  pub commenting_step : {w' : Walk} {o' : List ℕ} (from to next : Cursor) → comment_line_at s at ≡ Some (record { from = from; to = to; next = next })
       → w' ≡ (put_comment (text_of s from to) w o).walk → o' ≡ (put_comment (text_of s from to) w o).buffer → Commenting s at₀ next.at w₀ w' o₀ o'
   commenting_step from to next q p r =
       let m = comments-more s at from to next q in
@@ -35,7 +34,7 @@ module _ {s : List ℕ} {at₀ at : ℕ} {w₀ w : Walk} {o₀ o : List ℕ} (i 
         end = sym (ap (λ (x : Ended (List (List ℕ))). x.at) m) ∙ i.end;
       }
 
-  pub commenting_done : comment_line_at s at ≡ NoRemark
+  pub commenting_done : comment_line_at s at ≡ None
       → (w ≡ (put_comments (comments_at s at₀).state w₀ o₀).walk) × ((o ≡ (put_comments (comments_at s at₀).state w₀ o₀).buffer) × (at ≡ (comments_at s at₀).at))
   commenting_done q =
       let n = comments-none s at q in
@@ -52,7 +51,7 @@ pub entering_start : {s : List ℕ} {at : ℕ} {w : Walk} {o : List ℕ} → Ent
 entering_start = record { doing = doing_start; end = refl }
 
 module _ {s : List ℕ} {at₀ at : ℕ} {w₀ w : Walk} {o₀ o : List ℕ} (i : Entering s at₀ at w₀ w o₀ o) where
-  pub entering_step : {w' : Walk} {o' : List ℕ} {next : ℕ} (n : ℕ) (e : Entry) (c : Cursor) → move_line_at s at ≡ Numbered n e c
+  pub entering_step : {w' : Walk} {o' : List ℕ} {next : ℕ} (n : ℕ) (e : Entry) (c : Cursor) → move_line_at s at ≡ Some (record { number = n; entry = e; next = c })
       → w' ≡ (put_noted (noted e (comments_at s c.at).state) w o).walk → o' ≡ (put_noted (noted e (comments_at s c.at).state) w o).buffer
       → next ≡ (comments_at s c.at).at → Entering s at₀ next w₀ w' o₀ o'
   entering_step n e c q p r z =
@@ -65,7 +64,7 @@ module _ {s : List ℕ} {at₀ at : ℕ} {w₀ w : Walk} {o₀ o : List ℕ} (i 
         end = ap (λ (k : ℕ). (entries_at s k).at) z ∙ sym (ap (λ (y : Ended (List Noted)). y.at) m) ∙ i.end;
       }
 
-  pub entering_done : move_line_at s at ≡ NoLine
+  pub entering_done : move_line_at s at ≡ None
       → (w ≡ (put_all put_noted (entries_at s at₀).state w₀ o₀).walk) × ((o ≡ (put_all put_noted (entries_at s at₀).state w₀ o₀).buffer) × (at ≡ (entries_at s at₀).at))
   entering_done q =
       let n = entries_none s at q in

@@ -1,5 +1,6 @@
 -- Times that are lost in a line of play, one by one: what is counted and what is still to count come to all that there is.
 -- Assumes nothing.
+use Rattle.std.specs.Prelude.{Option, Some, None}
 use Prim.Native.Nat.{ℕ, zero, suc, ◌+◌, ◌≤◌}
 use native.Mathlib.Omega.{arith}
 use mathlib.Core.Path.{◌≡◌, refl, ap}
@@ -13,7 +14,6 @@ use Rattle.jkf.specs.declared.Entry.{Entry}
 use Rattle.moves.specs.Moves.{on_move_line, move_line_at}
 use Rattle.moves.specs.Lost.{line_lost}
 use Rattle.moves.specs.declared.MoveLine.{MoveLine}
-use Rattle.moves.specs.declared.MoveLine.TheVariants.{Numbered, NoLine}
 use Rattle.plays.specs.Plays.{noted, comments_at, entry_item, entries_at}
 use Rattle.plays.specs.Losses.{one, sum_of, loss_item, lost_from}
 use Rattle.plays.proofs.Items.{on_both, no_more, line_goes, entries-max}
@@ -33,13 +33,13 @@ module _ (s : List ℕ) where
   unfolding loss_item
   loss_goes at next a = line_goes s (λ n e. one (line_lost s at)) at next a
 
-  pub losses_more : (at n : ℕ) (e : Entry) (c : Cursor) → move_line_at s at ≡ Numbered n e c
+  pub losses_more : (at n : ℕ) (e : Entry) (c : Cursor) → move_line_at s at ≡ Some (record { number = n; entry = e; next = c })
       → lost_from s at ≡ one (line_lost s at) + lost_from s (comments_at s c.at).at
   unfolding lost_from loss_item sum_of
   losses_more at n e c q =
       ap (λ (r : Ended (List ℕ)). sum_of r.state) (many_more (loss_item s) (length s) loss_goes at (comments_at s c.at).at (one (line_lost s at)) (rw q))
 
-  pub losses_none : (at : ℕ) → move_line_at s at ≡ NoLine → lost_from s at ≡ 0
+  pub losses_none : (at : ℕ) → move_line_at s at ≡ None → lost_from s at ≡ 0
   unfolding lost_from loss_item sum_of
   losses_none at q = ap (λ (r : Ended (List ℕ)). sum_of r.state) (many_stop (loss_item s) (length s) at (rw q))
 
@@ -48,11 +48,11 @@ module _ (s : List ℕ) where
   unfolding loss_item
   loss_takes at next a = go (move_line_at s at) refl
     where
-      go : (r : MoveLine) → move_line_at s at ≡ r → on_move_line r (λ n e c. more (comments_at s c.at).at (one (line_lost s at))) stop ≡ more next a → at + a ≤ next
-      go (Numbered n e c) q w =
+      go : (r : Option MoveLine) → move_line_at s at ≡ r → on_move_line r (λ n e c. more (comments_at s c.at).at (one (line_lost s at))) stop ≡ more next a → at + a ≤ next
+      go (Some r) q w =
           let (p, z) = on_both w in
           omega (arith, z, one-most (line_lost s at), (line_goes s (λ m x. one (line_lost s at)) at next a (rw q w)).0)
-      go NoLine q w = no_more w
+      go None q w = no_more w
 
   -- the walk is that of the entries
   ends_same : (k at : ℕ) → (many_from (loss_item s) k at).at ≡ (many_from (entry_item s) k at).at
@@ -60,11 +60,11 @@ module _ (s : List ℕ) where
   ends_same zero at = refl
   ends_same (suc k) at = go (move_line_at s at) (ends_same k)
     where
-      go : (r : MoveLine) → ((next : ℕ) → (many_from (loss_item s) k next).at ≡ (many_from (entry_item s) k next).at)
+      go : (r : Option MoveLine) → ((next : ℕ) → (many_from (loss_item s) k next).at ≡ (many_from (entry_item s) k next).at)
           → (on_step (on_move_line r (λ n e c. more (comments_at s c.at).at (one (line_lost s at))) stop) (λ next a. ended (many_from (loss_item s) k next).at (a ∷ (many_from (loss_item s) k next).state)) (ended at [])).at
           ≡ (on_step (on_move_line r (λ n e c. more (comments_at s c.at).at (noted e (comments_at s c.at).state)) stop) (λ next a. ended (many_from (entry_item s) k next).at (a ∷ (many_from (entry_item s) k next).state)) (ended at [])).at
-      go (Numbered n e c) ih = ih (comments_at s c.at).at
-      go NoLine ih = refl
+      go (Some r) ih = ih (comments_at s r.next.at).at
+      go None ih = refl
 
   -- so their number does not overflow
   pub losses_short : (at : ℕ) → at + lost_from s at ≤ (entries_at s at).at

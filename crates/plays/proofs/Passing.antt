@@ -1,5 +1,6 @@
 -- Lines of play passed one after another: line 0 and the variations before line k, all of which hang; the rest is still to be read.
 -- Assumes nothing.
+use Rattle.std.specs.Prelude.{Some, None}
 use Prim.Native.Nat.{ℕ, suc, ◌+◌, ◌-◌, ◌≤◌, ◌<◌}
 use native.Mathlib.Omega.{arith}
 use mathlib.Core.Path.{◌≡◌, refl, sym, ap, ◌∙◌}
@@ -8,7 +9,6 @@ use lib.ListN.{length, drop, get_or, length-drop}
 use lib.Seq.{get_or-drop, drop-drop}
 use Rattle.lists.specs.Repeat.{Ended}
 use Rattle.jkf.specs.Attaching.{hangs, all, first, hung_from, Play, play, play_of, starts, counts, all_hung}
-use Rattle.jkf.specs.declared.Hang.TheVariants.{On, Nowhere}
 use Rattle.jkf.proofs.Hangings.{hung_more, hung-lost}
 use Rattle.jkf.specs.Model.{Noted}
 use Rattle.plays.specs.Plays.{entries_at, ply_at, skipped_at, skips_at, variations_at, slot_at, past_main, plays_at}
@@ -83,7 +83,7 @@ module _ (s : List ℕ) (at : ℕ) where
       before_k = omega (arith, i.some)
 
       -- it hangs on nothing
-      pub next-loose : hangs (starts ps) (counts ps) (starts ps k) k ≡ Nowhere → all_hung ps ≡ first k (ply_at s place)
+      pub next-loose : hangs (starts ps) (counts ps) (starts ps k) k ≡ None → all_hung ps ≡ first k (ply_at s place)
       unfolding all_hung
       next-loose h =
           let n : length ps - 1 ≡ k - 1 + suc (length ps - 1 - k) = omega (arith, more_left, i.some) in
@@ -92,7 +92,7 @@ module _ (s : List ℕ) (at : ℕ) where
           ∙ ap (λ (j : ℕ). first j (starts ps j)) before_k ∙ ap (first k) start_here
 
       -- it hangs, and is passed
-      pub next_passed : {p e to₁ : ℕ} → hangs (starts ps) (counts ps) (starts ps k) k ≡ On p e → to₁ ≡ skipped_at s (entries_at s place).at → Passed (k + 1) to₁
+      pub next_passed : {p e to₁ : ℕ} → hangs (starts ps) (counts ps) (starts ps k) k ≡ Some (p, e) → to₁ ≡ skipped_at s (entries_at s place).at → Passed (k + 1) to₁
       next_passed {p} {e} {to₁} h onward =
           let k₁ : k + 1 - 1 ≡ k - 1 + 1 = omega (arith, i.some) in
           record {

@@ -4,6 +4,7 @@
 --     run_room                                       what is counted of them is no more than the text has
 --     sequence-all, sequence-whole                   where all numbers go up by one it is the line of play, and it is all where the text ends with it
 -- Assumes nothing.
+use Rattle.std.specs.Prelude.{Option, Some, None, Result, Ok, Err}
 use Prim.Native.Nat.{ℕ, zero, suc, ◌+◌, ◌≤◌}
 use native.Mathlib.Omega.{arith}
 use mathlib.Core.Path.{◌≡◌, refl, sym, ap, ◌∙◌, subst}
@@ -16,17 +17,14 @@ use Rattle.lists.specs.Repeat.{Ended, ended, many_from}
 use Rattle.lists.proofs.Laws.{by_pick}
 use Rattle.text.specs.Text.{on_place, on_number, line_end_at, blanks_at, digits_at}
 use Rattle.text.specs.declared.Cursor.{Cursor}
-use Rattle.text.specs.declared.Number.{Number}
-use Rattle.text.specs.declared.Number.TheVariants.{Value, NoDigit, TooLarge}
+use Rattle.text.specs.declared.FigureError.{FigureError}
+use Rattle.text.specs.declared.FigureError.TheVariants.{Absent, TooLarge}
 use Rattle.text.proofs.Answers.{by_place}
 use Rattle.jkf.specs.declared.Entry.{Entry}
 use Rattle.jkf.specs.Model.{Noted}
 use Rattle.block.specs.Encode.{comments_of, comment_text}
 use Rattle.moves.specs.Moves.{on_what, on_move_line, what_at, time_at, color_of, finished, played_line, move_line_at}
-use Rattle.moves.specs.declared.What.{What}
-use Rattle.moves.specs.declared.What.TheVariants.{Is, Nothing}
 use Rattle.moves.specs.declared.MoveLine.{MoveLine}
-use Rattle.moves.specs.declared.MoveLine.TheVariants.{Numbered, NoLine}
 use Rattle.moves.proofs.Goings.{move_goes}
 use Rattle.plays.specs.Plays.{noted, comments_at, entry_item, entries_at, number_item, numbers_at, in_sequence, sequence_at, ply_at}
 use Rattle.plays.specs.inner.Runs.{goes_on, run_at}
@@ -37,16 +35,16 @@ module _ (s : List ℕ) where
   abbrev past : Cursor → ℕ
   past c = (comments_at s c.at).at
 
-  sequence_more : (n at : ℕ) (e : Entry) (c : Cursor) → move_line_at s at ≡ Numbered n e c
+  sequence_more : (n at : ℕ) (e : Entry) (c : Cursor) → move_line_at s at ≡ Some (record { number = n; entry = e; next = c })
       → sequence_at n s at ≡ ended (sequence_at (n + 1) s (past c)).at (noted e (comments_at s c.at).state ∷ (sequence_at (n + 1) s (past c)).state)
   unfolding sequence_at in_sequence many_from entry_item
   sequence_more n at e c q = rw (numbers_more s at n e c q, eq-eqb n n refl, q)
 
-  sequence_none : (n at : ℕ) → move_line_at s at ≡ NoLine → sequence_at n s at ≡ ended at []
+  sequence_none : (n at : ℕ) → move_line_at s at ≡ None → sequence_at n s at ≡ ended at []
   unfolding sequence_at in_sequence many_from
   sequence_none n at q = rw (numbers_none s at q)
 
-  sequence_stray : (n at m : ℕ) (e : Entry) (c : Cursor) → move_line_at s at ≡ Numbered m e c → eqb m n ≡ false → sequence_at n s at ≡ ended at []
+  sequence_stray : (n at m : ℕ) (e : Entry) (c : Cursor) → move_line_at s at ≡ Some (record { number = m; entry = e; next = c }) → eqb m n ≡ false → sequence_at n s at ≡ ended at []
   unfolding sequence_at in_sequence many_from
   sequence_stray n at m e c q f = rw (numbers_more s at m e c q, f)
 
@@ -64,28 +62,28 @@ module _ (s : List ℕ) where
   -- ---- a whole line of play, or one as far as its numbers go up by one
 
   -- the number printed at a place is that of its move line
-  ply_is : (at m : ℕ) (e : Entry) (c : Cursor) → move_line_at s at ≡ Numbered m e c → ply_at s at ≡ m
+  ply_is : (at m : ℕ) (e : Entry) (c : Cursor) → move_line_at s at ≡ Some (record { number = m; entry = e; next = c }) → ply_at s at ≡ m
   unfolding move_line_at ply_at
   ply_is at m e c = go (digits_at 18446744073709551615 s (blanks_at s at))
     where
-      numbers : (n : ℕ) (w : What) → on_move_line (on_what w (λ e d. on_place (line_end_at s (time_at s (blanks_at s d.at)).next.at) (λ f. Numbered n (finished (color_of n) (time_at s (blanks_at s d.at)).time e) f) NoLine) NoLine) (λ k e c. k) n ≡ n
-      numbers n (Is e d) = by_place (λ (r : MoveLine). on_move_line r (λ k e c. k) n ≡ n) refl (line_end_at s (time_at s (blanks_at s d.at)).next.at) (λ f. refl)
-      numbers n Nothing = refl
+      numbers : (n : ℕ) (w : Option (Entry × Cursor)) → on_move_line (on_what w (λ e d. on_place (line_end_at s (time_at s (blanks_at s d.at)).next.at) (λ f. Some (record { number = n; entry = (finished (color_of n) (time_at s (blanks_at s d.at)).time e); next = f })) None) None) (λ k e c. k) n ≡ n
+      numbers n (Some (e, d)) = by_place (λ (r : Option MoveLine). on_move_line r (λ k e c. k) n ≡ n) refl (line_end_at s (time_at s (blanks_at s d.at)).next.at) (λ f. refl)
+      numbers n None = refl
 
-      none : {A : Type 0} → NoLine ≡ Numbered m e c → A
-      none q = let z : ◌≡◌ {A = ℕ} 0 1 = ap (λ (r : MoveLine). on_move_line r (λ k e c. 1) 0) q in absurd (omega arith)
+      none : {A : Type 0} → ◌≡◌ {A = Option MoveLine} None (Some (record { number = m; entry = e; next = c })) → A
+      none q = let z : ◌≡◌ {A = ℕ} 0 1 = ap (λ (r : Option MoveLine). on_move_line r (λ k e c. 1) 0) q in absurd (omega arith)
 
-      go : (r : Number) → on_number r (λ n c. played_line n s (blanks_at s c.at)) NoLine ≡ Numbered m e c → on_number r (λ n c. n) 0 ≡ m
-      go (Value n d) q = sym (numbers n (what_at s (blanks_at s d.at))) ∙ ap (λ (r : MoveLine). on_move_line r (λ k e c. k) n) q
-      go NoDigit q = none q
-      go TooLarge q = none q
+      go : (r : Result (ℕ × Cursor) FigureError) → on_number r (λ n c. played_line n s (blanks_at s c.at)) None ≡ Some (record { number = m; entry = e; next = c }) → on_number r (λ n c. n) 0 ≡ m
+      go (Ok (n, d)) q = sym (numbers n (what_at s (blanks_at s d.at))) ∙ ap (λ (r : Option MoveLine). on_move_line r (λ k e c. k) n) q
+      go (Err Absent) q = none q
+      go (Err TooLarge) q = none q
 
-  pub run_none : (any : Bool) (n at : ℕ) → move_line_at s at ≡ NoLine → run_at any n s at ≡ ended at []
+  pub run_none : (any : Bool) (n at : ℕ) → move_line_at s at ≡ None → run_at any n s at ≡ ended at []
   unfolding run_at
   run_none true n at q = entries_none s at q
   run_none false n at q = sequence_none n at q
 
-  module _ (at m : ℕ) (e : Entry) (c : Cursor) (q : move_line_at s at ≡ Numbered m e c) where
+  module _ (at m : ℕ) (e : Entry) (c : Cursor) (q : move_line_at s at ≡ Some (record { number = m; entry = e; next = c })) where
     pub run_stray : (any : Bool) (n : ℕ) → goes_on any n s at ≡ false → run_at any n s at ≡ ended at []
     unfolding run_at goes_on
     run_stray true n f = absurd (true≢false f)
@@ -97,7 +95,7 @@ module _ (s : List ℕ) where
     run_more true n f = entries-more s at m e c q
     run_more false n f =
         let k : m ≡ n = sym (ply_is at m e c q) ∙ eqb-true _ _ f in
-        sequence_more n at e c (subst (λ (j : ℕ). move_line_at s at ≡ Numbered j e c) k q)
+        sequence_more n at e c (subst (λ (j : ℕ). move_line_at s at ≡ Some (record { number = j; entry = e; next = c })) k q)
 
   pub run_room : (any : Bool) (n at : ℕ) → Within (run_at any n s at)
   unfolding run_at
@@ -112,7 +110,7 @@ module _ (s : List ℕ) where
     pub all : in_sequence n ns ≡ length ns → many_from (entry_item s) (in_sequence n ns) at ≡ r
     pub whole : (many_from (entry_item s) (in_sequence n ns) at).at ≡ length s → in_sequence n ns ≡ length ns
 
-  module _ (n at m : ℕ) (e : Entry) (c : Cursor) (q : move_line_at s at ≡ Numbered m e c) (ns : List ℕ) (r : Ended (List Noted)) where
+  module _ (n at m : ℕ) (e : Entry) (c : Cursor) (q : move_line_at s at ≡ Some (record { number = m; entry = e; next = c })) (ns : List ℕ) (r : Ended (List Noted)) where
     abbrev entry : Noted
     entry = noted e (comments_at s c.at).state
 
@@ -151,13 +149,13 @@ module _ (s : List ℕ) where
   sequenced zero n at = record { many = refl; all = λ _. refl; whole = λ _. refl }
   sequenced (suc k) n at = go (move_line_at s at) refl (sequenced k)
     where
-      go : (r : MoveLine) → move_line_at s at ≡ r → ((n at : ℕ) → Sequenced n at (many_from (number_item s) k at).state (many_from (entry_item s) k at))
+      go : (r : Option MoveLine) → move_line_at s at ≡ r → ((n at : ℕ) → Sequenced n at (many_from (number_item s) k at).state (many_from (entry_item s) k at))
           → Sequenced n at (many_from (number_item s) (suc k) at).state (many_from (entry_item s) (suc k) at)
-      go (Numbered m e c) q ih =
-          let ns = (many_from (number_item s) k (past c)).state in
-          let r = many_from (entry_item s) k (past c) in
-          rw q (by_pick (λ (u : Unit {0}). Sequenced n at (m ∷ ns) (added n at m e c q ns r r)) (eqb m n) tt tt (λ f. next_one n at m e c q ns r f (ih (n + 1) (past c))) (λ f. stray_one n at m e c q ns r f (ih n (past c)).many))
-      go NoLine q ih = rw q (record { many = refl; all = λ _. refl; whole = λ _. refl })
+      go (Some y) q ih =
+          let ns = (many_from (number_item s) k (past y.next)).state in
+          let r = many_from (entry_item s) k (past y.next) in
+          rw q (by_pick (λ (u : Unit {0}). Sequenced n at (y.number ∷ ns) (added n at y.number y.entry y.next q ns r r)) (eqb y.number n) tt tt (λ f. next_one n at y.number y.entry y.next q ns r f (ih (n + 1) (past y.next))) (λ f. stray_one n at y.number y.entry y.next q ns r f (ih n (past y.next)).many))
+      go None q ih = rw q (record { many = refl; all = λ _. refl; whole = λ _. refl })
 
   pub numbers_many : (at : ℕ) → length (numbers_at s at) ≡ length (entries_at s at).state
   unfolding numbers_at entries_at

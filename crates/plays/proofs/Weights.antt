@@ -1,5 +1,6 @@
 -- What is read takes at least as many bytes of the text as it counts: so no count overflows.
 -- Assumes nothing.
+use Rattle.std.specs.Prelude.{Option, Some, None}
 use Prim.Native.Nat.{ℕ, zero, suc, ◌+◌, ◌-◌, ◌*◌, ◌≤◌}
 use native.Mathlib.Omega.{arith}
 use mathlib.Core.Path.{◌≡◌, refl, sym, ap}
@@ -13,9 +14,7 @@ use Rattle.block.specs.Encode.{concat, comments_of, comment_text}
 use Rattle.block.proofs.Tabling.{concat-append}
 use Rattle.moves.specs.Moves.{on_remark, on_move_line, move_line_at, comment_line_at}
 use Rattle.moves.specs.declared.Remark.{Remark}
-use Rattle.moves.specs.declared.Remark.TheVariants.{Stands, NoRemark}
 use Rattle.moves.specs.declared.MoveLine.{MoveLine}
-use Rattle.moves.specs.declared.MoveLine.TheVariants.{Numbered, NoLine}
 use Rattle.moves.proofs.Goings.{move_goes, remark_goes}
 use Rattle.moves.proofs.Widths.{move-line-wide}
 use Rattle.plays.specs.Plays.{noted, comment_item, comments_at, entry_item, entries_at}
@@ -56,13 +55,13 @@ module _ (s : List ℕ) where
   unfolding comment_item
   comment_takes at next c = go (comment_line_at s at) refl
     where
-      go : (r : Remark) → comment_line_at s at ≡ r → on_remark r (λ from to n. more n.at (text_of s from to)) stop ≡ more next c → at + comment_weight c ≤ next
-      go (Stands from to n) q e =
+      go : (r : Option Remark) → comment_line_at s at ≡ r → on_remark r (λ from to n. more n.at (text_of s from to)) stop ≡ more next c → at + comment_weight c ≤ next
+      go (Some r) q e =
           let (p, w) = on_both e in
-          let h = remark_goes s at from to n q in
-          let l : length (text_of s from to) ≡ to.at - from.at = length-take-le (to.at - from.at) (drop from.at s) (rw (length-drop from.at s) (omega (arith, h.1, h.2, h.3))) in
+          let h = remark_goes s at r.from r.to r.next q in
+          let l : length (text_of s r.from r.to) ≡ r.to.at - r.from.at = length-take-le (r.to.at - r.from.at) (drop r.from.at s) (rw (length-drop r.from.at s) (omega (arith, h.1, h.2, h.3))) in
           omega (arith, p, ap length w, l, h.0, h.1, h.2)
-      go NoRemark q e = no_more e
+      go None q e = no_more e
 
   pub comments-short : (at : ℕ) → at + (length (comments_at s at).state + length (comment_text (comments_at s at).state)) ≤ (comments_at s at).at
   unfolding comments_at
@@ -94,13 +93,13 @@ module _ (s : List ℕ) where
   unfolding entry_item
   entry_takes at next x = go (move_line_at s at) refl
     where
-      go : (r : MoveLine) → move_line_at s at ≡ r
+      go : (r : Option MoveLine) → move_line_at s at ≡ r
           → on_move_line r (λ n e c. more (comments_at s c.at).at (noted e (comments_at s c.at).state)) stop ≡ more next x → at + entry_weight x ≤ next
-      go (Numbered n e c) q w =
+      go (Some r) q w =
           let (p, z) = on_both w in
-          let y : entry_weight x ≡ entry_weight (noted e (comments_at s c.at).state) = ap entry_weight (sym z) in
-          omega (arith, p, y, (move_goes s at n e c q).past, comments-short s c.at)
-      go NoLine q e = no_more e
+          let y : entry_weight x ≡ entry_weight (noted r.entry (comments_at s r.next.at).state) = ap entry_weight (sym z) in
+          omega (arith, p, y, (move_goes s at r.number r.entry r.next q).past, comments-short s r.next.at)
+      go None q e = no_more e
 
   -- so many of them as the fuel says
   entries_weigh : (k at : ℕ) → at + (length (some k at) + (length (comments_of (some k at)) + length (comment_text (comments_of (some k at))))) ≤ (many_from (entry_item s) k at).at
@@ -120,10 +119,10 @@ module _ (s : List ℕ) where
   unfolding entry_item
   entry-wide at next x = go (move_line_at s at) refl
     where
-      go : (r : MoveLine) → move_line_at s at ≡ r
+      go : (r : Option MoveLine) → move_line_at s at ≡ r
           → on_move_line r (λ n e c. more (comments_at s c.at).at (noted e (comments_at s c.at).state)) stop ≡ more next x → at + 8 ≤ next
-      go (Numbered n e c) q w = omega (arith, (on_both w).0, move-line-wide s at q, comments-from s c.at)
-      go NoLine q e = no_more e
+      go (Some r) q w = omega (arith, (on_both w).0, move-line-wide s at q, comments-from s r.next.at)
+      go None q e = no_more e
 
   pub entries-wide : (at : ℕ) → at + 8 * length (entries_at s at).state ≤ (entries_at s at).at
   unfolding entries_at

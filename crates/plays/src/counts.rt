@@ -7,8 +7,7 @@ ghost use Rattle.plays.specs.inner.Extending.{Roomy, extended};
 ghost use Rattle.plays.specs.inner.Runs.{goes_on, run_at};
 
 use crate::{Extent, Remarks};
-use moves::Remark;
-use text::{Cursor, Number, Place};
+use text::Cursor;
 
 // Comments from a place on.
 pub fn count_comments(c: Cursor, s: &[u8]) -> Remarks
@@ -21,23 +20,21 @@ pub fn count_comments(c: Cursor, s: &[u8]) -> Remarks
         if !moves::begins_comment(s, next.at) {
             return Remarks { count, bytes, next };
         }
-        let Remark::Stands(from, to, past) = moves::comment_line(next, s) else {
+        let Some(remark) = moves::comment_line(next, s) else {
             return Remarks { count, bytes, next };
         };
         count += 1;
-        bytes += to.at - from.at;
-        next = past;
+        bytes += remark.to.at - remark.from.at;
+        next = remark.next;
     }
 }
 
 // The number that is printed at a place.
+#[tactic(auto, unfolding(crate::specs::Plays::ply_at))]
 pub fn ply(c: Cursor, s: &[u8]) -> u64
     ensures { result ≡ ply_at s.now c.at }
 {
-    let Number::Value(n, _) = c.blanks(s).digits(s, u64::MAX) else {
-        return 0;
-    };
-    n
+    c.blanks(s).digits(s, u64::MAX).map_or(0, |(n, _)| n)
 }
 
 // One entry more, with its comments.
@@ -85,7 +82,7 @@ fn count_run(any: bool, c: Cursor, s: &[u8], n: u64) -> Extent
         next: c,
     };
     loop {
-        let Place::Past(past) = moves::move_line_end(x.next, s) else {
+        let Some(past) = moves::move_line_end(x.next, s) else {
             return x;
         };
         if !goes_on(any, x.next, s, n, x.entries) {
@@ -110,13 +107,11 @@ pub fn count_sequence(c: Cursor, s: &[u8], n: u64) -> Extent
 }
 
 // Past one skip line, if it is there.
+#[tactic(auto, unfolding(crate::specs::Plays::skipped_at))]
 pub fn skipped(c: Cursor, s: &[u8]) -> Cursor
     ensures { result.at ≡ skipped_at s.now c.at }
 {
-    let Place::Past(past) = moves::skip_line(c, s) else {
-        return c;
-    };
-    past
+    moves::skip_line(c, s).unwrap_or(c)
 }
 
 // Past a line of play of so many entries, which ends at a place, and past the skip line that may stand behind it; the place before it where it
@@ -135,10 +130,8 @@ pub fn skips(c: Cursor, s: &[u8]) -> Cursor
     ensures { result.at ≡ skips_at s.now c.at }
 {
     let mut next = c;
-    loop {
-        let Place::Past(past) = moves::skip_line(next, s) else {
-            return next;
-        };
+    while let Some(past) = moves::skip_line(next, s) {
         next = past;
     }
+    next
 }

@@ -7,7 +7,6 @@ ghost use Rattle.plays.specs.Losses.{one, lost_from};
 use crate::{FilledPlay, Reached};
 use filling::Walk;
 use jkf::Entry;
-use moves::{MoveLine, Remark};
 use text::Cursor;
 
 // The comments from a place on.
@@ -22,13 +21,13 @@ pub fn fill_comments(s: &[u8], c: Cursor, w: Walk, out: &mut [u8]) -> Reached
         if !moves::begins_comment(s, next.at) {
             return Reached { walk, next };
         }
-        let Remark::Stands(from, to, past) = moves::comment_line(next, s) else {
+        let Some(remark) = moves::comment_line(next, s) else {
             return Reached { walk, next };
         };
-        let start = from.at;
-        let end = to.at;
+        let start = remark.from.at;
+        let end = remark.to.at;
         walk = filling::put_comment(out, walk, &s[start..end]);
-        next = past;
+        next = remark.next;
     }
 }
 
@@ -63,11 +62,10 @@ pub fn fill_moves(s: &[u8], c: Cursor, w: Walk, out: &mut [u8]) -> FilledPlay
     let mut lost = 0;
     loop {
         let taken = moves::taken_line(next, s);
-        let line = taken.line;
-        let MoveLine::Numbered(_, e, past) = line else {
+        let Some(line) = taken.line else {
             return FilledPlay { walk, next, lost };
         };
-        let entry = fill_noted(s, e, past, walk, out);
+        let entry = fill_noted(s, line.entry, line.next, walk, out);
         walk = entry.walk;
         next = entry.next;
         lost += one(taken.lost);

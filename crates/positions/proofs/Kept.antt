@@ -1,6 +1,7 @@
 -- A step keeps the number of pieces of each kind on the board and in both hands together, promotion aside, and that of the kings; after it
 -- cells, counts and turn are in range.                                                                 (02, request i)
 -- Assumes nothing.
+use Rattle.std.specs.Prelude.{Option, Some, None}
 use Prim.Native.Nat.{ℕ, ◌+◌, ◌-◌, ◌≤◌, ◌<◌, ◌%◌}
 use native.Mathlib.Omega.{arith}
 use mathlib.Core.Path.{◌≡◌, refl, sym, ap, ◌∙◌, subst}
@@ -17,8 +18,6 @@ use Rattle.jkf.specs.declared.Move.{Move}
 use Rattle.block.specs.Sound.{is_cell}
 use Rattle.positions.specs.declared.Hindrance.{Hindrance}
 use Rattle.positions.specs.declared.Hindrance.TheVariants.{NoPromotion, OwnPiece, King, HandFull}
-use Rattle.positions.specs.declared.Verdict.{Verdict}
-use Rattle.positions.specs.declared.Verdict.TheVariants.{Goes, Stops}
 use Rattle.positions.specs.Steps.{owned, class, promoted, becomes, hand_place, for_white, other, piece_of, is_there, land_verdict, move_verdict, in_hand, drop_verdict, verdict_of, landing, leaving, one_more, one_less, moved, dropped, played, step_in, stepped}
 use Rattle.positions.specs.Pieces.{is_of, count_on_board, in_both, count_in_hands, FitDiagram, Keeps}
 use Rattle.positions.proofs.Sums.{sum-set, both_set, all_set}
@@ -26,14 +25,14 @@ use Rattle.positions.proofs.Tables.{promoted-kind, cell_held, kind-held, piece_k
 
 -- ---- a verdict that goes, taken apart
 
-stops : (r : Hindrance) → Stops r ≡ Goes → ⊥
+stops : (r : Hindrance) → Some r ≡ None → ⊥
 stops r e = let z : ◌≡◌ {A = ℕ} 0 1 = cc in omega arith
 
-not_stopped : (b : Bool) (r : Hindrance) (x : Verdict) → pick b (Stops r) x ≡ Goes → (b ≡ false) × (x ≡ Goes)
+not_stopped : (b : Bool) (r : Hindrance) (x : Option Hindrance) → pick b (Some r) x ≡ None → (b ≡ false) × (x ≡ None)
 not_stopped true r x e = absurd (stops r e)
 not_stopped false r x e = (refl, e)
 
-passed : (b : Bool) (x : Verdict) (r : Hindrance) → pick b x (Stops r) ≡ Goes → (b ≡ true) × (x ≡ Goes)
+passed : (b : Bool) (x : Option Hindrance) (r : Hindrance) → pick b x (Some r) ≡ None → (b ≡ true) × (x ≡ None)
 passed true x r e = (refl, e)
 passed false x r e = absurd (stops r e)
 
@@ -43,17 +42,17 @@ data Lands (cells hands : List ℕ) (turn d : ℕ) : Type 0 where
   takes : (get_or cells d 0 ≡ 0 → ⊥) → owned turn (get_or cells d 0) ≡ false → (get_or cells d 0 % 16 ≡ 8 → ⊥)
       → get_or hands (hand_place turn (get_or cells d 0 % 16)) 0 ≤ 254 → Lands cells hands turn d
 
-lands : (cells hands : List ℕ) (turn d : ℕ) → land_verdict cells hands turn d ≡ Goes → Lands cells hands turn d
+lands : (cells hands : List ℕ) (turn d : ℕ) → land_verdict cells hands turn d ≡ None → Lands cells hands turn d
 unfolding land_verdict
 lands cells hands turn d g = go (eqb (get_or cells d 0) 0) refl g
   where
-    rest : Verdict
+    rest : Option Hindrance
     rest =
-        pick (owned turn (get_or cells d 0)) (Stops OwnPiece)
-        (pick (eqb (get_or cells d 0 % 16) 8) (Stops King)
-        (pick (ltb 254 (get_or hands (hand_place turn (get_or cells d 0 % 16)) 0)) (Stops HandFull) Goes))
+        pick (owned turn (get_or cells d 0)) (Some OwnPiece)
+        (pick (eqb (get_or cells d 0 % 16) 8) (Some King)
+        (pick (ltb 254 (get_or hands (hand_place turn (get_or cells d 0 % 16)) 0)) (Some HandFull) None))
 
-    go : (t : Bool) → eqb (get_or cells d 0) 0 ≡ t → pick t Goes rest ≡ Goes → Lands cells hands turn d
+    go : (t : Bool) → eqb (get_or cells d 0) 0 ≡ t → pick t None rest ≡ None → Lands cells hands turn d
     go true e g = free (eqb-true _ _ e)
     go false e g =
         let (a, g₁) = not_stopped (owned turn (get_or cells d 0)) _ _ g in
@@ -151,7 +150,7 @@ cell_kind c h = go (leb c 14) refl h
 
 -- ---- a move on the board
 
-module _ (p : Position) (fit : FitDiagram p) (o d k mark : ℕ) (on : d < 81) (goes : move_verdict p.cells p.hands p.turn o d k mark ≡ Goes) where
+module _ (p : Position) (fit : FitDiagram p) (o d k mark : ℕ) (on : d < 81) (goes : move_verdict p.cells p.hands p.turn o d k mark ≡ None) where
   origin : o < 81
   unfolding move_verdict
   origin = leb-false _ _ (not_stopped (leb 81 o) _ _ goes).0
@@ -160,7 +159,7 @@ module _ (p : Position) (fit : FitDiagram p) (o d k mark : ℕ) (on : d < 81) (g
   unfolding move_verdict
   found = (passed (is_there p.cells p.turn o k) _ _ (not_stopped (leb 81 o) _ _ goes).1).0
 
-  after_found : pick (eqb (becomes k mark) 0) (Stops NoPromotion) (land_verdict p.cells p.hands p.turn d) ≡ Goes
+  after_found : pick (eqb (becomes k mark) 0) (Some NoPromotion) (land_verdict p.cells p.hands p.turn d) ≡ None
   unfolding move_verdict
   after_found = (passed (is_there p.cells p.turn o k) _ _ (not_stopped (leb 81 o) _ _ goes).1).1
 
@@ -259,7 +258,7 @@ module _ (p : Position) (fit : FitDiagram p) (o d k mark : ℕ) (on : d < 81) (g
 
 -- ---- a drop
 
-module _ (p : Position) (fit : FitDiagram p) (d k mark : ℕ) (on : d < 81) (goes : drop_verdict p.cells p.hands p.turn d k mark ≡ Goes) where
+module _ (p : Position) (fit : FitDiagram p) (d k mark : ℕ) (on : d < 81) (goes : drop_verdict p.cells p.hands p.turn d k mark ≡ None) where
   held : in_hand p.hands p.turn k ≡ true
   unfolding drop_verdict
   held = (passed (in_hand p.hands p.turn k) _ _ (not_stopped (eqb mark 2) _ _ goes).1).0
@@ -327,7 +326,7 @@ module _ (p : Position) (fit : FitDiagram p) (d k mark : ℕ) (on : d < 81) (goe
 
 -- ---- a step
 
-played_keeps : (p : Position) (last : ℕ) (m : Move) → FitDiagram p → verdict_of p last m ≡ Goes → Keeps p (played p last m)
+played_keeps : (p : Position) (last : ℕ) (m : Move) → FitDiagram p → verdict_of p last m ≡ None → Keeps p (played p last m)
 unfolding verdict_of played
 played_keeps p last m fit g =
     let (a, r) = not_stopped (leb 81 (landing last m.to)) _ _ g in
@@ -335,7 +334,7 @@ played_keeps p last m fit g =
   where
     go : (t : Bool) → landing last m.to < 81
         → pick t (drop_verdict p.cells p.hands p.turn (landing last m.to) m.piece m.promote)
-        (move_verdict p.cells p.hands p.turn (leaving m.from) (landing last m.to) m.piece m.promote) ≡ Goes
+        (move_verdict p.cells p.hands p.turn (leaving m.from) (landing last m.to) m.piece m.promote) ≡ None
         → Keeps p (pick t (dropped p (landing last m.to) m.piece) (moved p (leaving m.from) (landing last m.to) m.piece m.promote))
     go true h g = record { kinds = kept-drop p fit _ _ _ h g; kings = kings-drop p fit _ _ _ h g; fits = fit_drop p fit _ _ _ h g }
     go false h g = record { kinds = kept_move p fit _ _ _ _ h g; kings = kings-move p fit _ _ _ _ h g; fits = fit_move p fit _ _ _ _ h g }
@@ -344,19 +343,19 @@ pub step_keeps : (p : Position) (last : ℕ) (m : Move) → FitDiagram p → Kee
 unfolding stepped
 step_keeps p last m fit = go (verdict_of p last m) refl
   where
-    go : (v : Verdict) → verdict_of p last m ≡ v → Keeps p (step_in v last p (landing last m.to) (played p last m)).position
-    go Goes e = played_keeps p last m fit e
-    go (Stops r) e = record { kinds = λ j h. refl; kings = refl; fits = fit }
+    go : (v : Option Hindrance) → verdict_of p last m ≡ v → Keeps p (step_in v last p (landing last m.to) (played p last m)).position
+    go None e = played_keeps p last m fit e
+    go (Some r) e = record { kinds = λ j h. refl; kings = refl; fits = fit }
 
 -- the turn alternates with each move that is played
-pub turn_alternates : (p : Position) (last : ℕ) (m : Move) → (stepped p last m).how ≡ Goes → (stepped p last m).position.turn ≡ other p.turn
+pub turn_alternates : (p : Position) (last : ℕ) (m : Move) → (stepped p last m).how ≡ None → (stepped p last m).position.turn ≡ other p.turn
 unfolding stepped played dropped moved
 turn_alternates p last m = go (verdict_of p last m)
   where
-    go : (v : Verdict) → (step_in v last p (landing last m.to) (played p last m)).how ≡ Goes
+    go : (v : Option Hindrance) → (step_in v last p (landing last m.to) (played p last m)).how ≡ None
         → (step_in v last p (landing last m.to) (played p last m)).position.turn ≡ other p.turn
-    go (Stops r) e = absurd (stops r e)
-    go Goes e = by (eqb (leaving m.from) 82)
+    go (Some r) e = absurd (stops r e)
+    go None e = by (eqb (leaving m.from) 82)
       where
         by : (t : Bool) → (pick t (dropped p (landing last m.to) m.piece) (moved p (leaving m.from) (landing last m.to) m.piece m.promote)).turn ≡ other p.turn
         by true = refl

@@ -1,5 +1,6 @@
 -- A position keeps its 81 cells and 14 counts along any play, and one that is read off bytes has them.
 -- Assumes nothing.
+use Rattle.std.specs.Prelude.{Option, Some, None}
 use Prim.Native.Nat.{ℕ, ◌+◌}
 use mathlib.Core.Path.{◌≡◌, refl, ◌∙◌}
 use mathlib.Core.Bool.{Bool, true, false}
@@ -14,8 +15,6 @@ use Rattle.jkf.specs.declared.Position.{Position}
 use Rattle.block.specs.EntryBytes.{entry_in}
 use Rattle.block.specs.PositionBytes.{position_in}
 use Rattle.block.specs.Decode.{lines_in, move_place, first_entry, entry_count}
-use Rattle.positions.specs.declared.Verdict.{Verdict}
-use Rattle.positions.specs.declared.Verdict.TheVariants.{Goes, Stops}
 use Rattle.positions.specs.declared.Course.{Course}
 use Rattle.positions.specs.Steps.{landing, leaving, verdict_of, moved, dropped, played, step_in, stepped}
 use Rattle.jkf.specs.declared.Answer.TheVariants.{NotSound, NoSuchPart, NoStart, NoSuchEntry}
@@ -23,6 +22,7 @@ use Rattle.block.specs.Sound.{soundb}
 use Rattle.positions.specs.Paths.{hirate, no_position, start_on, EntryPlace, path_to, on_goes, entry_on, play_one, play_all, at_start, answer_by, course_answer, not_played, has_start, position_after}
 use Rattle.positions.proofs.Kept.{picked_length, raised_length, lowered-length}
 use Rattle.block.proofs.ByteArrays.{bytes-length}
+use Rattle.positions.specs.declared.Hindrance.{Hindrance}
 
 -- 81 cells and 14 counts
 pub record Long (p : Position) : Type 0 where
@@ -57,19 +57,19 @@ long-stepped : (p : Position) (last : ℕ) (m : Move) → Long p → Long (stepp
 unfolding stepped
 long-stepped p last m h = go (verdict_of p last m)
   where
-    go : (v : Verdict) → Long (step_in v last p (landing last m.to) (played p last m)).position
-    go Goes = long-played p last m h
-    go (Stops r) = h
+    go : (v : Option Hindrance) → Long (step_in v last p (landing last m.to) (played p last m)).position
+    go None = long-played p last m h
+    go (Some r) = h
 
 long-one : (b : List ℕ) (k i : ℕ) (w : Course) → Long w.position → Long (play_one b k i w).position
 unfolding play_one
 long-one b k i w h = go w.how (entry_in (drop (move_place b (first_entry b k + i)) b))
   where
-    go : (v : Verdict) (e : Entry) → Long (on_goes v w (entry_on e k i w)).position
-    go (Stops r) e = h
-    go Goes Slot = h
-    go Goes (Moved m) = long-stepped w.position w.last m h
-    go Goes (End s t) = h
+    go : (v : Option Hindrance) (e : Entry) → Long (on_goes v w (entry_on e k i w)).position
+    go (Some r) e = h
+    go None Slot = h
+    go None (Moved m) = long-stepped w.position w.last m h
+    go None (End s t) = h
 
 pub long-all : (b : List ℕ) (l : List EntryPlace) (w : Course) → Long w.position → Long (play_all b l w).position
 unfolding play_all
@@ -92,9 +92,9 @@ long_after b k e =
     go (soundb b) (ltb k (lines_in b)) (has_start (position_in (drop 28 b))) (ltb e (entry_count b k)) (play_all b (path_to b k (e + 1)) (at_start (start_on (position_in (drop 28 b)))))
     (long-all b (path_to b k (e + 1)) (at_start (start_on (position_in (drop 28 b)))) (long-start _ (long_in (drop 28 b))))
   where
-    by : (v : Verdict) (c : Course) → Long c.position → Long (answer_by v c).position
-    by Goes c h = h
-    by (Stops r) c h = record { cells = refl; hands = refl }
+    by : (v : Option Hindrance) (c : Course) → Long c.position → Long (answer_by v c).position
+    by None c h = h
+    by (Some r) c h = record { cells = refl; hands = refl }
 
     go : (s l h n : Bool) (c : Course) → Long c.position
         → Long (pick s (pick l (pick h (pick n (answer_by c.how c) (not_played (NoSuchEntry k e))) (not_played (NoStart (position_in (drop 28 b)).preset))) (not_played (NoSuchPart k))) (not_played NotSound)).position

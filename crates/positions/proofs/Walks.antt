@@ -1,5 +1,6 @@
 -- The play along a path, one piece after another; the path through a line, from its parent's.
 -- Assumes nothing.
+use Rattle.std.specs.Prelude.{Option, Some, None}
 use Prim.Native.Nat.{ℕ, zero, suc, ◌+◌, ◌-◌, ◌≤◌, ◌<◌}
 use native.Mathlib.Nat.{not-suc-le-zero, zero-add}
 use native.Mathlib.Omega.{arith}
@@ -26,8 +27,6 @@ use Rattle.jkf.specs.Answers.{figures, refuse}
 use Rattle.jkf.specs.declared.Answer.TheVariants.{Done, BufferShort, PlayStopped}
 use Rattle.positions.specs.declared.After.{After}
 use Rattle.positions.specs.declared.Hindrance.{Hindrance}
-use Rattle.positions.specs.declared.Verdict.{Verdict}
-use Rattle.positions.specs.declared.Verdict.TheVariants.{Goes, Stops}
 use Rattle.positions.specs.declared.Trail.{Trail}
 use Rattle.positions.specs.Paths.{EntryPlace, entry_place, hang_entry, path_in, path_to, play_one, play_all, no_position, trail_of, course_of, answer_by, course_answer, position_stored}
 
@@ -137,17 +136,17 @@ in_room b path l o o' e f g h k = ap₂ course_of h k ∙ g ∙ ap (play_all b p
 -- ---- the answer
 
 -- of a play that stopped
-pub answer_stopped : (c : Course) (r : Hindrance) {l : Trail} {p : Position} → c.how ≡ Stops r → l ≡ trail_of c → p ≡ no_position
+pub answer_stopped : (c : Course) (r : Hindrance) {l : Trail} {p : Position} → c.how ≡ Some r → l ≡ trail_of c → p ≡ no_position
     → record { answer = PlayStopped c.line c.entry; trail = l; position = p } ≡ course_answer c
 unfolding course_answer
 answer_stopped c r e f g =
-    ap₂ (λ (l : Trail) (p : Position). record { answer = PlayStopped c.line c.entry; trail = l; position = p }) f g ∙ sym (ap (λ (v : Verdict). answer_by v c) e)
+    ap₂ (λ (l : Trail) (p : Position). record { answer = PlayStopped c.line c.entry; trail = l; position = p }) f g ∙ sym (ap (λ (v : Option Hindrance). answer_by v c) e)
 
 -- of one that goes to the entry
-pub answer_goes : (c : Course) {l : Trail} → c.how ≡ Goes → l ≡ trail_of c → record { answer = Done 100 c.position.turn; trail = l; position = c.position } ≡ course_answer c
+pub answer_goes : (c : Course) {l : Trail} → c.how ≡ None → l ≡ trail_of c → record { answer = Done 100 c.position.turn; trail = l; position = c.position } ≡ course_answer c
 unfolding course_answer
 answer_goes c e f =
-    ap (λ (l : Trail). record { answer = Done 100 c.position.turn; trail = l; position = c.position }) f ∙ sym (ap (λ (v : Verdict). answer_by v c) e)
+    ap (λ (l : Trail). record { answer = Done 100 c.position.turn; trail = l; position = c.position }) f ∙ sym (ap (λ (v : Option Hindrance). answer_by v c) e)
 
 -- ---- into a lent buffer
 

@@ -1,6 +1,7 @@
 -- The whole play keeps what each step keeps, from 平手 or from a sound block's own diagram: so the position that is answered is a sound diagram
 -- with the pieces of the start.                                                                        (02, request (i))
 -- Assumes nothing.
+use Rattle.std.specs.Prelude.{Option, Some, None}
 use Prim.Native.Nat.{ℕ, zero, suc, ◌+◌, ◌-◌, ◌≤◌, ◌<◌}
 use native.Mathlib.Omega.{arith}
 use native.Mathlib.Decide.{dec_lt}
@@ -24,8 +25,6 @@ use Rattle.block.specs.Sound.{soundb, is_cell, fits_test}
 use Rattle.block.specs.inner.Sounds.{Sound}
 use Rattle.block.proofs.ByteArrays.{bytes-length}
 use Rattle.block.proofs.Deciding.{sound_says}
-use Rattle.positions.specs.declared.Verdict.{Verdict}
-use Rattle.positions.specs.declared.Verdict.TheVariants.{Goes, Stops}
 use Rattle.positions.specs.declared.Course.{Course}
 use Rattle.jkf.specs.Answers.{figures}
 use Rattle.jkf.specs.declared.Answer.{Answer}
@@ -35,6 +34,7 @@ use Rattle.positions.specs.Pieces.{FitDiagram, Keeps}
 use Rattle.positions.specs.Paths.{hirate_cells, hirate, start_on, at_start, has_start, EntryPlace, hang_entry, on_goes, entry_on, play_one, play_all, path_to, trail_of, course_of, answer_by, course_answer, not_played, position_after}
 use Rattle.positions.proofs.Kept.{step_keeps}
 use Rattle.positions.proofs.Walks.{play-follows, path_under, parent-before}
+use Rattle.positions.specs.declared.Hindrance.{Hindrance}
 
 -- ---- the play
 
@@ -48,11 +48,11 @@ pub one_keeps : (b : List ℕ) (k i : ℕ) (w : Course) → FitDiagram w.positio
 unfolding play_one
 one_keeps b k i w f = go w.how (entry_in (drop (move_place b (first_entry b k + i)) b))
   where
-    go : (v : Verdict) (e : Entry) → Keeps w.position (on_goes v w (entry_on e k i w)).position
-    go (Stops r) e = keeps_same w.position f
-    go Goes Slot = keeps_same w.position f
-    go Goes (Moved m) = step_keeps w.position w.last m f
-    go Goes (End s t) = keeps_same w.position f
+    go : (v : Option Hindrance) (e : Entry) → Keeps w.position (on_goes v w (entry_on e k i w)).position
+    go (Some r) e = keeps_same w.position f
+    go None Slot = keeps_same w.position f
+    go None (Moved m) = step_keeps w.position w.last m f
+    go None (End s t) = keeps_same w.position f
 
 pub all_keep : (b : List ℕ) (l : List EntryPlace) (w : Course) → FitDiagram w.position → Keeps w.position (play_all b l w).position
 unfolding play_all
@@ -167,7 +167,7 @@ reached : (b : List ℕ) (k e x y : ℕ) → (position_after b k e).answer ≡ D
 unfolding position_after course_answer figures
 reached b k e x y = go (soundb b) refl (ltb k (lines_in b)) refl (has_start (position_in (drop 28 b))) refl (ltb e (entry_count b k)) refl (course_to b k e).how refl
   where
-    A : Bool → Bool → Bool → Bool → Verdict → After
+    A : Bool → Bool → Bool → Bool → Option Hindrance → After
     A s l h n v =
         pick s
         (pick l
@@ -176,14 +176,14 @@ reached b k e x y = go (soundb b) refl (ltb k (lines_in b)) refl (has_start (pos
         (not_played NotSound)
 
     go : (s : Bool) → soundb b ≡ s → (l : Bool) → ltb k (lines_in b) ≡ l → (h : Bool) → has_start (position_in (drop 28 b)) ≡ h → (n : Bool) → ltb e (entry_count b k) ≡ n
-        → (v : Verdict) → (course_to b k e).how ≡ v → (A s l h n v).answer ≡ Done x y → Reached b k e
+        → (v : Option Hindrance) → (course_to b k e).how ≡ v → (A s l h n v).answer ≡ Done x y → Reached b k e
     go false q l r h t n w v u z = absurd (omega (arith, ap num z))
     go true q false r h t n w v u z = absurd (omega (arith, ap num z))
     go true q true r false t n w v u z = absurd (omega (arith, ap num z))
     go true q true r true t false w v u z = absurd (omega (arith, ap num z))
-    go true q true r true t true w (Stops a) u z = absurd (omega (arith, ap num z))
-    go true q true r true t true w Goes u z =
-        record { sound = q; line = r; start = t; after = rw (q, r, t, w) (ap (λ (g : Verdict). answer_by g (course_to b k e)) u) }
+    go true q true r true t true w (Some a) u z = absurd (omega (arith, ap num z))
+    go true q true r true t true w None u z =
+        record { sound = q; line = r; start = t; after = rw (q, r, t, w) (ap (λ (g : Option Hindrance). answer_by g (course_to b k e)) u) }
 
 -- what is answered as done has the pieces of the start, and is a sound diagram
 pub answer_keeps : (b : List ℕ) (k e x y : ℕ) → ((k : ℕ) → get_or b k 0 < 256) → (position_after b k e).answer ≡ Done x y

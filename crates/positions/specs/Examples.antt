@@ -1,41 +1,38 @@
 -- Games worked out: 平手, ７六歩 ３四歩 ２二角成 同銀 ４五角打, with the hands and cells after each; and each reason to stop.
 -- Assumes nothing: these are definitions.
-use Rattle.std.specs.Prelude.{ℕ, ◌+◌, ◌*◌, ◌-◌, ◌≡◌, [], ◌∷◌, get_or, replicate}
+use Rattle.std.specs.Prelude.{ℕ, ◌+◌, ◌*◌, ◌-◌, ◌≡◌, [], ◌∷◌, get_or, replicate, Option, Some, None}
 use Rattle.jkf.specs.declared.Target.{Target}
 use Rattle.jkf.specs.declared.Target.TheVariants.{Same, Square}
-use Rattle.jkf.specs.declared.Origin.{Origin}
-use Rattle.jkf.specs.declared.Origin.TheVariants.{Unknown, From}
 use Rattle.jkf.specs.declared.Time.TheVariants.{Untimed}
 use Rattle.jkf.specs.declared.Move.{Move}
 use Rattle.jkf.specs.declared.Position.{Position}
 use Rattle.positions.specs.declared.Hindrance.TheVariants.{NoneBefore, OffBoard, NotThere, NoPromotion, OwnPiece, King, HandFull, NotInHand, OntoPiece}
-use Rattle.positions.specs.declared.Verdict.{Verdict}
-use Rattle.positions.specs.declared.Verdict.TheVariants.{Goes, Stops}
 use Rattle.positions.specs.declared.Stepping.{Stepping}
 use Rattle.positions.specs.Steps.{stepped}
 use Rattle.positions.specs.Paths.{hirate}
+use Rattle.positions.specs.declared.Hindrance.{Hindrance}
 
 -- a move of a kind with its mark; its colour is wrong on purpose, since it is not used
-abbrev pub example_move : ℕ → ℕ → Target → Origin → Move
+abbrev pub example_move : ℕ → ℕ → Target → Option (ℕ × ℕ) → Move
 example_move k mark to from = record { color = 1; piece = k; promote = mark; to = to; from = from; time = Untimed }
 
 abbrev pub then_played : Stepping → Move → Stepping
 then_played s m = stepped s.position s.last m
 
 abbrev pub hirate_start : Stepping
-hirate_start = record { how = Goes; last = 81; position = hirate }
+hirate_start = record { how = None; last = 81; position = hirate }
 
 abbrev pub cell_on : Stepping → ℕ → ℕ → ℕ
 cell_on s x y = get_or s.position.cells (9 * (x - 1) + (y - 1)) 0
 
 abbrev pub after_three : Stepping
-after_three = then_played (then_played (then_played hirate_start (example_move 1 0 (Square 7 6) (From 7 7))) (example_move 1 0 (Square 3 4) (From 3 3))) (example_move 6 2 (Square 2 2) (From 8 8))
+after_three = then_played (then_played (then_played hirate_start (example_move 1 0 (Square 7 6) (Some (7, 7)))) (example_move 1 0 (Square 3 4) (Some (3, 3)))) (example_move 6 2 (Square 2 2) (Some (8, 8)))
 
 abbrev pub after_four : Stepping
-after_four = then_played after_three (example_move 4 0 Same (From 3 1))
+after_four = then_played after_three (example_move 4 0 Same (Some (3, 1)))
 
 abbrev pub after_five : Stepping
-after_five = then_played after_four (example_move 6 0 (Square 4 5) (From 0 0))
+after_five = then_played after_four (example_move 6 0 (Square 4 5) (Some (0, 0)))
 
 -- after ２二角成: 馬 on 2二, 8八 is empty, a bishop in Black's hand, White to move
 abbrev pub ThreeRight : Type 0
@@ -60,15 +57,15 @@ FiveRight =
 abbrev pub bare_board : Position
 bare_board = record { preset = 16; board = 1; turn = 0; cells = 7 ∷ 24 ∷ 17 ∷ replicate 78 0; hands = 255 ∷ replicate 13 0 }
 
-abbrev pub verdict_on : Position → ℕ → Move → Verdict
+abbrev pub verdict_on : Position → ℕ → Move → Option Hindrance
 verdict_on p last m = (stepped p last m).how
 
 abbrev pub StopsRight : Type 0
 StopsRight =
-    (verdict_on hirate 81 (example_move 1 0 Same (From 7 7)) ∷ verdict_on hirate 81 (example_move 1 0 (Square 0 6) (From 7 7)) ∷ verdict_on hirate 81 (example_move 1 0 (Square 7 6) (From 0 7))
-    ∷ verdict_on hirate 81 (example_move 1 0 (Square 7 5) (From 7 6)) ∷ verdict_on hirate 81 (example_move 1 0 (Square 3 4) (From 3 3)) ∷ verdict_on hirate 81 (example_move 2 0 (Square 7 6) (From 7 7))
-    ∷ verdict_on hirate 81 (example_move 7 0 (Square 2 7) (From 2 8)) ∷ verdict_on hirate 81 (example_move 5 2 (Square 4 8) (From 4 9))
-    ∷ verdict_on bare_board 81 (example_move 1 2 (Square 5 5) Unknown) ∷ verdict_on bare_board 81 (example_move 2 0 (Square 5 5) Unknown) ∷ verdict_on bare_board 81 (example_move 1 0 (Square 1 3) (From 0 0))
-    ∷ verdict_on bare_board 81 (example_move 7 0 (Square 1 2) (From 1 1)) ∷ verdict_on bare_board 81 (example_move 7 0 (Square 1 3) (From 1 1)) ∷ verdict_on bare_board 81 (example_move 1 0 (Square 5 5) Unknown) ∷ [])
-    ≡ Stops NoneBefore ∷ Stops OffBoard ∷ Stops OffBoard ∷ Stops NotThere ∷ Stops NotThere ∷ Stops NotThere ∷ Stops OwnPiece ∷ Stops NoPromotion
-    ∷ Stops NoPromotion ∷ Stops NotInHand ∷ Stops OntoPiece ∷ Stops King ∷ Stops HandFull ∷ Goes ∷ []
+    (verdict_on hirate 81 (example_move 1 0 Same (Some (7, 7))) ∷ verdict_on hirate 81 (example_move 1 0 (Square 0 6) (Some (7, 7))) ∷ verdict_on hirate 81 (example_move 1 0 (Square 7 6) (Some (0, 7)))
+    ∷ verdict_on hirate 81 (example_move 1 0 (Square 7 5) (Some (7, 6))) ∷ verdict_on hirate 81 (example_move 1 0 (Square 3 4) (Some (3, 3))) ∷ verdict_on hirate 81 (example_move 2 0 (Square 7 6) (Some (7, 7)))
+    ∷ verdict_on hirate 81 (example_move 7 0 (Square 2 7) (Some (2, 8))) ∷ verdict_on hirate 81 (example_move 5 2 (Square 4 8) (Some (4, 9)))
+    ∷ verdict_on bare_board 81 (example_move 1 2 (Square 5 5) None) ∷ verdict_on bare_board 81 (example_move 2 0 (Square 5 5) None) ∷ verdict_on bare_board 81 (example_move 1 0 (Square 1 3) (Some (0, 0)))
+    ∷ verdict_on bare_board 81 (example_move 7 0 (Square 1 2) (Some (1, 1))) ∷ verdict_on bare_board 81 (example_move 7 0 (Square 1 3) (Some (1, 1))) ∷ verdict_on bare_board 81 (example_move 1 0 (Square 5 5) None) ∷ [])
+    ≡ Some NoneBefore ∷ Some OffBoard ∷ Some OffBoard ∷ Some NotThere ∷ Some NotThere ∷ Some NotThere ∷ Some OwnPiece ∷ Some NoPromotion
+    ∷ Some NoPromotion ∷ Some NotInHand ∷ Some OntoPiece ∷ Some King ∷ Some HandFull ∷ None ∷ []

@@ -1,6 +1,6 @@
 -- The start of a record, the path to an entry and the play along it.                                  (02, request (i))
 -- Assumes nothing: these are definitions.
-use Rattle.std.specs.Prelude.{ℕ, zero, suc, ◌+◌, ◌-◌, List, [], ◌∷◌, ◌++◌, Bool, true, length, drop, replicate, eqb, ltb}
+use Rattle.std.specs.Prelude.{ℕ, zero, suc, ◌+◌, ◌-◌, List, [], ◌∷◌, ◌++◌, Bool, true, length, drop, replicate, eqb, ltb, Option, Some, None}
 use Rattle.lists.specs.Pick.{pick}
 use Rattle.block.specs.EntryBytes.{entry_in}
 use Rattle.jkf.specs.Answers.{figures, Outcome, refuse}
@@ -10,8 +10,6 @@ use Rattle.jkf.specs.declared.Entry.TheVariants.{Slot, Moved, End}
 use Rattle.jkf.specs.declared.Position.{Position}
 use Rattle.block.specs.Decode.{run, lines_in, move_place, start_of, first_entry, entry_count, parent_of}
 use Rattle.block.specs.Sound.{soundb}
-use Rattle.positions.specs.declared.Verdict.{Verdict}
-use Rattle.positions.specs.declared.Verdict.TheVariants.{Goes, Stops}
 use Rattle.positions.specs.declared.Stepping.{Stepping}
 use Rattle.positions.specs.declared.Course.{Course}
 use Rattle.jkf.specs.declared.Answer.{Answer}
@@ -19,6 +17,7 @@ use Rattle.jkf.specs.declared.Answer.TheVariants.{Done, BufferShort, NotSound, N
 use Rattle.positions.specs.declared.Trail.{Trail}
 use Rattle.positions.specs.declared.After.{After}
 use Rattle.positions.specs.Steps.{stepped}
+use Rattle.positions.specs.declared.Hindrance.{Hindrance}
 
 -- ---- the start
 
@@ -47,13 +46,13 @@ no_position = record { preset = 0; board = 0; turn = 0; cells = replicate 81 0; 
 unfoldable pub start_on : Position → Position
 start_on p = pick (eqb p.board 0) hirate p
 
--- A course of play: whether it goes on, the line and entry of its last move or of the one that stopped it, the place of the last landing, the position.
-abbrev pub course : Verdict → ℕ → ℕ → ℕ → Position → Course
+-- A course of play: what stopped it, if anything; the line and entry of its last move or of the one that stopped it; the place of the last landing; the position.
+abbrev pub course : Option Hindrance → ℕ → ℕ → ℕ → Position → Course
 course how line entry last p = record { how = how; line = line; entry = entry; last = last; position = p }
 
 -- Before any move: there is no landing yet, which is place 81.
 abbrev pub no_trail : Trail
-no_trail = record { how = Goes; line = 0; entry = 0; last = 81 }
+no_trail = record { how = None; line = 0; entry = 0; last = 81 }
 
 -- All of a course but the position, and the way back.
 abbrev pub trail_of : Course → Trail
@@ -97,9 +96,9 @@ abbrev pub step_on : Stepping → ℕ → ℕ → Course
 step_on s k i = course s.how k i s.last s.position
 
 -- A play that has stopped stays.
-abbrev pub on_goes : Verdict → Course → Course → Course
-on_goes Goes w v = v
-on_goes (Stops r) w v = w
+abbrev pub on_goes : Option Hindrance → Course → Course → Course
+on_goes None w v = v
+on_goes (Some r) w v = w
 
 -- Slots and specials are passed over.
 abbrev pub entry_on : Entry → ℕ → ℕ → Course → Course
@@ -119,9 +118,9 @@ play_all b (s ∷ l) w = play_all b l (play_one b s.line s.entry w)
 -- ---- the answer                                                                                     (02, request (i): Refusals)
 
 -- Where the play goes to the entry: 100 bytes, the side to move, and the position; else the line and entry where it stopped.
-abbrev pub answer_by : Verdict → Course → After
-answer_by Goes c = record { answer = Done 100 c.position.turn; trail = trail_of c; position = c.position }
-answer_by (Stops r) c = record { answer = PlayStopped c.line c.entry; trail = trail_of c; position = no_position }
+abbrev pub answer_by : Option Hindrance → Course → After
+answer_by None c = record { answer = Done 100 c.position.turn; trail = trail_of c; position = c.position }
+answer_by (Some r) c = record { answer = PlayStopped c.line c.entry; trail = trail_of c; position = no_position }
 
 unfoldable pub course_answer : Course → After
 course_answer c = answer_by c.how c

@@ -1,17 +1,13 @@
 -- One step of play on a position. A place is 9 * (file - 1) + (rank - 1), as the cells lie.            (02, request (i))
 -- Assumes nothing: these are definitions.
-use Rattle.std.specs.Prelude.{ℕ, ◌+◌, ◌*◌, ◌-◌, ◌%◌, List, [], ◌∷◌, Bool, false, get_or, set, eqb, leb, ltb}
+use Rattle.std.specs.Prelude.{ℕ, ◌+◌, ◌*◌, ◌-◌, ◌%◌, List, [], ◌∷◌, Bool, false, get_or, set, eqb, leb, ltb, Option, Some, None}
 use Rattle.lists.specs.Pick.{pick}
 use Rattle.jkf.specs.declared.Target.{Target}
 use Rattle.jkf.specs.declared.Target.TheVariants.{Same, Square}
-use Rattle.jkf.specs.declared.Origin.{Origin}
-use Rattle.jkf.specs.declared.Origin.TheVariants.{Unknown, From}
 use Rattle.jkf.specs.declared.Move.{Move}
 use Rattle.jkf.specs.declared.Position.{Position}
 use Rattle.positions.specs.declared.Hindrance.{Hindrance}
 use Rattle.positions.specs.declared.Hindrance.TheVariants.{NoneBefore, OffBoard, NotThere, NoPromotion, OwnPiece, King, HandFull, NotInHand, OntoPiece}
-use Rattle.positions.specs.declared.Verdict.{Verdict}
-use Rattle.positions.specs.declared.Verdict.TheVariants.{Goes, Stops}
 use Rattle.positions.specs.declared.Stepping.{Stepping}
 
 -- ---- places
@@ -26,9 +22,9 @@ landing last Same = last
 landing last (Square x y) = cell_place x y
 
 -- 82 for a drop: origin (0,0) or none.                                                              (02, request (i): "A drop is")
-unfoldable pub leaving : Origin → ℕ
-leaving Unknown = 82
-leaving (From x y) = pick (eqb x 0) (pick (eqb y 0) 82 (cell_place x y)) (cell_place x y)
+unfoldable pub leaving : Option (ℕ × ℕ) → ℕ
+leaving None = 82
+leaving (Some (x, y)) = pick (eqb x 0) (pick (eqb y 0) 82 (cell_place x y)) (cell_place x y)
 
 -- ---- pieces
 
@@ -76,41 +72,41 @@ unfoldable pub is_there : List ℕ → ℕ → ℕ → ℕ → Bool
 is_there cells turn o k = pick (owned turn (get_or cells o 0)) (eqb (get_or cells o 0 % 16) k) false
 
 -- "a landing on one's own piece", "the taking of a king", "a hand that would pass 255"
-unfoldable pub land_verdict : List ℕ → List ℕ → ℕ → ℕ → Verdict
+unfoldable pub land_verdict : List ℕ → List ℕ → ℕ → ℕ → Option Hindrance
 land_verdict cells hands turn d =
     pick (eqb (get_or cells d 0) 0)
-    Goes
+    None
     (pick (owned turn (get_or cells d 0))
-    (Stops OwnPiece)
+    (Some OwnPiece)
     (pick (eqb (get_or cells d 0 % 16) 8)
-    (Stops King)
-    (pick (ltb 254 (get_or hands (hand_place turn (get_or cells d 0 % 16)) 0)) (Stops HandFull) Goes)))
+    (Some King)
+    (pick (ltb 254 (get_or hands (hand_place turn (get_or cells d 0 % 16)) 0)) (Some HandFull) None)))
 
 -- A move on the board from o to d; "a promotion .. of a kind that has none".
-unfoldable pub move_verdict : List ℕ → List ℕ → ℕ → ℕ → ℕ → ℕ → ℕ → Verdict
+unfoldable pub move_verdict : List ℕ → List ℕ → ℕ → ℕ → ℕ → ℕ → ℕ → Option Hindrance
 move_verdict cells hands turn o d k mark =
     pick (leb 81 o)
-    (Stops OffBoard)
+    (Some OffBoard)
     (pick (is_there cells turn o k)
-    (pick (eqb (becomes k mark) 0) (Stops NoPromotion) (land_verdict cells hands turn d))
-    (Stops NotThere))
+    (pick (eqb (becomes k mark) 0) (Some NoPromotion) (land_verdict cells hands turn d))
+    (Some NotThere))
 
 -- "a drop without the piece in hand"
 unfoldable pub in_hand : List ℕ → ℕ → ℕ → Bool
 in_hand hands turn k = pick (ltb k 1) false (pick (ltb 7 k) false (ltb 0 (get_or hands (hand_place turn k) 0)))
 
 -- "a promotion on a drop", "a drop .. onto a piece"
-unfoldable pub drop_verdict : List ℕ → List ℕ → ℕ → ℕ → ℕ → ℕ → Verdict
+unfoldable pub drop_verdict : List ℕ → List ℕ → ℕ → ℕ → ℕ → ℕ → Option Hindrance
 drop_verdict cells hands turn d k mark =
     pick (eqb mark 2)
-    (Stops NoPromotion)
-    (pick (in_hand hands turn k) (pick (eqb (get_or cells d 0) 0) Goes (Stops OntoPiece)) (Stops NotInHand))
+    (Some NoPromotion)
+    (pick (in_hand hands turn k) (pick (eqb (get_or cells d 0) 0) None (Some OntoPiece)) (Some NotInHand))
 
 -- A landing that is no place comes first; then what stops a drop, or a move on the board.
-unfoldable pub verdict_of : Position → ℕ → Move → Verdict
+unfoldable pub verdict_of : Position → ℕ → Move → Option Hindrance
 verdict_of p last m =
     pick (leb 81 (landing last m.to))
-    (Stops (missing m.to))
+    (Some (missing m.to))
     (pick (eqb (leaving m.from) 82)
     (drop_verdict p.cells p.hands p.turn (landing last m.to) m.piece m.promote)
     (move_verdict p.cells p.hands p.turn (leaving m.from) (landing last m.to) m.piece m.promote))
@@ -156,9 +152,9 @@ played p last m =
 -- ---- the step
 
 -- Where the play goes on, the new position and where the move landed; where it stops, what was before.
-abbrev pub step_in : Verdict → ℕ → Position → ℕ → Position → Stepping
-step_in Goes last p d q = record { how = Goes; last = d; position = q }
-step_in (Stops r) last p d q = record { how = Stops r; last = last; position = p }
+abbrev pub step_in : Option Hindrance → ℕ → Position → ℕ → Position → Stepping
+step_in None last p d q = record { how = None; last = d; position = q }
+step_in (Some r) last p d q = record { how = Some r; last = last; position = p }
 
 -- One move played on a position, after the place of the last landing.
 unfoldable pub stepped : Position → ℕ → Move → Stepping

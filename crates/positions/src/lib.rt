@@ -23,25 +23,18 @@ pub enum Hindrance {
     OntoPiece,
 }
 
-// Whether the play goes on.
-#[derive(Clone, Copy)]
-pub enum Verdict {
-    Goes,
-    Stops(Hindrance),
-}
-
-// A position after a step: whether the move could be played, the place of the last landing (81 for none), the position.
+// A position after a step: what stopped it, if anything; the place of the last landing (81 for none); the position.
 #[derive(Clone, Copy)]
 pub struct Stepping {
-    pub how: Verdict,
+    pub how: Option<Hindrance>,
     pub last: usize,
     pub position: Position,
 }
 
-// A course of play: whether it goes on, the line and entry of its last move or of the one that stopped it, the place of the last landing, the position.
+// A course of play: what stopped it, if anything; the line and entry of its last move or of the one that stopped it; the place of the last landing; the position.
 #[derive(Clone, Copy)]
 pub struct Course {
-    pub how: Verdict,
+    pub how: Option<Hindrance>,
     pub line: usize,
     pub entry: usize,
     pub last: usize,
@@ -51,7 +44,7 @@ pub struct Course {
 // All of a course but the position.
 #[derive(Clone, Copy)]
 pub struct Trail {
-    pub how: Verdict,
+    pub how: Option<Hindrance>,
     pub line: usize,
     pub entry: usize,
     pub last: usize,

@@ -2,12 +2,12 @@
 ghost use Rattle.std.specs.Prelude.{◌≡◌, ◌+◌, ◌≤◌, ◌<◌, length};
 ghost use Rattle.block.specs.PositionBytes.{position_in};
 ghost use Rattle.block.specs.Decode.{run, lines_in, first_entry, entry_count};
-ghost use Rattle.block.specs.inner.Sounds.{Sound};
 ghost use Rattle.positions.specs.Steps.{stepped};
 ghost use Rattle.positions.specs.Paths.{entry_place, hang_entry, path_to, step_on, play_one, play_all, trail_of, course_of, at_start, course_answer, not_played, position_after, position_put};
 
 use crate::steps::play_step;
-use crate::{After, Course, Trail, Verdict, starts};
+use crate::{After, Course, Trail, starts};
+use block::SoundBlock;
 use jkf::{Answer, Entry, Move, Position};
 
 // A move played on.
@@ -32,7 +32,7 @@ fn play_one(b: &[u8], k: u16, i: usize, w: Course) -> Course
     ensures { result ≡ play_one b.now k i w }
 {
     let how = w.how;
-    let Verdict::Goes = how else {
+    let None = how else {
         return w;
     };
     let row = block::first_entry(b, k) + i;
@@ -49,10 +49,8 @@ fn play_line(b: &[u8], k: u16, n: usize, before: Course) -> Course
     ensures { result ≡ play_all b.now (run (entry_place k) 0 n) before }
 {
     let mut w = before;
-    let mut i = 0;
-    while i < n {
+    for i in 0..n {
         w = play_one(b, k, i, w);
-        i += 1;
     }
     w
 }
@@ -64,10 +62,7 @@ fn hang_entry(b: &[u8], k: u16) -> usize
     let p = block::parent_of(b, k);
     let s = block::start_of(b, k);
     let t = block::start_of(b, p as u16);
-    if s < t {
-        return 0;
-    }
-    s - t
+    s.saturating_sub(t)
 }
 
 // A course from its parts, and all of it but the position.
@@ -108,22 +103,22 @@ fn play_in(b: &[u8], k: u16, n: usize, l: Trail, room: &mut [u8]) -> Trail
 }
 
 // The path through the first n entries of line k. The position stands in the room, so that a call of this is small.
-fn play_to(b: &[u8], k: u16, n: usize, l: Trail, room: &mut [u8]) -> Trail
-    requires { Sound b.now × (k < lines_in b.now) × (n ≤ entry_count b.now k) × (100 ≤ length room.old) }
-    ensures { course_of result (position_in room.new) ≡ play_all b.now (path_to b.now k n) (course_of l (position_in room.old)) }
+fn play_to(b: SoundBlock, k: u16, n: usize, l: Trail, room: &mut [u8]) -> Trail
+    requires { (k < lines_in b.bytes.now) × (n ≤ entry_count b.bytes.now k) × (100 ≤ length room.old) }
+    ensures { course_of result (position_in room.new) ≡ play_all b.entry.bytes.now (path_to b.entry.bytes.now k n) (course_of l (position_in room.old)) }
 {
-    let p = block::parent_of(b, k);
+    let p = block::parent_of(b.bytes, k);
     if p < k as usize {
-        let before = play_to(b, p as u16, hang_entry(b, k), l, room);
-        return play_in(b, k, n, before, room);
+        let before = play_to(b, p as u16, hang_entry(b.bytes, k), l, room);
+        return play_in(b.bytes, k, n, before, room);
     }
-    play_in(b, k, n, l, room)
+    play_in(b.bytes, k, n, l, room)
 }
 
 // The whole path, from a position on.
-fn play_from(b: &[u8], k: u16, n: usize, start: Position) -> Course
-    requires { Sound b.now × (k < lines_in b.now) × (n ≤ entry_count b.now k) × (length start.cells ≡ 81) × (length start.hands ≡ 14) }
-    ensures { result ≡ play_all b.now (path_to b.now k n) (at_start start) }
+fn play_from(b: SoundBlock, k: u16, n: usize, start: Position) -> Course
+    requires { (k < lines_in b.bytes.now) × (n ≤ entry_count b.bytes.now k) × (length start.cells ≡ 81) × (length start.hands ≡ 14) }
+    ensures { result ≡ play_all b.entry.bytes.now (path_to b.entry.bytes.now k n) (at_start start) }
 {
     let mut room = [0u8; 100];
     block::put_position(&mut room, 0, start);
@@ -136,7 +131,7 @@ fn course_answer(c: Course) -> After
 {
     let how = c.how;
     let trail = trail_of(c);
-    let Verdict::Goes = how else {
+    let None = how else {
         return After {
             answer: Answer::PlayStopped(c.line as u64, c.entry as u64),
             trail,
@@ -165,9 +160,9 @@ fn not_played(answer: Answer) -> After
 pub fn position_after(b: &[u8], line: u64, entry: u64) -> After
     ensures { result ≡ position_after b.now line entry }
 {
-    if !block::sound(b) {
+    let Some(sound) = SoundBlock::of(b) else {
         return not_played(Answer::NotSound);
-    }
+    };
     if block::lines_in(b) as u64 <= line {
         return not_played(Answer::NoSuchPart(line));
     }
@@ -179,7 +174,7 @@ pub fn position_after(b: &[u8], line: u64, entry: u64) -> After
     if block::entry_count(b, k) as u64 <= entry {
         return not_played(Answer::NoSuchEntry(line, entry));
     }
-    course_answer(play_from(b, k, entry as usize + 1, starts::start_on(p)))
+    course_answer(play_from(sound, k, entry as usize + 1, starts::start_on(p)))
 }
 
 // The same, its 100 bytes put at the front of a lent buffer.
@@ -189,7 +184,7 @@ pub fn store_position(b: &[u8], line: u64, entry: u64, out: &mut [u8]) -> Answer
 {
     let a = position_after(b, line, entry);
     let answer = a.answer;
-    if jkf::figures_of(answer).number != 0 {
+    if jkf::Figures::from(answer).number != 0 {
         return answer;
     }
     if out.len() < 100 {

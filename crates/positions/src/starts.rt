@@ -2,7 +2,7 @@
 ghost use Rattle.std.specs.Prelude.{◌≡◌};
 ghost use Rattle.positions.specs.Paths.{hirate, no_position, start_on, no_trail, has_start};
 
-use crate::{Trail, Verdict};
+use crate::Trail;
 use jkf::Position;
 
 // 平手: a row is a file, file 1 first, rank 1 first in it.
@@ -49,19 +49,13 @@ pub(crate) fn no_position() -> Position
 pub(crate) fn has_start(p: Position) -> bool
     ensures { result ≡ has_start p }
 {
-    if p.board == 0 {
-        return p.preset == 0;
-    }
-    true
+    p.board != 0 || p.preset == 0
 }
 
 pub(crate) fn start_on(p: Position) -> Position
     ensures { result ≡ start_on p }
 {
-    if p.board == 0 {
-        return hirate();
-    }
-    p
+    if p.board == 0 { hirate() } else { p }
 }
 
 // A play before its first move, but for its position.
@@ -69,7 +63,7 @@ pub(crate) fn no_trail() -> Trail
     ensures { result ≡ no_trail }
 {
     Trail {
-        how: Verdict::Goes,
+        how: None,
         line: 0,
         entry: 0,
         last: 81,

@@ -2,23 +2,15 @@
 ghost use Rattle.std.specs.Prelude.{◌≡◌, ◌≤◌, set};
 ghost use Rattle.positions.specs.Steps.{cell_place, landing, leaving, missing, for_white, owned, class, promoted, piece_of, becomes, is_there, land_verdict, move_verdict, in_hand, drop_verdict, verdict_of, one_more, one_less, hand_place, moved, dropped, other, played, stepped};
 
-use crate::{Hindrance, Stepping, Verdict};
-use jkf::{Move, Origin, Position, Target};
+use crate::{Hindrance, Stepping};
+use jkf::{Move, Position, Target};
 
 // The place of a file and a rank; 81 off the board.
+#[tactic(auto, unfolding(crate::specs::Steps::cell_place))]
 fn cell_place(x: u8, y: u8) -> usize
     ensures { result ≡ cell_place x y }
 {
-    if x < 1 {
-        return 81;
-    }
-    if 9 < x {
-        return 81;
-    }
-    if y < 1 {
-        return 81;
-    }
-    if 9 < y {
+    if !(1..=9).contains(&x) || !(1..=9).contains(&y) {
         return 81;
     }
     9 * (lent::wide(x) - 1) + (lent::wide(y) - 1)
@@ -35,19 +27,14 @@ fn landing(last: usize, to: Target) -> usize
 }
 
 // Where it comes from: a place, 81 off the board, 82 from the hand.
-fn leaving(from: Origin) -> usize
+#[tactic(auto, unfolding(crate::specs::Steps::leaving))]
+fn leaving(from: Option<(u8, u8)>) -> usize
     ensures { result ≡ leaving from }
 {
-    let Origin::From(x, y) = from else {
-        return 82;
-    };
-    if x != 0 {
-        return cell_place(x, y);
+    match from {
+        None | Some((0, 0)) => 82,
+        Some((x, y)) => cell_place(x, y),
     }
-    if y != 0 {
-        return cell_place(x, y);
-    }
-    82
 }
 
 // Why it lands nowhere.
@@ -68,16 +55,15 @@ fn for_white(turn: u8, n: usize) -> usize
 }
 
 // Whether a cell holds a piece of the side to move.
+#[tactic(auto, unfolding(crate::specs::Steps::owned))]
 fn owned(turn: u8, c: u8) -> bool
     ensures { result ≡ owned turn c }
 {
     if turn == 0 {
-        if c < 1 {
-            return false;
-        }
-        return c < 16;
+        (1..16).contains(&c)
+    } else {
+        16 <= c
     }
-    16 <= c
 }
 
 // The kind as it is held, from 0; 7 for a king, 8 for none.
@@ -108,10 +94,7 @@ fn hand_place(turn: u8, k: u8) -> usize
 fn piece_of(turn: u8, k: u8) -> u8
     ensures { result ≡ piece_of turn k }
 {
-    if turn == 0 {
-        return k % 16;
-    }
-    16 + k % 16
+    if turn == 0 { k % 16 } else { 16 + k % 16 }
 }
 
 fn becomes(k: u8, mark: u8) -> u8
@@ -125,30 +108,27 @@ fn is_there(cells: &[u8], turn: u8, o: usize, k: u8) -> bool
     ensures { result ≡ is_there cells.now turn o k }
 {
     let c = lent::peek(cells, o);
-    if !owned(turn, c) {
-        return false;
-    }
-    c % 16 == k
+    owned(turn, c) && c % 16 == k
 }
 
 // Whether it may land there, and what it takes may be held.
-fn land_verdict(cells: &[u8], hands: &[u8], turn: u8, d: usize) -> Verdict
+fn land_verdict(cells: &[u8], hands: &[u8], turn: u8, d: usize) -> Option<Hindrance>
     ensures { result ≡ land_verdict cells.now hands.now turn d }
 {
     let c = lent::peek(cells, d);
     if c == 0 {
-        return Verdict::Goes;
+        return None;
     }
     if owned(turn, c) {
-        return Verdict::Stops(Hindrance::OwnPiece);
+        return Some(Hindrance::OwnPiece);
     }
     if c % 16 == 8 {
-        return Verdict::Stops(Hindrance::King);
+        return Some(Hindrance::King);
     }
     if 254 < lent::peek(hands, hand_place(turn, c % 16)) {
-        return Verdict::Stops(Hindrance::HandFull);
+        return Some(Hindrance::HandFull);
     }
-    Verdict::Goes
+    None
 }
 
 fn move_verdict(
@@ -159,87 +139,76 @@ fn move_verdict(
     d: usize,
     k: u8,
     mark: u8,
-) -> Verdict
+) -> Option<Hindrance>
     ensures { result ≡ move_verdict cells.now hands.now turn o d k mark }
 {
     if 81 <= o {
-        return Verdict::Stops(Hindrance::OffBoard);
+        return Some(Hindrance::OffBoard);
     }
     if !is_there(cells, turn, o, k) {
-        return Verdict::Stops(Hindrance::NotThere);
+        return Some(Hindrance::NotThere);
     }
     if becomes(k, mark) == 0 {
-        return Verdict::Stops(Hindrance::NoPromotion);
+        return Some(Hindrance::NoPromotion);
     }
     land_verdict(cells, hands, turn, d)
 }
 
+#[tactic(auto, unfolding(crate::specs::Steps::in_hand))]
 fn in_hand(hands: &[u8], turn: u8, k: u8) -> bool
     ensures { result ≡ in_hand hands.now turn k }
 {
-    if k < 1 {
-        return false;
-    }
-    if 7 < k {
-        return false;
-    }
-    0 < lent::peek(hands, hand_place(turn, k))
+    (1..=7).contains(&k) && 0 < lent::peek(hands, hand_place(turn, k))
 }
 
-fn drop_verdict(cells: &[u8], hands: &[u8], turn: u8, d: usize, k: u8, mark: u8) -> Verdict
+fn drop_verdict(
+    cells: &[u8],
+    hands: &[u8],
+    turn: u8,
+    d: usize,
+    k: u8,
+    mark: u8,
+) -> Option<Hindrance>
     ensures { result ≡ drop_verdict cells.now hands.now turn d k mark }
 {
     if mark == 2 {
-        return Verdict::Stops(Hindrance::NoPromotion);
+        return Some(Hindrance::NoPromotion);
     }
     if !in_hand(hands, turn, k) {
-        return Verdict::Stops(Hindrance::NotInHand);
+        return Some(Hindrance::NotInHand);
     }
     if lent::peek(cells, d) != 0 {
-        return Verdict::Stops(Hindrance::OntoPiece);
+        return Some(Hindrance::OntoPiece);
     }
-    Verdict::Goes
+    None
 }
 
 // Whether the move can be played.
-fn verdict_of(p: Position, last: usize, m: Move) -> Verdict
+fn verdict_of(p: Position, last: usize, m: Move) -> Option<Hindrance>
     ensures { result ≡ verdict_of p last m }
 {
     let cells = p.cells;
     let hands = p.hands;
-    let to = m.to;
-    let d = landing(last, to);
+    let d = landing(last, m.to);
     if 81 <= d {
-        return Verdict::Stops(missing(to));
+        return Some(missing(m.to));
     }
-    let from = m.from;
-    let o = leaving(from);
+    let o = leaving(m.from);
     if o == 82 {
         return drop_verdict(&cells, &hands, p.turn, d, m.piece, m.promote);
     }
     move_verdict(&cells, &hands, p.turn, o, d, m.piece, m.promote)
 }
 
-fn with_cell(before: [u8; 81], i: usize, v: u8) -> [u8; 81]
-    ensures { result ≡ set before i v }
+// An array with one of its numbers changed; past its end none is.
+fn with_number<const N: usize>(before: [u8; N], i: usize, v: u8) -> [u8; N]
+    ensures { result ≡ set before.entry i v }
 {
-    let mut cells = before;
-    if 81 <= i {
-        return cells;
+    let mut after = before;
+    if i < N {
+        after[i] = v;
     }
-    cells[i] = v;
-    cells
-}
-
-fn with_count(before: [u8; 14], i: usize, n: u8) -> [u8; 14]
-    ensures { result ≡ set before i n }
-{
-    let mut hands = before;
-    if 14 <= i {
-        return hands;
-    }
-    hands[i] = n;
-    hands
+    after
 }
 
 // One more in hand.
@@ -250,7 +219,7 @@ fn one_more(hands: [u8; 14], i: usize) -> [u8; 14]
     if 254 < n {
         return hands;
     }
-    with_count(hands, i, n + 1)
+    with_number(hands, i, n + 1)
 }
 
 // One less.
@@ -261,7 +230,7 @@ fn one_less(hands: [u8; 14], i: usize) -> [u8; 14]
     if n < 1 {
         return hands;
     }
-    with_count(hands, i, n - 1)
+    with_number(hands, i, n - 1)
 }
 
 // The position after a move on the board.
@@ -272,22 +241,17 @@ fn moved(p: Position, o: usize, d: usize, k: u8, mark: u8) -> Position
     let hands = p.hands;
     let c = lent::peek(&cells, d);
     let v = piece_of(p.turn, becomes(k, mark));
-    let landed = with_cell(with_cell(cells, o, 0), d, v);
-    if c == 0 {
-        return Position {
-            preset: p.preset,
-            board: p.board,
-            turn: other(p.turn),
-            cells: landed,
-            hands,
-        };
-    }
+    let landed = with_number(with_number(cells, o, 0), d, v);
+    let held = if c == 0 {
+        hands
+    } else {
+        one_more(hands, hand_place(p.turn, c % 16))
+    };
     Position {
-        preset: p.preset,
-        board: p.board,
         turn: other(p.turn),
         cells: landed,
-        hands: one_more(hands, hand_place(p.turn, c % 16)),
+        hands: held,
+        ..p
     }
 }
 
@@ -304,11 +268,10 @@ fn dropped(p: Position, d: usize, k: u8) -> Position
     let cells = p.cells;
     let hands = p.hands;
     Position {
-        preset: p.preset,
-        board: p.board,
         turn: other(p.turn),
-        cells: with_cell(cells, d, piece_of(p.turn, k)),
+        cells: with_number(cells, d, piece_of(p.turn, k)),
         hands: one_less(hands, hand_place(p.turn, k)),
+        ..p
     }
 }
 
@@ -316,10 +279,8 @@ fn dropped(p: Position, d: usize, k: u8) -> Position
 fn played(p: Position, last: usize, m: Move) -> Position
     ensures { result ≡ played p last m }
 {
-    let to = m.to;
-    let from = m.from;
-    let d = landing(last, to);
-    let o = leaving(from);
+    let d = landing(last, m.to);
+    let o = leaving(m.from);
     if o == 82 {
         return dropped(p, d, m.piece);
     }
@@ -327,20 +288,21 @@ fn played(p: Position, last: usize, m: Move) -> Position
 }
 
 // One step of play: the position after the move, or the same with what stops it.
+#[tactic(auto, unfolding(crate::specs::Steps::stepped))]
 pub fn play_step(p: Position, last: usize, m: Move) -> Stepping
     ensures { result ≡ stepped p last m }
 {
-    let Verdict::Stops(r) = verdict_of(p, last, m) else {
-        let to = m.to;
+    let how = verdict_of(p, last, m);
+    if how.is_some() {
         return Stepping {
-            how: Verdict::Goes,
-            last: landing(last, to),
-            position: played(p, last, m),
+            how,
+            last,
+            position: p,
         };
-    };
+    }
     Stepping {
-        how: Verdict::Stops(r),
-        last,
-        position: p,
+        how,
+        last: landing(last, m.to),
+        position: played(p, last, m),
     }
 }

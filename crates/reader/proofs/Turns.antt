@@ -1,5 +1,6 @@
 -- A line goes past its place and no further than the text, so that a count goes by its steps alone, and no number in it passes its place.
 -- Assumes nothing.
+use Rattle.std.specs.Prelude.{Option, Some, None}
 use Prim.Native.Nat.{ℕ, ◌+◌, ◌≤◌, ◌<◌}
 use native.Mathlib.Omega.{arith}
 use mathlib.Core.Path.{◌≡◌, refl, sym, ap, subst, ◌∙◌}
@@ -9,14 +10,10 @@ use Rattle.lists.specs.Repeat.{Step, more, stop, Ended, on_step, repeat_from}
 use Rattle.lists.proofs.Repeats.{Goes, repeat_more, repeat_stop}
 use Rattle.text.specs.Text.{on_place}
 use Rattle.text.specs.declared.Cursor.{Cursor}
-use Rattle.text.specs.declared.Place.{Place}
-use Rattle.text.specs.declared.Place.TheVariants.{Past, Absent}
 use Rattle.text.proofs.Laws.{After}
 use Rattle.moves.specs.Moves.{on_move_line, on_remark, move_line_at, comment_line_at, skip_line_at}
 use Rattle.moves.specs.declared.MoveLine.{MoveLine}
-use Rattle.moves.specs.declared.MoveLine.TheVariants.{Numbered, NoLine}
 use Rattle.moves.specs.declared.Remark.{Remark}
-use Rattle.moves.specs.declared.Remark.TheVariants.{Stands, NoRemark}
 use Rattle.moves.proofs.Goings.{move_goes, remark_goes, skip_goes}
 use Rattle.reader.specs.TextLines.{skip_at, text_line_at}
 use Rattle.reader.specs.LinesPassed.{count_line, count_step, none_at, passed_over}
@@ -24,7 +21,6 @@ use Rattle.reader.specs.inner.Steps.{with_line, WithinPlace}
 use Rattle.reader.specs.declared.TextLine.{TextLine}
 use Rattle.reader.specs.declared.TextLine.TheVariants.{Played, Remarked, Skipped, Nothing}
 use Rattle.reader.specs.declared.PassedLines.{PassedLines}
-use Rattle.reader.specs.declared.Advance.TheVariants.{Further, NoFurther}
 
 -- ---- how far a line goes
 
@@ -38,17 +34,17 @@ line_goes : (s : List ℕ) (at : ℕ) → LineGoes at (length s) (text_line_at s
 unfolding text_line_at skip_at
 line_goes s at = by-move (move_line_at s at) refl
   where
-    by-skip : (r : Place) → skip_line_at s at ≡ r → LineGoes at (length s) (on_place r Skipped Nothing)
-    by-skip (Past next) q = skip_goes s at next q
-    by-skip Absent q = tt
+    by-skip : (r : Option Cursor) → skip_line_at s at ≡ r → LineGoes at (length s) (on_place r Skipped Nothing)
+    by-skip (Some next) q = skip_goes s at next q
+    by-skip None q = tt
 
-    by_remark : (r : Remark) → comment_line_at s at ≡ r → LineGoes at (length s) (on_remark r Remarked (on_place (skip_line_at s at) Skipped Nothing))
-    by_remark (Stands from to next) q = let (a, b, d, e) = remark_goes s at from to next q in record { past = omega arith; within = e }
-    by_remark NoRemark q = by-skip (skip_line_at s at) refl
+    by_remark : (r : Option Remark) → comment_line_at s at ≡ r → LineGoes at (length s) (on_remark r Remarked (on_place (skip_line_at s at) Skipped Nothing))
+    by_remark (Some r) q = let (a, b, d, e) = remark_goes s at r.from r.to r.next q in record { past = omega arith; within = e }
+    by_remark None q = by-skip (skip_line_at s at) refl
 
-    by-move : (r : MoveLine) → move_line_at s at ≡ r → LineGoes at (length s) (on_move_line r Played (on_remark (comment_line_at s at) Remarked (on_place (skip_line_at s at) Skipped Nothing)))
-    by-move (Numbered n e next) q = move_goes s at n e next q
-    by-move NoLine q = by_remark (comment_line_at s at) refl
+    by-move : (r : Option MoveLine) → move_line_at s at ≡ r → LineGoes at (length s) (on_move_line r Played (on_remark (comment_line_at s at) Remarked (on_place (skip_line_at s at) Skipped Nothing)))
+    by-move (Some r) q = move_goes s at r.number r.entry r.next q
+    by-move None q = by_remark (comment_line_at s at) refl
 
 -- the same of an answer, where it is known which it is
 pub answer_goes : (s : List ℕ) (at : ℕ) (r l : TextLine) → r ≡ text_line_at s at → r ≡ l → LineGoes at (length s) l
@@ -88,11 +84,11 @@ pub record Turned (s : List ℕ) (p q : PassedLines) : Type 0 where
   pub same : on_from s p ≡ on_from s q
   pub small : WithinPlace p → WithinPlace q
 
-pub turned : (s : List ℕ) (p q : PassedLines) → with_line s p ≡ Further q → Turned s p q
+pub turned : (s : List ℕ) (p q : PassedLines) → with_line s p ≡ Some q → Turned s p q
 unfolding with_line
 turned s p q = go (text_line_at s p.end) refl
   where
-    made : (r : PassedLines) → count_step s p.end p ≡ more r.end r → r.moves ≤ p.moves + 1 → r.comments ≤ p.comments + 1 → r.skips ≤ p.skips + 1 → Further r ≡ Further q → Turned s p q
+    made : (r : PassedLines) → count_step s p.end p ≡ more r.end r → r.moves ≤ p.moves + 1 → r.comments ≤ p.comments + 1 → r.skips ≤ p.skips + 1 → Some r ≡ Some q → Turned s p q
     made r e m c k f =
         let h = step_goes s p.end p r.end r e in
         let z : r ≡ q = cc in
@@ -103,7 +99,7 @@ turned s p q = go (text_line_at s p.end) refl
           small = λ w. record { moves = omega (arith, h.0, w.moves); comments = omega (arith, h.0, w.comments); skips = omega (arith, h.0, w.skips) };
         })
 
-    go : (l : TextLine) → text_line_at s p.end ≡ l → on_step (count_line s p.end p l) (λ next r. Further r) NoFurther ≡ Further q → Turned s p q
+    go : (l : TextLine) → text_line_at s p.end ≡ l → on_step (count_line s p.end p l) (λ next r. Some r) None ≡ Some q → Turned s p q
     go (Played n e next) f k = made _ (rw f) (omega arith) (omega arith) (omega arith) k
     go (Remarked from to next) f k = made _ (rw f) (omega arith) (omega arith) (omega arith) k
     go (Skipped next) f k = made _ (rw f) (omega arith) (omega arith) (omega arith) k
@@ -113,10 +109,10 @@ pub goes_turn : (s : List ℕ) (at : ℕ) (p q : PassedLines) → GoesOn s at p 
 goes_turn s at p q k t = record { same = k.same ∙ t.same; small = t.small k.small }
 
 -- the last
-pub goes_last : (s : List ℕ) (at : ℕ) (p : PassedLines) → GoesOn s at p → with_line s p ≡ NoFurther → passed_over s at ≡ p
+pub goes_last : (s : List ℕ) (at : ℕ) (p : PassedLines) → GoesOn s at p → with_line s p ≡ None → passed_over s at ≡ p
 unfolding with_line
 goes_last s at p k e = k.same ∙ go (count_step s p.end p) refl e
   where
-    go : (r : Step PassedLines) → count_step s p.end p ≡ r → on_step r (λ next q. Further q) NoFurther ≡ NoFurther → on_from s p ≡ p
+    go : (r : Step PassedLines) → count_step s p.end p ≡ r → on_step r (λ next q. Some q) None ≡ None → on_from s p ≡ p
     go (more next q) f h = let z : ◌≡◌ {A = ℕ} 0 1 = cc in absurd (omega arith)
     go stop f h = ap (λ (x : Ended PassedLines). x.state) (repeat_stop (count_step s) (length s) p.end p f)

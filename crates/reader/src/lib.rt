@@ -8,8 +8,7 @@ ghost use Rattle.reader.specs.LinesPassed.{first_at, passed_over};
 ghost use Rattle.reader.specs.inner.Steps.{WithinPlace, with_line};
 
 use jkf::Entry;
-use moves::{MoveLine, Remark};
-use text::{Cursor, Place};
+use text::Cursor;
 
 // A move line: its number, its entry and the place past it. A comment: where its text begins and ends, and the place past its line.
 // A skip line: the place past it. Or nothing of these.
@@ -27,35 +26,22 @@ pub struct Reader<'a> {
     pub at: usize,
 }
 
-// Where the first skip line begins whose character is neither an LF nor a CR.
-#[derive(Clone, Copy)]
-pub enum FirstSkip {
-    At(usize),
-    NoSkip,
-}
-
-// How many move lines, comments and skip lines were passed, the first skip line, and the place past them all.
+// How many move lines, comments and skip lines were passed, and the place past them all.
 #[derive(Clone, Copy)]
 pub struct PassedLines {
     pub moves: usize,
     pub comments: usize,
     pub skips: usize,
-    pub first: FirstSkip,
+    // Where the first skip line begins that begins with neither an LF nor a CR.
+    pub first: Option<usize>,
     pub end: usize,
-}
-
-// A count with one line more, or that no line stands where it ends.
-#[derive(Clone, Copy)]
-enum Advance {
-    Further(PassedLines),
-    NoFurther,
 }
 
 // What stands at a place that is neither a move line nor a comment.
 fn skip_at(s: &[u8], at: usize) -> TextLine
     ensures { result ≡ skip_at s.now at }
 {
-    let Place::Past(next) = moves::skip_line(Cursor { at }, s) else {
+    let Some(next) = moves::skip_line(Cursor { at }, s) else {
         return TextLine::Nothing;
     };
     TextLine::Skipped(next)
@@ -65,11 +51,11 @@ fn skip_at(s: &[u8], at: usize) -> TextLine
 fn text_line(s: &[u8], at: usize) -> TextLine
     ensures { result ≡ text_line_at s.now at }
 {
-    if let MoveLine::Numbered(ply, entry, next) = moves::move_line(Cursor { at }, s) {
-        return TextLine::Played(ply, entry, next);
+    if let Some(line) = moves::move_line(Cursor { at }, s) {
+        return TextLine::Played(line.number, line.entry, line.next);
     }
-    if let Remark::Stands(from, to, next) = moves::comment_line(Cursor { at }, s) {
-        return TextLine::Remarked(from, to, next);
+    if let Some(remark) = moves::comment_line(Cursor { at }, s) {
+        return TextLine::Remarked(remark.from, remark.to, remark.next);
     }
     skip_at(s, at)
 }
@@ -120,61 +106,41 @@ pub fn line_standing(text: &[u8], at: usize) -> TextLine
     Reader::over(text, at).next()
 }
 
-// The first skip line of all, with one more that stands at a place.
-fn first_at(first: FirstSkip, s: &[u8], at: usize) -> FirstSkip
+// Where the first skip line of all begins, with one more that stands at a place.
+#[tactic(auto, unfolding(crate::specs::LinesPassed::first_at))]
+fn first_at(first: Option<usize>, s: &[u8], at: usize) -> Option<usize>
     ensures { result ≡ first_at first s.now at }
 {
-    let FirstSkip::NoSkip = first else {
+    if first.is_some() || matches!(lent::peek(s, at), b'\n' | b'\r') {
         return first;
-    };
-    let b = lent::peek(s, at);
-    if b == b'\n' {
-        return FirstSkip::NoSkip;
     }
-    if b == b'\r' {
-        return FirstSkip::NoSkip;
-    }
-    FirstSkip::At(at)
+    Some(at)
 }
 
 // One line more, whatever it is.
-fn with_line(s: &[u8], p: PassedLines) -> Advance
+#[tactic(auto, unfolding(crate::specs::inner::Steps::with_line))]
+fn with_line(s: &[u8], p: PassedLines) -> Option<PassedLines>
     requires { WithinPlace p }
     ensures { result ≡ with_line s.now p }
 {
-    let first = p.first;
     match line_standing(s, p.end) {
-        TextLine::Played(_, _, next) => {
-            let moves = p.moves + 1;
-            Advance::Further(PassedLines {
-                moves,
-                comments: p.comments,
-                skips: p.skips,
-                first,
-                end: next.at,
-            })
-        }
-        TextLine::Remarked(_, _, next) => {
-            let comments = p.comments + 1;
-            Advance::Further(PassedLines {
-                moves: p.moves,
-                comments,
-                skips: p.skips,
-                first,
-                end: next.at,
-            })
-        }
-        TextLine::Skipped(next) => {
-            let skips = p.skips + 1;
-            Advance::Further(PassedLines {
-                moves: p.moves,
-                comments: p.comments,
-                skips,
-                first: first_at(first, s, p.end),
-                end: next.at,
-            })
-        }
-        TextLine::Nothing => Advance::NoFurther,
+        TextLine::Played(_, _, next) => Some(PassedLines {
+            moves: p.moves + 1,
+            end: next.at,
+            ..p
+        }),
+        TextLine::Remarked(_, _, next) => Some(PassedLines {
+            comments: p.comments + 1,
+            end: next.at,
+            ..p
+        }),
+        TextLine::Skipped(next) => Some(PassedLines {
+            skips: p.skips + 1,
+            first: first_at(p.first, s, p.end),
+            end: next.at,
+            ..p
+        }),
+        TextLine::Nothing => None,
     }
 }
 
@@ -186,13 +152,11 @@ pub fn passed_over(text: &[u8], at: usize) -> PassedLines
         moves: 0,
         comments: 0,
         skips: 0,
-        first: FirstSkip::NoSkip,
+        first: None,
         end: at,
     };
-    loop {
-        let Advance::Further(q) = with_line(text, p) else {
-            return p;
-        };
+    while let Some(q) = with_line(text, p) {
         p = q;
     }
+    p
 }

@@ -1,11 +1,11 @@
 // Whether the block's look-ups answer a request so.
-use crate::request::{Numbers, is, number, three};
+use crate::request::{is, number};
 use jkf::Answer;
 
 // The number and the figures of an answer.
-pub(crate) fn of_answer(a: Answer) -> Numbers {
-    let f = jkf::figures_of(a);
-    three(f.number, f.first, f.second)
+pub(crate) fn of_answer(a: Answer) -> [u64; 3] {
+    let f = jkf::Figures::from(a);
+    [f.number, f.first, f.second]
 }
 
 // The count of lines, a line or its parent.
@@ -23,7 +23,7 @@ pub(crate) fn look_up(request: &[u8], answer: &[u8]) -> bool {
     let k = number(request, 8);
     let b = lent::rest(request, 16);
     if 2 < which {
-        return is(answer, of_answer(row(which, b, k)), b"");
+        return is(answer, &of_answer(row(which, b, k)), b"");
     }
     look_text(which, b, k, answer)
 }
@@ -38,5 +38,5 @@ fn look_text(which: u64, b: &[u8], k: u64, answer: &[u8]) -> bool {
         1 => block::key(b, k, &mut number, &mut first, &mut second),
         _ => block::value(b, k, &mut number, &mut first, &mut second),
     };
-    is(answer, three(number, first, second), text)
+    is(answer, &[number, first, second], text)
 }

@@ -1,53 +1,52 @@
 // What the leaves of reading and writing answer to a request. A kind is a letter of crates/replay/data/answers.txt.
-use crate::request::{Numbers, four, none, number, three, two};
+use crate::request::{is, number};
 use moves::Remark;
-use spell::Spelled;
-use text::{Cursor, Number, Place};
+use text::{Cursor, FigureError};
 
 // Found and the place after.
-fn of_place(place: Place) -> Numbers {
+fn of_place(place: Option<Cursor>) -> [u64; 2] {
     match place {
-        Place::Past(c) => two(1, c.at as u64),
-        Place::Absent => two(0, 0),
+        Some(c) => [1, c.at as u64],
+        None => [0, 0],
     }
 }
 
 // Found, the number and the place after.
-fn of_spelled(found: Spelled) -> Numbers {
+fn of_spelled(found: Option<(u8, Cursor)>) -> [u64; 3] {
     match found {
-        Spelled::As(n, c) => three(1, n as u64, c.at as u64),
-        Spelled::Not => three(0, 0, 0),
+        Some((n, c)) => [1, n as u64, c.at as u64],
+        None => [0, 0, 0],
     }
 }
 
-fn of_digits(found: Number) -> Numbers {
+fn of_digits(found: Result<(u64, Cursor), FigureError>) -> [u64; 3] {
     match found {
-        Number::Value(n, past) => three(1, n, past.at as u64),
-        Number::NoDigit => three(0, 0, 0),
-        Number::TooLarge => three(2, 0, 0),
+        Ok((n, past)) => [1, n, past.at as u64],
+        Err(FigureError::Absent) => [0, 0, 0],
+        Err(FigureError::TooLarge) => [2, 0, 0],
     }
 }
 
 // Found, where the comment begins and ends, and the place after its line.
-fn of_remark(found: Remark) -> Numbers {
+fn of_remark(found: Option<Remark>) -> [u64; 4] {
     match found {
-        Remark::Stands(from, to, next) => four(1, from.at as u64, to.at as u64, next.at as u64),
-        Remark::NoRemark => four(0, 0, 0, 0),
+        Some(x) => [1, x.from.at as u64, x.to.at as u64, x.next.at as u64],
+        None => [0, 0, 0, 0],
     }
 }
 
 // Blanks, padding, a tail or a break.
-fn step(which: u64, c: Cursor, s: &[u8]) -> Place {
+fn step(which: u64, c: Cursor, s: &[u8]) -> Option<Cursor> {
     match which {
-        0 => Place::Past(c.blanks(s)),
-        1 => Place::Past(c.padding(s)),
+        0 => Some(c.blanks(s)),
+        1 => Some(c.padding(s)),
         2 => c.tail(s),
         _ => c.line_ending(s),
     }
 }
 
 // A kind, an ending, a preset or a side.
-fn name(which: u64, c: Cursor, s: &[u8]) -> Spelled {
+fn name(which: u64, c: Cursor, s: &[u8]) -> Option<(u8, Cursor)> {
     match which {
         0 => spell::kind(c, s),
         1 => spell::special(c, s),
@@ -57,40 +56,40 @@ fn name(which: u64, c: Cursor, s: &[u8]) -> Spelled {
 }
 
 // A numeral or a file.
-fn numeral(which: u64, c: Cursor, s: &[u8]) -> Spelled {
+fn numeral(which: u64, c: Cursor, s: &[u8]) -> Option<(u8, Cursor)> {
     if which == 0 {
         return spell::numeral(c, s);
     }
     spell::file(c, s)
 }
 
-// What is read at a place of a text: a count, a comment or a skip line.
-fn read_at(kind: u8, request: &[u8]) -> Numbers {
+// Whether what is read at a place of a text is so: a count, a comment or a skip line.
+fn read_at(kind: u8, request: &[u8], answer: &[u8]) -> bool {
     let c = Cursor {
         at: number(request, 0) as usize,
     };
     let s = lent::rest(request, 8);
     match kind {
-        b'h' => of_spelled(spell::count(c, s)),
-        b'k' => of_remark(moves::comment_line(c, s)),
-        b'x' => of_place(moves::skip_line(c, s)),
-        _ => none(),
+        b'h' => is(answer, &of_spelled(spell::count(c, s)), b""),
+        b'k' => is(answer, &of_remark(moves::comment_line(c, s)), b""),
+        b'x' => is(answer, &of_place(moves::skip_line(c, s)), b""),
+        _ => answer.is_empty(),
     }
 }
 
-// What is read of one of several sorts.
-pub(crate) fn read(kind: u8, request: &[u8]) -> Numbers {
+// Whether what is read of one of several sorts is so.
+pub(crate) fn read(kind: u8, request: &[u8], answer: &[u8]) -> bool {
     let which = number(request, 0);
     let c = Cursor {
         at: number(request, 8) as usize,
     };
     let s = lent::rest(request, 16);
     match kind {
-        b't' => of_place(step(which, c, s)),
-        b'd' => of_digits(c.digits(s, which)),
-        b'n' => of_spelled(name(which, c, s)),
-        b'z' => of_spelled(numeral(which, c, s)),
-        _ => read_at(kind, request),
+        b't' => is(answer, &of_place(step(which, c, s)), b""),
+        b'd' => is(answer, &of_digits(c.digits(s, which)), b""),
+        b'n' => is(answer, &of_spelled(name(which, c, s)), b""),
+        b'z' => is(answer, &of_spelled(numeral(which, c, s)), b""),
+        _ => read_at(kind, request, answer),
     }
 }
 
@@ -116,8 +115,7 @@ fn put_form(out: &mut [u8], form: u64, v: u64) -> usize {
 
 // The number at a place, where it is one byte.
 fn byte(request: &[u8], at: usize) -> u8 {
-    let n = number(request, at);
-    if n < 256 { n as u8 } else { 255 }
+    u8::try_from(number(request, at)).unwrap_or(u8::MAX)
 }
 
 // What is written of a number: a name, a count, or a form of it into a buffer of the length asked for.

@@ -36,10 +36,8 @@ fn put_lines(out: &mut [u8], b: &[u8], count: usize) -> usize
     ensures { Wrote (rows_text b.now count) out.old out.new result }
 {
     let mut n = 0;
-    let mut k = 0;
-    while k < count {
+    for k in 0..count {
         n += put_line(&mut out[n..], b, k as u16);
-        k += 1;
     }
     n
 }

@@ -4,15 +4,15 @@ use Prim.Native.Nat.{ℕ, ◌+◌, ◌-◌, ◌≤◌, ◌<◌, zero-le}
 use native.Mathlib.Numerals.{add-one}
 use native.Mathlib.Omega.{arith}
 use mathlib.Core.Path.{◌≡◌, refl, sym, ap, ◌∙◌}
-use mathlib.Core.List.{List, [], ◌∷◌, ◌++◌, map, append_assoc, append-nil}
-use lib.ListN.{length, get_or, drop, take, set, drop_of_length-le, length-drop, length-take, length-append, length-set, take-append-drop, replicate, replicate-append-replicate, length-map, get_or-map}
+use mathlib.Core.List.{List, [], ◌∷◌, ◌++◌, map, append_assoc}
+use lib.ListN.{length, get_or, drop, take, set, drop_of_length-le, length-drop, length-take, length-append, length-set, take-append-drop, replicate, length-map, get_or-map}
 use lib.Seq.{set_at, take-suc, length-take-le, take-suc-set, take_all, take_at, append_snoc, take-append-le, take-take, drop_at, get_or-take}
 use borrow.Author.Tests.{le-ltb}
 use borrow.Rule.Slice.PartMut.{put_mid}
 use Rattle.lists.specs.All.{All, none, next}
 use Rattle.lists.proofs.Laws.{drop_step}
-use Rattle.sorted.specs.declared.Order.{Order}
-use Rattle.sorted.specs.declared.Order.TheVariants.{Less, Equal, Greater}
+use Rattle.std.specs.declared.cmp.Ordering.{Ordering}
+use Rattle.std.specs.declared.cmp.Ordering.TheVariants.{Less, Equal, Greater}
 use Rattle.sorted.specs.declared.MergeStep.{MergeStep}
 use Rattle.sorted.specs.Sorted.{enter, enter_all, kept, kept_count, kept_buffer}
 use Rattle.sorted.specs.inner.Orders.{merge, Leads}
@@ -39,14 +39,14 @@ rest o n = take_all (length o - n) (drop n o) (simp length-drop (omega arith))
 -- ---- merging
 
 -- what stands in the buffer, and what is left of both runs
-pub record Merging (o : ℕ → ℕ → Order) (a b out : List ℕ) (i j k : ℕ) : Type 0 where
+pub record Merging (o : ℕ → ℕ → Ordering) (a b out : List ℕ) (i j k : ℕ) : Type 0 where
   pub i_in : i ≤ length a
   pub j_in : j ≤ length b
   pub k_in : k ≤ i + j
   pub room : length a + length b ≤ length out
   pub made : merge o a b ≡ take k out ++ merge o (drop i a) (drop j b)
 
-pub merging_start : (o : ℕ → ℕ → Order) (a b out : List ℕ) → length a + length b ≤ length out → Merging o a b out 0 0 0
+pub merging_start : (o : ℕ → ℕ → Ordering) (a b out : List ℕ) → length a + length b ≤ length out → Merging o a b out 0 0 0
 merging_start o a b out h = record { i_in = zero-le; j_in = zero-le; k_in = zero-le; room = h; made = refl }
 
 one-more : (l out m m' : List ℕ) (k v : ℕ) → k < length out → l ≡ take k out ++ m → m ≡ v ∷ m' → l ≡ take (k + 1) (set out k v) ++ m'
@@ -54,7 +54,7 @@ one-more l out m m' k v h e f =
     let t : take (k + 1) (set out k v) ≡ take k out ++ (v ∷ []) = ap (λ (n : ℕ). take n (set out k v)) (add-one k) ∙ take-suc-set out k v h in
     e ∙ ap (λ (x : List ℕ). take k out ++ x) f ∙ sym (append_snoc (take k out) v m') ∙ ap (λ (x : List ℕ). x ++ m') (sym t)
 
-module _ {o : ℕ → ℕ → Order} {a b out : List ℕ} {i j k : ℕ} (w : Merging o a b out i j k) where
+module _ {o : ℕ → ℕ → Ordering} {a b out : List ℕ} {i j k : ℕ} (w : Merging o a b out i j k) where
   merging_more : (v i' j' : ℕ) → i' ≤ length a → j' ≤ length b → i + j < i' + j' → merge o (drop i a) (drop j b) ≡ v ∷ merge o (drop i' a) (drop j' b)
       → Merging o a b (set out k v) i' j' (k + 1)
   merging_more v i' j' g h n e =
@@ -80,7 +80,7 @@ module _ {o : ℕ → ℕ → Order} {a b out : List ℕ} {i j k : ℕ} (w : Mer
       plus_zero : (n : ℕ) → n ≡ n + 0
       plus_zero n = omega arith
 
-      go : (p : Order) → o x y ≡ p → Merging o a b (set out k (step_of p x y).value) (i + (step_of p x y).left) (j + (step_of p x y).right) (k + 1)
+      go : (p : Ordering) → o x y ≡ p → Merging o a b (set out k (step_of p x y).value) (i + (step_of p x y).left) (j + (step_of p x y).right) (k + 1)
       go Less r = merging_more x (i + 1) (j + 0) (omega arith) (omega arith) (omega arith) (less o d d' r ∙ ap (λ (m : ℕ). x ∷ merge o (drop (i + 1) a) (drop m b)) (plus_zero j))
       go Equal r = merging_more y (i + 1) (j + 1) (omega arith) (omega arith) (omega arith) (equal o d d' r)
       go Greater r = merging_more y (i + 0) (j + 1) (omega arith) (omega arith) (omega arith) (greater o d d' r ∙ ap (λ (m : ℕ). y ∷ merge o (drop m a) (drop (j + 1) b)) (plus_zero i))
@@ -187,16 +187,6 @@ unpacked_leads s ps u o o' r w h e =
     }
 
 -- ---- zeros behind
-
-pub zero_more : (o₀ o : List ℕ) (at i : ℕ) → at ≤ i → i < length o → take i o ≡ take at o₀ ++ replicate (i - at) 0
-    → take (i + 1) (set o i 0) ≡ take at o₀ ++ replicate (i + 1 - at) 0
-zero_more o₀ o at i h k e =
-    let n : i - at + 1 ≡ i + 1 - at = omega arith in
-    ap (λ (m : ℕ). take m (set o i 0)) (add-one i) ∙ take-suc-set o i 0 k ∙ ap (λ (l : List ℕ). l ++ (0 ∷ [])) e
-    ∙ append_assoc (take at o₀) (replicate (i - at) 0) (0 ∷ []) ∙ ap (λ (l : List ℕ). take at o₀ ++ l) (replicate-append-replicate (i - at) 1 0 ∙ ap (λ (m : ℕ). replicate m 0) n)
-
-pub zero-start : (o : List ℕ) (at : ℕ) → take at o ≡ take at o ++ replicate (at - at) 0
-zero-start o at = let n : 0 ≡ at - at = omega arith in sym (append-nil (take at o)) ∙ ap (λ (m : ℕ). take at o ++ replicate m 0) n
 
 -- what was sorted, with zeros behind it, is what is promised
 pub sorted_is : (s ps o o' out : List ℕ) (r : ℕ) → length ps ≤ 13107 → length ps ≤ length o → length o' ≡ length o

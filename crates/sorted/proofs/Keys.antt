@@ -14,7 +14,7 @@ use borrow.Author.Tests.{ne_eqb, not-true}
 use Rattle.lists.specs.Pick.{pick}
 use Rattle.lists.proofs.Laws.{drop_step, pick_both}
 use Rattle.text.specs.Text.{is_text, prefix_from, stands_at, wide_colon, ends_key, key_from, key_at}
-use Rattle.sorted.specs.declared.Order.TheVariants.{Less, Equal, Greater}
+use Rattle.std.specs.declared.cmp.Ordering.TheVariants.{Less, Equal, Greater}
 use Rattle.sorted.specs.inner.Heads.{is_plain, head_of, lead_digits, four_at, Four}
 use Rattle.lists.specs.All.{All, none, next}
 use Rattle.sorted.specs.Sorted.{by_bytes}

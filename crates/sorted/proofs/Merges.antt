@@ -6,14 +6,14 @@ use native.Mathlib.Omega.{arith}
 use mathlib.Core.Path.{◌≡◌, refl, sym, ap, ◌∙◌}
 use mathlib.Core.List.{List, [], ◌∷◌, ◌++◌, map}
 use lib.ListN.{length}
-use Rattle.sorted.specs.declared.Order.{Order}
-use Rattle.sorted.specs.declared.Order.TheVariants.{Less, Equal, Greater}
+use Rattle.std.specs.declared.cmp.Ordering.{Ordering}
+use Rattle.std.specs.declared.cmp.Ordering.TheVariants.{Less, Equal, Greater}
 use Rattle.sorted.specs.Sorted.{on_order, enter, enter_all}
 use Rattle.sorted.specs.inner.Orders.{into}
 use Rattle.sorted.specs.inner.Orders.{merge}
 use Rattle.sorted.proofs.Orders.{Chain}
 
-module _ {A : Type 0} (o : A → A → Order) where
+module _ {A : Type 0} (o : A → A → Ordering) where
   pub merge_nil : (l : List A) → merge o l [] ≡ l
   unfolding merge into
   merge_nil [] = refl
@@ -65,7 +65,7 @@ module _ {A : Type 0} (o : A → A → Order) where
         by u p q r = p ∙ ap (λ (k : List A). u ∷ k) q ∙ sym r
 
         go : ((a b c : List A) → length a + length b + length c ≤ n → merge o (merge o a b) c ≡ merge o a (merge o b c))
-            → (p q r : Order) → o x y ≡ p → o y z ≡ q → o x z ≡ r → Chain p q r → Goal
+            → (p q r : Ordering) → o x y ≡ p → o y z ≡ q → o x z ≡ r → Chain p q r → Goal
         go rec Less Less r e f g t = by x (less {vs = zs} (less {ws = xs} {vs = ys} refl refl e) refl (g ∙ t)) (rec xs b c (omega arith)) (less {ws = xs} refl (less {ws = ys} {vs = zs} refl refl f) e)
         go rec Less Equal r e f g t = by x (less {vs = zs} (less {ws = xs} {vs = ys} refl refl e) refl (g ∙ t)) (rec xs b c (omega arith)) (less {ws = xs} refl (equal {ws = ys} {vs = zs} refl refl f) (g ∙ t))
         go rec Less Greater Less e f g t = by x (less {vs = zs} (less {ws = xs} {vs = ys} refl refl e) refl g) (rec xs b c (omega arith)) (less {ws = xs} refl (greater {ws = ys} {vs = zs} refl refl f) g)
@@ -103,7 +103,7 @@ module _ {A : Type 0} (o : A → A → Order) where
   enter-length [] p = le_refl 1
   enter-length (x ∷ l) p = go (o x p) (enter-length l p)
     where
-      go : (q : Order) → length (enter o l p) ≤ length l + 1 → length (on_order q (x ∷ enter o l p) (p ∷ l) (p ∷ x ∷ l)) ≤ length (x ∷ l) + 1
+      go : (q : Ordering) → length (enter o l p) ≤ length l + 1 → length (on_order q (x ∷ enter o l p) (p ∷ l) (p ∷ x ∷ l)) ≤ length (x ∷ l) + 1
       go Less h = omega arith
       go Equal h = omega arith
       go Greater h = omega arith
@@ -114,13 +114,13 @@ module _ {A : Type 0} (o : A → A → Order) where
   enter_all-length l (p ∷ ps) = omega (arith, enter_all-length (enter o l p) ps, enter-length l p)
 
 -- the same under a map that keeps the order: places, or what stands there
-module _ {A B : Type 0} (o : A → A → Order) (o' : B → B → Order) (f : A → B) (same : (x y : A) → o x y ≡ o' (f x) (f y)) where
+module _ {A B : Type 0} (o : A → A → Ordering) (o' : B → B → Ordering) (f : A → B) (same : (x y : A) → o x y ≡ o' (f x) (f y)) where
   enter-one-map : (l : List A) (p : A) → map f (enter o l p) ≡ enter o' (map f l) (f p)
   unfolding enter
   enter-one-map [] p = refl
   enter-one-map (x ∷ l) p = go (o x p) (o' (f x) (f p)) (same x p) (enter-one-map l p)
     where
-      go : (q r : Order) → q ≡ r → map f (enter o l p) ≡ enter o' (map f l) (f p)
+      go : (q r : Ordering) → q ≡ r → map f (enter o l p) ≡ enter o' (map f l) (f p)
           → map f (on_order q (x ∷ enter o l p) (p ∷ l) (p ∷ x ∷ l)) ≡ on_order r (f x ∷ enter o' (map f l) (f p)) (f p ∷ map f l) (f p ∷ f x ∷ map f l)
       go Less r e h = rw (← e, h)
       go Equal r e h = rw (← e)

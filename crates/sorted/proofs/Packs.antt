@@ -15,9 +15,9 @@ use borrow.Author.Tests.{eqb-false}
 use Rattle.lists.specs.All.{All, none, next}
 use Rattle.lists.specs.Pick.{pick}
 use Rattle.text.specs.Text.{key_at}
-use Rattle.sorted.specs.declared.Order.{Order}
+use Rattle.std.specs.declared.cmp.Ordering.{Ordering}
 use Rattle.sorted.specs.declared.MergeStep.{MergeStep}
-use Rattle.sorted.specs.declared.Order.TheVariants.{Less, Equal, Greater}
+use Rattle.std.specs.declared.cmp.Ordering.TheVariants.{Less, Equal, Greater}
 use Rattle.sorted.specs.Sorted.{on_order, by_bytes, by_key, enter, enter_all, kept}
 use Rattle.sorted.specs.inner.Orders.{merge}
 use Rattle.sorted.specs.inner.Heads.{head_of}
@@ -283,11 +283,11 @@ apart s x y n t v b e = go (dec_lt x y)
     go : Dec (x < y) → (step t (1 - t) v ≡ step_of (by_pack s x y) x y) × (t ≤ 1) × (1 - t ≤ 1) × (1 ≤ t + (1 - t))
     go (yes h) =
         let k : t ≡ 1 = b.0 h in
-        (same k (omega arith) (omega arith) ∙ ap (λ (o : Order). step_of o x y) (sym (pack_less s x y (omega arith))), omega arith, omega arith, omega arith)
+        (same k (omega arith) (omega arith) ∙ ap (λ (o : Ordering). step_of o x y) (sym (pack_less s x y (omega arith))), omega arith, omega arith, omega arith)
     go (no h) =
         let k : t ≡ 0 = b.1 (omega arith) in
         let m : pack_lead y < pack_lead x = omega (arith, n) in
-        (same k (omega arith) (omega arith) ∙ ap (λ (o : Order). step_of o x y) (sym (pack_greater s x y m)), omega arith, omega arith, omega arith)
+        (same k (omega arith) (omega arith) ∙ ap (λ (o : Ordering). step_of o x y) (sym (pack_greater s x y m)), omega arith, omega arith, omega arith)
 
 pub packs-length : (s ps : List ℕ) → length (packs s ps) ≤ length ps
 unfolding packs
@@ -306,7 +306,7 @@ module _ (s : List ℕ) where
   enter-packed [] p none g = refl
   enter-packed (x ∷ l) p (next f h) g = go (by_key s x p) (by_pack s (packed s x) (packed s p)) (pack_same s x p f g) (enter-packed l p h g)
     where
-      go : (q r : Order) → q ≡ r → map (packed s) (enter (by_key s) l p) ≡ enter (by_pack s) (map (packed s) l) (packed s p)
+      go : (q r : Ordering) → q ≡ r → map (packed s) (enter (by_key s) l p) ≡ enter (by_pack s) (map (packed s) l) (packed s p)
           → map (packed s) (on_order q (x ∷ enter (by_key s) l p) (p ∷ l) (p ∷ x ∷ l))
           ≡ on_order r (packed s x ∷ enter (by_pack s) (map (packed s) l) (packed s p)) (packed s p ∷ map (packed s) l) (packed s p ∷ packed s x ∷ map (packed s) l)
       go Less r e k = rw (← e, k)

@@ -3,39 +3,39 @@
 use Rattle.std.specs.Prelude.{ℕ, ◌-◌, List, [], ◌∷◌, ◌++◌, length, replicate, ltb}
 use Rattle.lists.specs.Pick.{pick}
 use Rattle.text.specs.Text.{key_at}
-use Rattle.sorted.specs.declared.Order.{Order}
-use Rattle.sorted.specs.declared.Order.TheVariants.{Less, Equal, Greater}
+use Rattle.std.specs.declared.cmp.Ordering.{Ordering}
+use Rattle.std.specs.declared.cmp.Ordering.TheVariants.{Less, Equal, Greater}
 
-abbrev pub on_order : {A : Type 0} → Order → A → A → A → A
+abbrev pub on_order : {A : Type 0} → Ordering → A → A → A → A
 on_order Less a b c = a
 on_order Equal a b c = b
 on_order Greater a b c = c
 
 -- ---- the order
 
-unfoldable pub compared : ℕ → ℕ → Order
+unfoldable pub compared : ℕ → ℕ → Ordering
 compared x y = pick (ltb x y) Less (pick (ltb y x) Greater Equal)
 
 -- Lists of bytes as a dictionary orders them.                                                        (01, The block: keys ascending by bytes)
-unfoldable pub by_bytes : List ℕ → List ℕ → Order
+unfoldable pub by_bytes : List ℕ → List ℕ → Ordering
 by_bytes [] [] = Equal
 by_bytes [] (y ∷ ys) = Less
 by_bytes (x ∷ xs) [] = Greater
 by_bytes (x ∷ xs) (y ∷ ys) = let r = by_bytes xs ys in on_order (compared x y) Less r Greater
 
 -- Header lines, which the places where they begin stand for.
-abbrev pub by_key : List ℕ → ℕ → ℕ → Order
+abbrev pub by_key : List ℕ → ℕ → ℕ → Ordering
 by_key s p q = by_bytes (key_at s p) (key_at s q)
 
 -- ---- what is kept
 
 -- What is entered into an ascending list stands at its place, instead of what was equal to it.        (01, Reading rules: the last wins)
-unfoldable pub enter : {A : Type 0} → (A → A → Order) → List A → A → List A
+unfoldable pub enter : {A : Type 0} → (A → A → Ordering) → List A → A → List A
 enter o [] p = p ∷ []
 enter o (x ∷ l) p = on_order (o x p) (x ∷ enter o l p) (p ∷ l) (p ∷ x ∷ l)
 
 -- One after the other.                                                                               (the Rust's HashMap)
-unfoldable pub enter_all : {A : Type 0} → (A → A → Order) → List A → List A → List A
+unfoldable pub enter_all : {A : Type 0} → (A → A → Ordering) → List A → List A → List A
 enter_all o l [] = l
 enter_all o l (p ∷ ps) = enter_all o (enter o l p) ps
 

@@ -1,20 +1,14 @@
 // Header lines sorted by key, of equal keys the last kept, without a heap.   (the Rust's HashMap)
 #![tactic(auto)]
 
-ghost use Rattle.std.specs.Prelude.{◌≡◌, ◌+◌, ◌-◌, ◌≤◌, ◌<◌, max, min, ◌++◌, map, length, take, drop, replicate, true};
+ghost use Rattle.std.specs.Prelude.{◌≡◌, ◌+◌, ◌-◌, ◌≤◌, ◌<◌, min, ◌++◌, map, length, take, drop, replicate, true};
 ghost use Rattle.text.specs.Text.{key_at};
 ghost use Rattle.sorted.specs.inner.Heads.{is_plain, head_of, Four};
 ghost use Rattle.sorted.specs.Sorted.{by_bytes, kept_count, kept_buffer};
 ghost use Rattle.sorted.specs.inner.Orders.{merge, Leads};
 ghost use Rattle.sorted.specs.inner.Packs.{Lead, Packable, Packs, packed, pack_place, lead_told, by_pack, step_of};
 
-// How one key stands to another.
-#[derive(Clone, Copy)]
-pub enum Order {
-    Less,
-    Equal,
-    Greater,
-}
+use std::cmp::Ordering;
 
 // A step of a merge: how many it takes of each run, and what it puts.
 #[derive(Clone, Copy)]
@@ -24,24 +18,11 @@ pub struct MergeStep {
     pub value: usize,
 }
 
-// A place as a number to reckon with.
-fn wide(x: u16) -> usize
-    ensures { (result ≡ x) × (result < 65536) }
-{
-    x as usize
-}
-
 // Whether a byte belongs to its key whatever follows it.
 fn plain(b: u8) -> bool
     ensures { result ≡ is_plain b }
 {
-    if b == b'\n' {
-        return false;
-    }
-    if b == b'\r' {
-        return false;
-    }
-    b != 239
+    !matches!(b, b'\n' | b'\r' | 239)
 }
 
 // One more than the key's byte at a place, and 0 at the key's end.
@@ -64,7 +45,7 @@ fn key_head(s: &[u8], at: usize) -> usize
     240
 }
 
-fn compare_slowly(s: &[u8], p: usize, q: usize) -> Order
+fn compare_slowly(s: &[u8], p: usize, q: usize) -> Ordering
     ensures { result ≡ by_bytes (key_at s.now p) (key_at s.now q) }
 {
     let mut i = p;
@@ -73,33 +54,24 @@ fn compare_slowly(s: &[u8], p: usize, q: usize) -> Order
         let a = key_head(s, i);
         let b = key_head(s, j);
         if a < b {
-            return Order::Less;
+            return Ordering::Less;
         }
         if b < a {
-            return Order::Greater;
+            return Ordering::Greater;
         }
         if a == 0 {
-            return Order::Equal;
+            return Ordering::Equal;
         }
         i += 1;
         j += 1;
     }
 }
 
-fn larger(p: usize, q: usize) -> usize
-    ensures { result ≡ max p q }
-{
-    if p < q { q } else { p }
-}
-
 // Whether a byte is surely plain: one range of plain bytes is asked for, which is faster than three bytes.
 fn calm(b: u8) -> bool
     ensures { result ≡ true → is_plain b ≡ true }
 {
-    if b < 14 {
-        return false;
-    }
-    b < 239
+    (14..239).contains(&b)
 }
 
 // The key's next four bytes as one number, where all are surely plain, and else 0.
@@ -127,16 +99,17 @@ fn four(s: &[u8], at: usize) -> usize
 }
 
 // The same as compare_slowly, faster: four bytes at a time while they are equal, and what is left slowly.
-fn compare_keys(s: &[u8], p: usize, q: usize) -> Order
+fn compare_keys(s: &[u8], p: usize, q: usize) -> Ordering
     ensures { result ≡ by_bytes (key_at s.now p) (key_at s.now q) }
 {
-    let m = larger(p, q);
+    let m = p.max(q);
     if s.len() <= m {
         return compare_slowly(s, p, q);
     }
     let mut left = s.len() - m;
     let mut i = p;
     let mut j = q;
+    // no range: two places go on together, and how far is said by what is left behind the later one
     while 4 <= left {
         let x = four(s, i);
         if x == 0 {
@@ -147,10 +120,10 @@ fn compare_keys(s: &[u8], p: usize, q: usize) -> Order
             return compare_slowly(s, i, j);
         }
         if x < y {
-            return Order::Less;
+            return Ordering::Less;
         }
         if y < x {
-            return Order::Greater;
+            return Ordering::Greater;
         }
         i += 4;
         j += 4;
@@ -164,14 +137,12 @@ fn lead(s: &[u8], at: usize) -> usize
     ensures { Lead (key_at s.now at) result }
 {
     let mut v = 0;
-    let mut left = 6usize;
     let mut i = at;
-    while 0 < left {
-        left -= 1;
+    for _ in 0..6usize {
         let h = key_head(s, i);
         if h == 0 {
             // where a key has ended is found once: at the end of the text there is none either
-            v = v * 256;
+            v *= 256;
             i = s.len();
             continue;
         }
@@ -185,7 +156,7 @@ fn lead(s: &[u8], at: usize) -> usize
 fn pack(s: &[u8], p: u16) -> usize
     ensures { (result ≡ packed s.now p) × Packable s.now p }
 {
-    lead(s, wide(p)) * 65536 + wide(p)
+    lead(s, usize::from(p)) * 65536 + usize::from(p)
 }
 
 // How many bytes of its key a lead tells: keys with equal leads are compared behind them.
@@ -220,17 +191,17 @@ fn choose(s: &[u8], x: usize, y: usize) -> MergeStep
     }
     let d = told(x / 65536);
     match compare_keys(s, x % 65536 + d, y % 65536 + d) {
-        Order::Less => MergeStep {
+        Ordering::Less => MergeStep {
             left: 1,
             right: 0,
             value: x,
         },
-        Order::Equal => MergeStep {
+        Ordering::Equal => MergeStep {
             left: 1,
             right: 1,
             value: y,
         },
-        Order::Greater => MergeStep {
+        Ordering::Greater => MergeStep {
             left: 0,
             right: 1,
             value: y,
@@ -242,12 +213,8 @@ fn copy_packs(from: &[usize], out: &mut [usize]) -> usize
     requires { length from.now ≤ length out.old }
     ensures { (result ≡ length from.now) × (out.new ≡ from.now ++ drop (length from.now) out.old) }
 {
-    let mut i = 0;
-    while i < from.len() {
-        out[i] = from[i];
-        i += 1;
-    }
-    i
+    out[..from.len()].copy_from_slice(from);
+    from.len()
 }
 
 // Two sorted runs into one; of equal keys the second's stays.
@@ -305,10 +272,8 @@ fn unpack(from: &[usize], n: usize, out: &mut [u16])
     requires { (n ≤ length from.now) × (n ≤ length out.old) }
     ensures { out.new ≡ map pack_place (take n from.now) ++ drop n out.old }
 {
-    let mut i = 0;
-    while i < n {
+    for i in 0..n {
         out[i] = (from[i] % 65536) as u16;
-        i += 1;
     }
 }
 
@@ -317,11 +282,7 @@ fn clear_from(out: &mut [u16], at: usize)
     requires { at ≤ length out.old }
     ensures { out.new ≡ take at out.old ++ replicate (length out.old - at) 0 }
 {
-    let mut i = at;
-    while i < out.len() {
-        out[i] = 0;
-        i += 1;
-    }
+    out[at..].fill(0);
 }
 
 // The kept places into out, and zeros behind them, with u and t as scratch.

@@ -1,5 +1,6 @@
 -- What is known of an answer of a table: how far it goes, and that its number is the table's.
 -- Assumes nothing.
+use Rattle.std.specs.Prelude.{Option, Some, None}
 use Prim.Native.Nat.{ℕ, zero, suc, ◌+◌, ◌≤◌, ◌<◌, max}
 use native.Mathlib.Omega.{arith}
 use mathlib.Core.Path.{◌≡◌, refl, sym, subst, ◌∙◌}
@@ -16,25 +17,22 @@ use Rattle.text.proofs.Laws.{stands_fits}
 use Rattle.text.proofs.Ends.{stands_end}
 use Rattle.spell.specs.Tables.{Spelling}
 use Rattle.spell.specs.Spell.{on_spelled, first_of, has_number}
-use Rattle.spell.specs.declared.Spelled.{Spelled}
-use Rattle.spell.specs.declared.Spelled.TheVariants.{As, Not}
 
 -- the number and the place of an answer satisfy P
-pub data OnSpelled (P : ℕ → Cursor → Type 0) : Spelled → Type 0 where
-  is_as : {n : ℕ} {c : Cursor} → P n c → OnSpelled P (As n c)
-  is_not : OnSpelled P Not
+pub data OnSpelled (P : ℕ → Cursor → Type 0) : Option (ℕ × Cursor) → Type 0 where
+  is_as : {n : ℕ} {c : Cursor} → P n c → OnSpelled P (Some (n, c))
+  is_not : OnSpelled P None
 
-pub by_spelled : {A : Type 0} (Q : A → Type 0) {d : A} (z : Q d) {P : ℕ → Cursor → Type 0} {r : Spelled} {f : ℕ → Cursor → A}
+pub by_spelled : {A : Type 0} (Q : A → Type 0) {d : A} (z : Q d) {P : ℕ → Cursor → Type 0} {r : Option (ℕ × Cursor)} {f : ℕ → Cursor → A}
     → OnSpelled P r → ((n : ℕ) (c : Cursor) → P n c → Q (f n c)) → Q (on_spelled r f d)
 by_spelled Q z (is_as {n} {c} h) k = k n c h
 by_spelled Q z is_not k = z
 
 -- what an answer says of its values, where it is known which they are
-pub as_is : {P : ℕ → Cursor → Type 0} {r : Spelled} {n : ℕ} {c : Cursor} → OnSpelled P r → r ≡ As n c → P n c
+pub as_is : {P : ℕ → Cursor → Type 0} {r : Option (ℕ × Cursor)} {n : ℕ} {c : Cursor} → OnSpelled P r → r ≡ Some (n, c) → P n c
 as_is {P} {n = n} {c = c} (is_as {n = m} {c = d} h) e =
-    let p : m ≡ n = cc in
-    let q : d ≡ c = cc in
-    subst (λ (k : Cursor). P n k) q (subst (λ (k : ℕ). P k d) p h)
+    let p : ◌≡◌ {A = ℕ × Cursor} (m, d) (n, c) = cc in
+    subst (λ (x : ℕ × Cursor). P x.0 x.1) p h
 as_is is_not e = let z : ◌≡◌ {A = ℕ} 0 1 = cc in absurd (omega arith)
 
 -- a spelling that was found ends in the text
@@ -42,7 +40,7 @@ pub first-within : (es : List Spelling) (s : List ℕ) (at : ℕ) → OnSpelled 
 unfolding first_of
 first-within [] s at = is_not
 first-within (e ∷ es) s at =
-    by_pick (OnSpelled (λ n c. c.at ≤ max at (length s))) (stands_at e.bytes s at) (As e.number (cursor (at + length e.bytes))) (first_of es s at)
+    by_pick (OnSpelled (λ n c. c.at ≤ max at (length s))) (stands_at e.bytes s at) (Some (e.number, cursor (at + length e.bytes))) (first_of es s at)
     (λ t. is_as (stands_fits e.bytes s at t)) (λ t. first-within es s at)
 
 -- every number of a table is below m, and every spelling has a byte: a test that antt computes
@@ -63,11 +61,11 @@ first_known m (e ∷ es) h s at =
     let (q, r) = pick_both (ltb 0 (length e.bytes)) (below m es) h₁ in
     let p₁ : e.number < m = ltb-true _ _ p in
     let q₁ : 0 < length e.bytes = ltb-true _ _ q in
-    by_pick (OnSpelled (Known m at)) (stands_at e.bytes s at) (As e.number (cursor (at + length e.bytes))) (first_of es s at)
+    by_pick (OnSpelled (Known m at)) (stands_at e.bytes s at) (Some (e.number, cursor (at + length e.bytes))) (first_of es s at)
     (λ t. is_as (record { small = p₁; past = omega arith })) (λ t. first_known m es r s at)
 
 -- nothing is found at the end of a text or past it
-pub first-end : (m : ℕ) (es : List Spelling) → below m es ≡ true → (s : List ℕ) (at : ℕ) → length s ≤ at → first_of es s at ≡ Not
+pub first-end : (m : ℕ) (es : List Spelling) → below m es ≡ true → (s : List ℕ) (at : ℕ) → length s ≤ at → first_of es s at ≡ None
 unfolding first_of
 first-end m [] h s at k = refl
 first-end m (e ∷ es) h s at k =
@@ -81,18 +79,18 @@ pub first_has : (es : List Spelling) (s : List ℕ) (at : ℕ) → OnSpelled (λ
 unfolding first_of has_number
 first_has [] s at = is_not
 first_has (e ∷ es) s at =
-    by_pick (OnSpelled (λ n c. has_number (e ∷ es) n ≡ true)) (stands_at e.bytes s at) (As e.number (cursor (at + length e.bytes))) (first_of es s at)
+    by_pick (OnSpelled (λ n c. has_number (e ∷ es) n ≡ true)) (stands_at e.bytes s at) (Some (e.number, cursor (at + length e.bytes))) (first_of es s at)
     (λ t. is_as here) (λ t. go (first_has es s at))
   where
     here : has_number (e ∷ es) e.number ≡ true
     here = rw (eq-eqb e.number e.number refl)
 
-    go : {r : Spelled} → OnSpelled (λ n c. has_number es n ≡ true) r → OnSpelled (λ n c. has_number (e ∷ es) n ≡ true) r
+    go : {r : Option (ℕ × Cursor)} → OnSpelled (λ n c. has_number es n ≡ true) r → OnSpelled (λ n c. has_number (e ∷ es) n ≡ true) r
     go (is_as {n} {c} h) = is_as (by_pick (λ b. b ≡ true) (eqb e.number n) true (has_number es n) (λ t. refl) (λ t. h))
     go is_not = is_not
 
 -- what two laws say of one answer
-pub both_spelled : {P Q : ℕ → Cursor → Type 0} {r : Spelled} → OnSpelled P r → OnSpelled Q r → OnSpelled (λ n c. P n c × Q n c) r
+pub both_spelled : {P Q : ℕ → Cursor → Type 0} {r : Option (ℕ × Cursor)} → OnSpelled P r → OnSpelled Q r → OnSpelled (λ n c. P n c × Q n c) r
 both_spelled (is_as h) (is_as k) = is_as (h, k)
 both_spelled is_not is_not = is_not
 
@@ -104,6 +102,6 @@ has_some es (suc n) z h = omega arith
 pub first_some : (es : List Spelling) → has_number es 0 ≡ false → (s : List ℕ) (at : ℕ) → OnSpelled (λ n c. 1 ≤ n) (first_of es s at)
 first_some es z s at = go (first_has es s at)
   where
-    go : {r : Spelled} → OnSpelled (λ n c. has_number es n ≡ true) r → OnSpelled (λ n c. 1 ≤ n) r
+    go : {r : Option (ℕ × Cursor)} → OnSpelled (λ n c. has_number es n ≡ true) r → OnSpelled (λ n c. 1 ≤ n) r
     go (is_as {n} {c} h) = is_as (has_some es n z h)
     go is_not = is_not

@@ -1,5 +1,6 @@
 -- Laws of counts: how long they are written, and how large they are read.
 -- Assumes nothing.
+use Rattle.std.specs.Prelude.{Option, Some, None}
 use Prim.Native.Nat.{ℕ, ◌+◌, ◌*◌, ◌/◌, ◌%◌, ◌≤◌, ◌<◌}
 use native.Mathlib.Omega.{arith}
 use mathlib.Core.Path.{◌≡◌, refl}
@@ -12,16 +13,14 @@ use Rattle.lists.specs.Pick.{pick}
 use Rattle.lists.proofs.Laws.{by_pick, pick_both, range_at}
 use Rattle.lists.proofs.Stand.{Stands, Came, Reads, Any, then, stands_past, stands_same}
 use Rattle.text.specs.Text.{cursor, tag_at}
-use Rattle.text.specs.declared.Place.TheVariants.{Past, Absent}
 use Rattle.text.proofs.Answers.{by_place}
 use Rattle.text.proofs.Ends.{tag_end}
 use Rattle.spell.specs.Tables.{Spelling, numerals}
 use Rattle.spell.specs.Spell.{first_of, spelled, has_number}
 use Rattle.spell.specs.Count.{ten, tens_at, hand_count_at, tens_text, count_text}
-use Rattle.spell.specs.declared.Spelled.{Spelled}
-use Rattle.spell.specs.declared.Spelled.TheVariants.{As, Not}
 use Rattle.spell.proofs.Written.{stands_here, first_fails, numeral_reads}
 use Rattle.spell.proofs.Answers.{OnSpelled, is_as, is_not, by_spelled, Known, first_known, first-end}
+use Rattle.text.specs.declared.Cursor.{Cursor}
 
 -- ---- written
 
@@ -82,13 +81,13 @@ tens-small s at =
     by_spelled Q (by_place Q is_not (tag_at ten s at) (λ e. is_as (omega arith))) (numeral_small s at)
     (λ d c k. let h = k.small in by_place Q is_not (tag_at ten s c.at) (λ e. is_as (omega arith)))
   where
-    Q : Spelled → Type 0
+    Q : Option (ℕ × Cursor) → Type 0
     Q = OnSpelled (λ t c. t ≤ 90)
 
 -- ---- reading what is written
 
 -- a byte string is read where it stands
-pub tag_reads : (t : List ℕ) → Reads (tag_at t) (λ e. Past (cursor e)) t Any
+pub tag_reads : (t : List ℕ) → Reads (tag_at t) (λ e. Some (cursor e)) t Any
 unfolding tag_at
 tag_reads t = record { run = λ s at r st c. record { end = at + length t; is = rw (stands_here t r st); left = stands_past t r s at st } }
 
@@ -103,16 +102,16 @@ numeral_none = refl
 
 -- neither a numeral nor 十 stands where a text stands
 pub record Over (r : List ℕ) : Type 0 where
-  pub numeral : (s : List ℕ) (at : ℕ) → Stands s at r → first_of numerals s at ≡ Not
-  pub tens : (s : List ℕ) (at : ℕ) → Stands s at r → tag_at ten s at ≡ Absent
+  pub numeral : (s : List ℕ) (at : ℕ) → Stands s at r → first_of numerals s at ≡ None
+  pub tens : (s : List ℕ) (at : ℕ) → Stands s at r → tag_at ten s at ≡ None
 
-tens-reads : (t : ℕ) → 1 ≤ t → t < 10 → Reads tens_at (λ e. As (t * 10) (cursor e)) (tens_text t) Any
+tens-reads : (t : ℕ) → 1 ≤ t → t < 10 → Reads tens_at (λ e. Some (t * 10, cursor e)) (tens_text t) Any
 unfolding tens_at
 tens-reads t h k = record {
   run = λ s at r st c. go (ltb t 2) refl s at r st;
 }
   where
-    go : (u : Bool) → ltb t 2 ≡ u → (s : List ℕ) (at : ℕ) (r : List ℕ) → Stands s at (tens_text t ++ r) → Came (tens_at s at) (λ e. As (t * 10) (cursor e)) s r
+    go : (u : Bool) → ltb t 2 ≡ u → (s : List ℕ) (at : ℕ) (r : List ℕ) → Stands s at (tens_text t ++ r) → Came (tens_at s at) (λ e. Some (t * 10, cursor e)) s r
     go true u s at r st =
         let z : t * 10 ≡ 10 = omega (arith, ltb-true t 2 u) in
         let st' : Stands s at (ten ++ r) = rw (tens-one t h (ltb-true t 2 u)) at st in
@@ -125,18 +124,18 @@ tens-reads t h k = record {
         record { end = e₂; is = rw (i₁, i₂); left = l₂ }
 
 -- a numeral without 十 after it is no tens
-tens_fail : (s : List ℕ) (at n e : ℕ) → first_of numerals s at ≡ As n (cursor e) → tag_at ten s e ≡ Absent → tens_at s at ≡ Not
+tens_fail : (s : List ℕ) (at n e : ℕ) → first_of numerals s at ≡ Some (n, cursor e) → tag_at ten s e ≡ None → tens_at s at ≡ None
 unfolding tens_at
 tens_fail s at n e h k = rw (h, k)
 
-pub count-reads : (n : ℕ) → 0 < n → n ≤ 99 → Reads hand_count_at (λ e. As n (cursor e)) (count_text n) Over
+pub count-reads : (n : ℕ) → 0 < n → n ≤ 99 → Reads hand_count_at (λ e. Some (n, cursor e)) (count_text n) Over
 unfolding hand_count_at
 count-reads n h k = record {
   run = λ s at r st c. go (ltb n 10) (ltb (n % 10) 1) refl refl s at r (rw (count-parts n k) at st) c;
 }
   where
     go : (u v : Bool) → ltb n 10 ≡ u → ltb (n % 10) 1 ≡ v → (s : List ℕ) (at : ℕ) (r : List ℕ)
-        → Stands s at (tens_text (n / 10) ++ spelled numerals (n % 10) ++ r) → Over r → Came (hand_count_at s at) (λ e. As n (cursor e)) s r
+        → Stands s at (tens_text (n / 10) ++ spelled numerals (n % 10) ++ r) → Over r → Came (hand_count_at s at) (λ e. Some (n, cursor e)) s r
     go true v u w s at r st c =
         let l : n < 10 = ltb-true n 10 u in
         let z : n % 10 ≡ n = omega arith in
@@ -160,6 +159,6 @@ count-reads n h k = record {
 
 -- ---- past the end
 
-pub count-end : (s : List ℕ) (at : ℕ) → length s ≤ at → hand_count_at s at ≡ Not
+pub count-end : (s : List ℕ) (at : ℕ) → length s ≤ at → hand_count_at s at ≡ None
 unfolding hand_count_at tens_at
 count-end s at h = let e = first-end 10 numerals refl s at h in rw (e, tag_end s at h ten (omega arith))

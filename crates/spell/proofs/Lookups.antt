@@ -1,5 +1,6 @@
 -- A character of three bytes is found at once by the slot of its code.
 -- Assumes nothing.
+use Rattle.std.specs.Prelude.{Option, Some, None}
 use Prim.Native.Nat.{ℕ, zero, suc, ◌+◌, ◌-◌, ◌/◌, ◌%◌, ◌≤◌, ◌<◌}
 use native.Mathlib.Omega.{arith}
 use mathlib.Core.Path.{◌≡◌, refl, sym, ap, ◌∙◌}
@@ -18,8 +19,6 @@ use Rattle.spell.specs.Spell.{first_of, number_spelled, code, code_of}
 use Rattle.spell.specs.Words.{promotes}
 use Rattle.spell.specs.inner.Codes.{all_bytes, bytes_of, code_at, three_at}
 use Rattle.spell.specs.inner.Slots.{look, number_in, numeral_slots, kind_slots, promoted_of, promoted_in}
-use Rattle.spell.specs.declared.Spelled.{Spelled}
-use Rattle.spell.specs.declared.Spelled.TheVariants.{As, Not}
 use Rattle.spell.proofs.Codes.{Near, near, key_of, key-at, key-bytes, bytes-key, key_stands, stands_key}
 use Rattle.spell.proofs.Written.{holds, found, number-held}
 
@@ -52,7 +51,7 @@ wide [] = true
 wide (e ∷ es) = pick (leb 3 (length e.bytes)) (wide es) false
 
 -- none stands where fewer than three bytes do
-pub short-first : (es : List Spelling) → wide es ≡ true → (s : List ℕ) (at : ℕ) → length s < at + 3 → first_of es s at ≡ Not
+pub short-first : (es : List Spelling) → wide es ≡ true → (s : List ℕ) (at : ℕ) → length s < at + 3 → first_of es s at ≡ None
 unfolding first_of
 short-first [] h s at k = refl
 short-first (e ∷ es) h s at k = go (stands_at e.bytes s at) refl (short-first es w.1 s at k)
@@ -60,7 +59,7 @@ short-first (e ∷ es) h s at k = go (stands_at e.bytes s at) refl (short-first 
     w : (3 ≤ length e.bytes) × (wide es ≡ true)
     w = let (p, q) = pick_both (leb 3 (length e.bytes)) (wide es) h in (leb-true _ _ p, q)
 
-    go : (u : Bool) → stands_at e.bytes s at ≡ u → first_of es s at ≡ Not → pick u (As e.number (cursor (at + length e.bytes))) (first_of es s at) ≡ Not
+    go : (u : Bool) → stands_at e.bytes s at ≡ u → first_of es s at ≡ None → pick u (Some (e.number, cursor (at + length e.bytes))) (first_of es s at) ≡ None
     go true t ih = absurd (omega (arith, stands_fits e.bytes s at t, w.0))
     go false t ih = ih
 
@@ -74,7 +73,7 @@ abbrev pub apart : List Spelling → List Spelling → Bool
 apart [] fs = true
 apart (e ∷ es) fs = pick (apart_from (code e.bytes) fs) (apart es fs) false
 
-not_apart : (x : ℕ) (fs : List Spelling) → wide fs ≡ true → apart_from x fs ≡ true → (s : List ℕ) (at : ℕ) → code_at s at ≡ x → first_of fs s at ≡ Not
+not_apart : (x : ℕ) (fs : List Spelling) → wide fs ≡ true → apart_from x fs ≡ true → (s : List ℕ) (at : ℕ) → code_at s at ≡ x → first_of fs s at ≡ None
 unfolding first_of
 not_apart x [] w h s at k = refl
 not_apart x (f ∷ fs) w h s at k = go (λ a. not_apart x fs v.1 a s at k) (stands_at f.bytes s at) refl (eqb x (code f.bytes)) refl h
@@ -82,14 +81,14 @@ not_apart x (f ∷ fs) w h s at k = go (λ a. not_apart x fs v.1 a s at k) (stan
     v : (3 ≤ length f.bytes) × (wide fs ≡ true)
     v = let (p, q) = pick_both (leb 3 (length f.bytes)) (wide fs) w in (leb-true _ _ p, q)
 
-    go : (apart_from x fs ≡ true → first_of fs s at ≡ Not) → (u : Bool) → stands_at f.bytes s at ≡ u → (t : Bool) → eqb x (code f.bytes) ≡ t → pick t false (apart_from x fs) ≡ true
-        → pick u (As f.number (cursor (at + length f.bytes))) (first_of fs s at) ≡ Not
+    go : (apart_from x fs ≡ true → first_of fs s at ≡ None) → (u : Bool) → stands_at f.bytes s at ≡ u → (t : Bool) → eqb x (code f.bytes) ≡ t → pick t false (apart_from x fs) ≡ true
+        → pick u (Some (f.number, cursor (at + length f.bytes))) (first_of fs s at) ≡ None
     go ih u e true q a = absurd (false≢true a)
     go ih true e false q a = absurd (eqb-false x (code f.bytes) q (sym k ∙ stands_has f.bytes s at v.0 e))
     go ih false e false q a = ih a
 
 -- where a spelling of the first stands, none of the second does
-pub apart_first : (es fs : List Spelling) → wide es ≡ true → wide fs ≡ true → apart es fs ≡ true → (s : List ℕ) (at n : ℕ) (c : Cursor) → first_of es s at ≡ As n c → first_of fs s at ≡ Not
+pub apart_first : (es fs : List Spelling) → wide es ≡ true → wide fs ≡ true → apart es fs ≡ true → (s : List ℕ) (at n : ℕ) (c : Cursor) → first_of es s at ≡ Some (n, c) → first_of fs s at ≡ None
 unfolding first_of
 apart_first [] fs w v h s at n c q = let z : ◌≡◌ {A = ℕ} 0 1 = cc in absurd (omega arith)
 apart_first (e ∷ es) fs w v h s at n c q = go (λ r. apart_first es fs w₁.1 v h₁.1 s at n c r) (stands_at e.bytes s at) refl q
@@ -100,8 +99,8 @@ apart_first (e ∷ es) fs w v h s at n c q = go (λ r. apart_first es fs w₁.1 
     h₁ : (apart_from (code e.bytes) fs ≡ true) × (apart es fs ≡ true)
     h₁ = pick_both (apart_from (code e.bytes) fs) (apart es fs) h
 
-    go : (first_of es s at ≡ As n c → first_of fs s at ≡ Not) → (u : Bool) → stands_at e.bytes s at ≡ u
-        → pick u (As e.number (cursor (at + length e.bytes))) (first_of es s at) ≡ As n c → first_of fs s at ≡ Not
+    go : (first_of es s at ≡ Some (n, c) → first_of fs s at ≡ None) → (u : Bool) → stands_at e.bytes s at ≡ u
+        → pick u (Some (e.number, cursor (at + length e.bytes))) (first_of es s at) ≡ Some (n, c) → first_of fs s at ≡ None
     go ih true t r = not_apart (code e.bytes) fs v h₁.0 s at (stands_has e.bytes s at w₁.0 t)
     go ih false t r = ih r
 
@@ -129,21 +128,21 @@ keyed all (e ∷ es) =
 module _ (all : List Spelling) (s : List ℕ) (at : ℕ) (near : Near (drop at s)) where
   -- a number that is found by the code is found in the table
   first_three : (es : List Spelling) → keyed all es ≡ true → (n : ℕ) → 0 < n → number_by all (code_at s at) ≡ n → number_by es (code_at s at) ≡ n
-      → first_of es s at ≡ As n (cursor (at + 3))
+      → first_of es s at ≡ Some (n, cursor (at + 3))
   unfolding first_of
   first_three [] h n p a q = absurd (omega arith)
   first_three (e ∷ es) h n p a q = go (λ k r. first_three es k n p a r) (eqb (length e.bytes) 3) refl h q
     where
       Rest : Type 0
-      Rest = keyed all es ≡ true → number_by es (code_at s at) ≡ n → first_of es s at ≡ As n (cursor (at + 3))
+      Rest = keyed all es ≡ true → number_by es (code_at s at) ≡ n → first_of es s at ≡ Some (n, cursor (at + 3))
 
       here : Rest → length e.bytes ≡ 3 → (u : Bool) → stands_at e.bytes s at ≡ u → pick u e.number (number_by es (code_at s at)) ≡ n → keyed all es ≡ true
-          → pick u (As e.number (cursor (at + length e.bytes))) (first_of es s at) ≡ As n (cursor (at + 3))
-      here ih z true t q k = ap (λ (m : ℕ). As m (cursor (at + length e.bytes))) q ∙ ap (λ (m : ℕ). As n (cursor (at + m))) z
+          → pick u (Some (e.number, cursor (at + length e.bytes))) (first_of es s at) ≡ Some (n, cursor (at + 3))
+      here ih z true t q k = ap (λ (m : ℕ). Some (m, cursor (at + length e.bytes))) q ∙ ap (λ (m : ℕ). Some (n, cursor (at + m))) z
       here ih z false t q k = ih k q
 
       there : Rest → 3 ≤ length e.bytes → number_by all (code e.bytes) ≡ 0 → (u : Bool) → stands_at e.bytes s at ≡ u → number_by es (code_at s at) ≡ n → keyed all es ≡ true
-          → pick u (As e.number (cursor (at + length e.bytes))) (first_of es s at) ≡ As n (cursor (at + 3))
+          → pick u (Some (e.number, cursor (at + length e.bytes))) (first_of es s at) ≡ Some (n, cursor (at + 3))
       there ih w z true t q k =
           let y : n ≡ 0 = sym a ∙ ap (number_by all) (stands_has e.bytes s at w t) ∙ z in
           absurd (omega arith)
@@ -153,7 +152,7 @@ module _ (all : List Spelling) (s : List ℕ) (at : ℕ) (near : Near (drop at s
           → pick u (pick (all_bytes e.bytes) (pick (ltb 0 e.number) (keyed all es) false) false)
           (pick (leb 3 (length e.bytes)) (pick (eqb (number_by all (code e.bytes)) 0) (keyed all es) false) false) ≡ true
           → pick u (pick (eqb (code_at s at) (code e.bytes)) e.number (number_by es (code_at s at))) (number_by es (code_at s at)) ≡ n
-          → pick (stands_at e.bytes s at) (As e.number (cursor (at + length e.bytes))) (first_of es s at) ≡ As n (cursor (at + 3))
+          → pick (stands_at e.bytes s at) (Some (e.number, cursor (at + length e.bytes))) (first_of es s at) ≡ Some (n, cursor (at + 3))
       go ih true z h q =
           let (b, h₁) = pick_both (all_bytes e.bytes) _ h in
           let (_, k) = pick_both (ltb 0 e.number) (keyed all es) h₁ in
@@ -174,7 +173,7 @@ module _ (all : List Spelling) (s : List ℕ) (at : ℕ) (near : Near (drop at s
       Rest = keyed all es ≡ true → number_by es (code_at s at) ≡ 0 → first_of es s at ≡ first_of (longer es) s at
 
       here : Rest → 0 < e.number → (u : Bool) → pick u e.number (number_by es (code_at s at)) ≡ 0 → keyed all es ≡ true
-          → pick u (As e.number (cursor (at + length e.bytes))) (first_of es s at) ≡ first_of (longer es) s at
+          → pick u (Some (e.number, cursor (at + length e.bytes))) (first_of es s at) ≡ first_of (longer es) s at
       here ih p true q k = absurd (omega arith)
       here ih p false q k = ih k q
 
@@ -182,7 +181,7 @@ module _ (all : List Spelling) (s : List ℕ) (at : ℕ) (near : Near (drop at s
           → pick u (pick (all_bytes e.bytes) (pick (ltb 0 e.number) (keyed all es) false) false)
           (pick (leb 3 (length e.bytes)) (pick (eqb (number_by all (code e.bytes)) 0) (keyed all es) false) false) ≡ true
           → pick u (pick (eqb (code_at s at) (code e.bytes)) e.number (number_by es (code_at s at))) (number_by es (code_at s at)) ≡ 0
-          → pick (stands_at e.bytes s at) (As e.number (cursor (at + length e.bytes))) (first_of es s at) ≡ first_of (pick u (longer es) (e ∷ longer es)) s at
+          → pick (stands_at e.bytes s at) (Some (e.number, cursor (at + length e.bytes))) (first_of es s at) ≡ first_of (pick u (longer es) (e ∷ longer es)) s at
       go ih true z h q =
           let (b, h₁) = pick_both (all_bytes e.bytes) _ h in
           let (p, k) = pick_both (ltb 0 e.number) (keyed all es) h₁ in
@@ -191,7 +190,7 @@ module _ (all : List Spelling) (s : List ℕ) (at : ℕ) (near : Near (drop at s
       go ih false z h q =
           let (w, h₁) = pick_both (leb 3 (length e.bytes)) _ h in
           let (m, k) = pick_both (eqb (number_by all (code e.bytes)) 0) (keyed all es) h₁ in
-          ap (λ (r : Spelled). pick (stands_at e.bytes s at) (As e.number (cursor (at + length e.bytes))) r) (ih k q)
+          ap (λ (r : Option (ℕ × Cursor)). pick (stands_at e.bytes s at) (Some (e.number, cursor (at + length e.bytes))) r) (ih k q)
 
 -- ---- slots
 
@@ -311,11 +310,11 @@ module _ (es : List Spelling) (l : List (ℕ × ℕ)) (m : ℕ) (k : keyed es es
   held_known = sound-look es l t (code_at s at % m) (code_at s at) (key-small s at near₁)
 
   -- it has a number
-  pub slot-first : (n ≡ 0 → ⊥) → first_of es s at ≡ As n (cursor (at + 3))
+  pub slot-first : (n ≡ 0 → ⊥) → first_of es s at ≡ Some (n, cursor (at + 3))
   unfolding number_in
   slot-first q = go (eqb (held / 16) (code_at s at)) refl e
     where
-      go : (v : Bool) → eqb (held / 16) (code_at s at) ≡ v → n ≡ pick v (held % 16) 0 → first_of es s at ≡ As n (cursor (at + 3))
+      go : (v : Bool) → eqb (held / 16) (code_at s at) ≡ v → n ≡ pick v (held % 16) 0 → first_of es s at ≡ Some (n, cursor (at + 3))
       go true w z =
           let (o, p) = held_known (eqb-true _ _ w) in
           let o₁ : number_by es (code_at s at) ≡ n = o ∙ sym z in
@@ -332,17 +331,9 @@ module _ (es : List Spelling) (l : List (ℕ × ℕ)) (m : ℕ) (k : keyed es es
       go false w z = first_longer es s at near₁ es k (complete_look l m es u (code_at s at) (eqb-false _ _ w))
 
   -- nor is any longer
-  pub slot_not : longer es ≡ [] → n ≡ 0 → first_of es s at ≡ Not
+  pub slot_not : longer es ≡ [] → n ≡ 0 → first_of es s at ≡ None
   unfolding first_of
   slot_not z q = slot_longer q ∙ ap (λ (fs : List Spelling). first_of fs s at) z
-
--- whether fewer than three bytes stand at a place, as the code asks it
-pub short_test : (n at : ℕ) → 3 ≤ n → ltb (n - 3) at ≡ ltb n (at + 3)
-short_test n at h = go (ltb (n - 3) at) refl
-  where
-    go : (u : Bool) → ltb (n - 3) at ≡ u → u ≡ ltb n (at + 3)
-    go true e = sym (lt-ltb n (at + 3) (omega (arith, ltb-true (n - 3) at e)))
-    go false e = sym (le-ltb n (at + 3) (omega (arith, ltb-false (n - 3) at e)))
 
 -- ---- files, whose keys are one after another
 
@@ -362,14 +353,14 @@ file-none : (x : ℕ) → (15711377 ≤ x → x ≤ 15711385 → ⊥) → number
 file-none x h = rw (ne_eqb x 15711377 (λ e. h (omega arith) (omega arith)), ne_eqb x 15711378 (λ e. h (omega arith) (omega arith)), ne_eqb x 15711379 (λ e. h (omega arith) (omega arith)), ne_eqb x 15711380 (λ e. h (omega arith) (omega arith)), ne_eqb x 15711381 (λ e. h (omega arith) (omega arith)), ne_eqb x 15711382 (λ e. h (omega arith) (omega arith)), ne_eqb x 15711383 (λ e. h (omega arith) (omega arith)), ne_eqb x 15711384 (λ e. h (omega arith) (omega arith)), ne_eqb x 15711385 (λ e. h (omega arith) (omega arith)))
 
 module _ (s : List ℕ) (at : ℕ) (near : Near (drop at s)) (x : ℕ) (e : x ≡ code_at s at) where
-  pub file-first : 15711377 ≤ x → x ≤ 15711385 → first_of files s at ≡ As (x - 15711376) (cursor (at + 3))
+  pub file-first : 15711377 ≤ x → x ≤ 15711385 → first_of files s at ≡ Some (x - 15711376, cursor (at + 3))
   file-first l u =
       let y : 15711377 + (x - 15711377) ≡ x = omega arith in
       let z : x - 15711377 + 1 ≡ x - 15711376 = omega arith in
       let n : number_by files (code_at s at) ≡ x - 15711376 = ap (number_by files) (sym (y ∙ e)) ∙ file-number (x - 15711377) (omega arith) ∙ z in
       first_three files s at near files refl (x - 15711376) (omega arith) n n
 
-  pub file_not : (15711377 ≤ x → x ≤ 15711385 → ⊥) → first_of files s at ≡ Not
+  pub file_not : (15711377 ≤ x → x ≤ 15711385 → ⊥) → first_of files s at ≡ None
   unfolding first_of
   file_not h = first_longer files s at near files refl (ap (number_by files) (sym e) ∙ file-none x h)
 
@@ -460,22 +451,22 @@ promoted-some k h l = rw (le-ltb k 2 h, le-ltb 4 k l)
 -- ---- what is known of three bytes of a slice
 
 module _ (s : List ℕ) (at : ℕ) (bytes : (i : ℕ) → get_or s i 0 < 256) where
-  pub numeral_known : (number_spelled numerals (three_at s at) ≡ 0 → ⊥) → first_of numerals s at ≡ As (number_spelled numerals (three_at s at)) (cursor (at + 3))
+  pub numeral_known : (number_spelled numerals (three_at s at) ≡ 0 → ⊥) → first_of numerals s at ≡ Some (number_spelled numerals (three_at s at), cursor (at + 3))
   numeral_known q = slot-first numerals numeral_slots 17 refl refl refl s at bytes _ refl q
 
-  pub kind_known : (number_spelled kinds (three_at s at) ≡ 0 → ⊥) → first_of kinds s at ≡ As (number_spelled kinds (three_at s at)) (cursor (at + 3))
+  pub kind_known : (number_spelled kinds (three_at s at) ≡ 0 → ⊥) → first_of kinds s at ≡ Some (number_spelled kinds (three_at s at), cursor (at + 3))
   kind_known q = slot-first kinds kind_slots 35 refl refl refl s at bytes _ refl q
 
   pub file_known : get_or s at 0 ≡ 239 → get_or s (at + 1) 0 ≡ 188 → 145 ≤ get_or s (at + 2) 0 → get_or s (at + 2) 0 ≤ 153
-      → first_of files s at ≡ As (get_or s (at + 2) 0 - 144) (cursor (at + 3))
+      → first_of files s at ≡ Some (get_or s (at + 2) 0 - 144, cursor (at + 3))
   file_known a b l u =
       let x = key_of s at (at + 1) (at + 2) refl refl in
       let z : code_at s at - 15711376 ≡ get_or s (at + 2) 0 - 144 = omega arith in
-      file-first s at (near s at bytes) (code_at s at) refl (omega arith) (omega arith) ∙ ap (λ (n : ℕ). As n (cursor (at + 3))) z
+      file-first s at (near s at bytes) (code_at s at) refl (omega arith) (omega arith) ∙ ap (λ (n : ℕ). Some (n, cursor (at + 3))) z
 
   -- 成 and three bytes more
   pub promoted_known : get_or s at 0 ≡ 230 → get_or s (at + 1) 0 ≡ 136 → get_or s (at + 2) 0 ≡ 144 → at + 6 ≤ length s → (number_spelled kinds (promotes ++ three_at s (at + 3)) ≡ 0 → ⊥)
-      → first_of kinds s at ≡ As (number_spelled kinds (promotes ++ three_at s (at + 3))) (cursor (at + 6))
+      → first_of kinds s at ≡ Some (number_spelled kinds (promotes ++ three_at s (at + 3)), cursor (at + 6))
   unfolding code_at
   promoted_known a b c h q =
       let x : ℕ = code_at s (at + 3) in
@@ -484,4 +475,4 @@ module _ (s : List ℕ) (at : ℕ) (bytes : (i : ℕ) → get_or s i 0 < 256) wh
       let st : drop at s ≡ 230 ∷ 136 ∷ 144 ∷ bytes_of x ++ drop (at + 3 + 3) s =
       key_stands s at bytes (omega arith) ∙ ap (λ (y : ℕ). bytes_of y ++ drop (at + 3) s) k ∙ ap (λ (l : List ℕ). 230 ∷ 136 ∷ 144 ∷ l) (key_stands s (at + 3) bytes (omega arith)) in
       found kinds (promoted_in x) (230 ∷ 136 ∷ 144 ∷ bytes_of x) refl (promoted_is x (key-small s (at + 3) (near s (at + 3) bytes)) (λ z. q (sym y ∙ z))) (drop (at + 3 + 3) s) (record { rest = st; within = omega arith })
-      ∙ ap (λ (n : ℕ). As n (cursor (at + 6))) y
+      ∙ ap (λ (n : ℕ). Some (n, cursor (at + 6))) y

@@ -1,130 +1,63 @@
 -- Walking over the rows of a table: what stands in a row, and what is left after it. Every search over rows goes by these laws.
 -- Assumes nothing.
-use Prim.Native.Nat.{ℕ, ◌+◌, ◌-◌, ◌≤◌, ◌<◌}
+use Rattle.std.specs.Prelude.{Some}
+use Prim.Native.Nat.{ℕ, zero, suc, ◌+◌, ◌≤◌, ◌<◌}
 use native.Mathlib.Omega.{arith}
-use mathlib.Core.Path.{◌≡◌, refl, sym, ap, ◌∙◌}
-use mathlib.Core.List.{List, [], ◌∷◌, ◌++◌, append_assoc}
+use mathlib.Core.Path.{◌≡◌, sym, ap}
+use mathlib.Core.List.{List, [], ◌∷◌}
 use mathlib.Core.Bool.{true, false}
-use lib.ListN.{length, get_or, drop, take, replicate, length-append, length-drop, length-replicate, drop_of_length-le}
-use lib.Seq.{drop-drop, get_or-drop, take_at, drop_at}
-use lib.Dec.{leb}
-use borrow.Author.Tests.{leb-true, eq-eqb, ne_eqb}
-use Rattle.lists.proofs.Laws.{head_at, pick_both}
+use lib.ListN.{length, get_or, drop, take}
+use lib.Dec.{eqb}
+use Rattle.std.proofs.Common.{add-one}
+use borrow.Author.Tests.{eqb-true, leb-true, eq-eqb, ne_eqb}
+use Rattle.lists.proofs.Laws.{pick_both}
 use Rattle.text.specs.Text.{cursor, stands_at}
-use Rattle.spell.specs.Tables.{Spelling}
+use Rattle.spell.specs.Tables.{Spelling, spelling}
 use Rattle.spell.specs.Spell.{first_of, spelled}
-use Rattle.spell.specs.inner.Codes.{row, rows, narrow, Rows}
-use Rattle.spell.specs.declared.Spelled.TheVariants.{As, Not}
+use Rattle.spell.specs.inner.Rows.{spellings, fits, all_fit}
+use Rattle.spell.specs.declared.Row.{Row}
 
--- what is left of a table at i, and that what is looked for in the whole is looked for in the rest
-pub record Left {A : Type 0} (find : List Spelling → A) (w : ℕ) (table : List ℕ) (es₀ : List Spelling) (i : ℕ) : Type 0 where
-  pub es : List Spelling
-  pub rest : drop i table ≡ rows w es
-  pub fits : narrow w es ≡ true
-  pub same : find es₀ ≡ find es
+-- what a row's test says
+pub record Fits {w : ℕ} (r : Row w) : Type 0 where
+  pub wide : length r.bytes ≡ w
+  pub fits : r.length ≤ w
 
--- a row at i: where its parts stand
-pub record Here (w : ℕ) (table : List ℕ) (i : ℕ) (es : List Spelling) : Type 0 where
-  pub e : Spelling
-  pub after : List Spelling
-  pub whole : es ≡ e ∷ after
-  pub size : get_or table i 0 ≡ length e.bytes
-  pub number : get_or table (i + 1) 0 ≡ e.number
-  pub bytes : take (length e.bytes) (drop (i + 2) table) ≡ e.bytes
-  pub next : drop (i + w) table ≡ rows w after
-  pub narrower : narrow w after ≡ true
-  pub within : length e.bytes + 2 ≤ w
-  pub inside : i + w ≤ length table
+fits_so : {w : ℕ} (r : Row w) → fits r ≡ true → Fits r
+fits_so {w} r h =
+    let (q, k) = pick_both (eqb (length r.bytes) w) _ h in
+    record { wide = eqb-true (length r.bytes) w q; fits = leb-true r.length w k }
 
-row-length : (w : ℕ) (e : Spelling) → length e.bytes + 2 ≤ w → length (row w e) ≡ w
-row-length w e h =
-    let n : ℕ = w - (length e.bytes + 2) in
-    let z : ℕ = 0 in omega (arith, length-append e.bytes (replicate n z), length-replicate n z)
+pub fits_at : {w : ℕ} (rows : List (Row w)) (i : ℕ) (r : Row w) → all_fit rows ≡ true → i < length rows → r ≡ get_or rows i r → Fits r
+fits_at [] i r h l e = absurd (omega arith)
+fits_at (x ∷ rows) zero r h l e = rw e (fits_so x (pick_both (fits x) (all_fit rows) h).0)
+fits_at (x ∷ rows) (suc i) r h l e = fits_at rows i r (pick_both (fits x) (all_fit rows) h).1 (omega arith) e
 
--- the row that the table has at a place where something is left
-pub here : (w : ℕ) (table : List ℕ) (i : ℕ) (es : List Spelling) → i < length table → drop i table ≡ rows w es → narrow w es ≡ true → Here w table i es
-here w table i [] h r k = absurd (omega (arith, simp length-drop at (ap length r)))
-here w table i (e ∷ es) h r k =
-    let n : ℕ = length e.bytes in
-    let z : List ℕ = replicate (w - (n + 2)) 0 in
-    let b = pick_both (leb (n + 2) w) (narrow w es) k in
-    let f : n + 2 ≤ w = leb-true (n + 2) w b.0 in
-    let l : length (row w e) ≡ w = row-length w e f in
-    let d : drop (i + 2) table ≡ e.bytes ++ (z ++ rows w es) = sym (drop-drop 2 i table) ∙ ap (drop 2) r ∙ append_assoc e.bytes z (rows w es) in
-    record {
-      e = e;
-      after = es;
-      whole = refl;
-      size = head_at table i ∙ ap (λ (l : List ℕ). get_or l 0 0) r;
-      number = sym (get_or-drop i table 1 0) ∙ ap (λ (l : List ℕ). get_or l 1 0) r;
-      bytes = ap (take n) d ∙ take_at e.bytes (z ++ rows w es) n refl;
-      next = sym (drop-drop w i table) ∙ ap (drop w) r ∙ drop_at (row w e) (rows w es) w l;
-      narrower = b.1;
-      within = f;
-      inside = omega (arith, ap length r, length-drop i table, length-append (row w e) (rows w es));
-    }
+left_suc : {w : ℕ} (rows : List (Row w)) (i : ℕ) (r : Row w) → i < length rows → r ≡ get_or rows i r →
+    spellings (drop i rows) ≡ spelling r.number (take r.length r.bytes) ∷ spellings (drop (suc i) rows)
+left_suc [] i r l e = absurd (omega arith)
+left_suc (x ∷ rows) zero r l e = ap (λ (y : Row _). spelling y.number (take y.length y.bytes) ∷ spellings rows) (sym e)
+left_suc (x ∷ rows) (suc i) r l e = left_suc rows i r (omega arith) e
 
-pub left_start : {A : Type 0} (find : List Spelling → A) {w : ℕ} {table : List ℕ} {es : List Spelling} → Rows w es table → Left find w table es 0
-left_start find {es = es} r = record { es = es; rest = r.whole; fits = r.fits; same = refl }
+-- what is left of a table at a row: the row and what comes after it
+pub left_at : {w : ℕ} (rows : List (Row w)) (i : ℕ) (r : Row w) → i < length rows → r ≡ get_or rows i r →
+    spellings (drop i rows) ≡ spelling r.number (take r.length r.bytes) ∷ spellings (drop (i + 1) rows)
+left_at rows i r l e = rw add-one (left_suc rows i r l e)
 
-module _ {A : Type 0} {find : List Spelling → A} {w : ℕ} {table : List ℕ} {es₀ : List Spelling} {i : ℕ} (l : Left find w table es₀ i) where
-  -- nothing is left
-  pub left_none : length table ≤ i → find es₀ ≡ find []
-  left_none h = l.same ∙ go l.es (sym l.rest ∙ drop_of_length-le table h)
-    where
-      go : (es : List Spelling) → rows w es ≡ [] → find es ≡ find []
-      go [] e = refl
-      go (x ∷ es) e = absurd (omega (arith, ap length e))
+-- ---- the two searches: by the row that is met, and past it
 
-  module _ (h : i < length table) where
-    abbrev pub now_here : Here w table i l.es
-    now_here = here w table i l.es h l.rest l.fits
+pub first_here : (e : Spelling) (es : List Spelling) (s : List ℕ) (at : ℕ) → stands_at e.bytes s at ≡ true →
+    first_of (e ∷ es) s at ≡ Some (e.number, cursor (at + length e.bytes))
+unfolding first_of
+first_here e es s at h = rw h
 
-    -- a row's bytes end in it, and it ends in the table
-    pub left_within : (i + 2 + get_or table i 0 ≤ i + w) × (i + w ≤ length table)
-    left_within = let q = now_here in (omega (arith, q.size, q.within), q.inside)
+pub first_past : (e : Spelling) (es : List Spelling) (s : List ℕ) (at : ℕ) → stands_at e.bytes s at ≡ false → first_of (e ∷ es) s at ≡ first_of es s at
+unfolding first_of
+first_past e es s at h = rw h
 
-    -- the spelling in the row
-    abbrev pub word : List ℕ
-    word = take (get_or table i 0) (drop (i + 2) table)
+pub spelled_here : (e : Spelling) (es : List Spelling) (n : ℕ) → e.number ≡ n → spelled (e ∷ es) n ≡ e.bytes
+unfolding spelled
+spelled_here e es n h = rw (eq-eqb e.number n h)
 
-    pub word_is : word ≡ now_here.e.bytes
-    word_is = rw now_here.size now_here.bytes
-
-    -- what is looked for, in the row and what comes after it
-    pub left_first : find es₀ ≡ find (now_here.e ∷ now_here.after)
-    left_first = l.same ∙ ap find now_here.whole
-
-    -- it is not in the row
-    pub left_more : find (now_here.e ∷ now_here.after) ≡ find now_here.after → Left find w table es₀ (i + w)
-    left_more e = record { es = now_here.after; rest = now_here.next; fits = now_here.narrower; same = left_first ∙ e }
-
--- ---- the two searches
-
-module _ (s : List ℕ) (at : ℕ) {w : ℕ} {table : List ℕ} {es₀ : List Spelling} {i : ℕ} (l : Left (λ (es : List Spelling). first_of es s at) w table es₀ i) where
-  pub find_none : length table ≤ i → first_of es₀ s at ≡ Not
-  unfolding first_of
-  find_none h = left_none l h
-
-  module _ (h : i < length table) where
-    pub find_here : stands_at (word l h) s at ≡ true → first_of es₀ s at ≡ As (get_or table (i + 1) 0) (cursor (at + get_or table i 0))
-    unfolding first_of
-    find_here t = left_first l h ∙ rw ((now_here l h).number, (now_here l h).size, rw (word_is l h) at t)
-
-    pub find_more : stands_at (word l h) s at ≡ false → Left (λ (es : List Spelling). first_of es s at) w table es₀ (i + w)
-    unfolding first_of
-    find_more t = left_more l h (rw (rw (word_is l h) at t))
-
-module _ (n : ℕ) {w : ℕ} {table : List ℕ} {es₀ : List Spelling} {i : ℕ} (l : Left (λ (es : List Spelling). spelled es n) w table es₀ i) where
-  pub spelled_none : length table ≤ i → spelled es₀ n ≡ []
-  unfolding spelled
-  spelled_none h = left_none l h
-
-  module _ (h : i < length table) where
-    pub spelled_here : get_or table (i + 1) 0 ≡ n → spelled es₀ n ≡ word l h
-    unfolding spelled
-    spelled_here e = left_first l h ∙ rw (eq-eqb _ _ (sym (now_here l h).number ∙ e)) (sym (word_is l h))
-
-    pub spelled-more : (get_or table (i + 1) 0 ≡ n → ⊥) → Left (λ (es : List Spelling). spelled es n) w table es₀ (i + w)
-    unfolding spelled
-    spelled-more e = left_more l h (rw (ne_eqb (now_here l h).e.number n (λ q. e ((now_here l h).number ∙ q))))
+pub spelled_past : (e : Spelling) (es : List Spelling) (n : ℕ) → (e.number ≡ n → ⊥) → spelled (e ∷ es) n ≡ spelled es n
+unfolding spelled
+spelled_past e es n h = rw (ne_eqb e.number n h)

@@ -1,6 +1,7 @@
 -- What is written by one table is read by another that has its spellings, if in that one no spelling starts another. That tables are such
 -- are tests, which antt computes.
 -- Assumes nothing.
+use Rattle.std.specs.Prelude.{Some, None}
 use Prim.Native.Nat.{ℕ, ◌+◌, ◌-◌, ◌≤◌}
 use native.Mathlib.Omega.{arith}
 use mathlib.Core.Path.{◌≡◌, refl, sym, ap, ◌∙◌}
@@ -16,7 +17,6 @@ use Rattle.text.specs.Text.{cursor, prefix_from, stands_at, same}
 use Rattle.text.proofs.Laws.{same_is}
 use Rattle.spell.specs.Tables.{Spelling, move_kinds, kinds, specials, presets, numerals, files}
 use Rattle.spell.specs.Spell.{first_of, number_spelled, spelled, has_number}
-use Rattle.spell.specs.declared.Spelled.TheVariants.{As, Not}
 
 -- ---- the tests
 
@@ -98,7 +98,7 @@ clear_held a (e ∷ es) n b h k =
 
 -- what a table spells is found where it stands
 pub found : (es : List Spelling) (n : ℕ) (b : List ℕ) → alone es ≡ true → holds es n b ≡ true → {s : List ℕ} {at : ℕ} (r : List ℕ)
-    → Stands s at (b ++ r) → first_of es s at ≡ As n (cursor (at + length b))
+    → Stands s at (b ++ r) → first_of es s at ≡ Some (n, cursor (at + length b))
 unfolding first_of
 found [] n b h k r st = absurd (false≢true k)
 found (e ∷ es) n b h k {s} {at} r st = go (pick (eqb e.number n) (same e.bytes b) false) refl (λ k. found es n b p.1 k r st) k
@@ -106,9 +106,9 @@ found (e ∷ es) n b h k {s} {at} r st = go (pick (eqb e.number n) (same e.bytes
     p : (clear e.bytes es ≡ true) × (alone es ≡ true)
     p = pick_both (clear e.bytes es) (alone es) h
 
-    go : (u : Bool) → pick (eqb e.number n) (same e.bytes b) false ≡ u → (holds es n b ≡ true → first_of es s at ≡ As n (cursor (at + length b)))
+    go : (u : Bool) → pick (eqb e.number n) (same e.bytes b) false ≡ u → (holds es n b ≡ true → first_of es s at ≡ Some (n, cursor (at + length b)))
         → pick u true (holds es n b) ≡ true
-        → pick (stands_at e.bytes s at) (As e.number (cursor (at + length e.bytes))) (first_of es s at) ≡ As n (cursor (at + length b))
+        → pick (stands_at e.bytes s at) (Some (e.number, cursor (at + length e.bytes))) (first_of es s at) ≡ Some (n, cursor (at + length b))
     go true w ih k =
         let (x, y) = pick_both (eqb e.number n) (same e.bytes b) w in
         rw (same_is e.bytes b y, stands_here b r st, eqb-true e.number n x)
@@ -149,14 +149,14 @@ covers_spelled es (w ∷ ws) n h k =
 -- ---- reading what is written gives the number
 
 pub spelled-reads : (es ws : List Spelling) (n : ℕ) → alone es ≡ true → covers es ws ≡ true → has_number ws n ≡ true
-    → Reads (first_of es) (λ e. As n (cursor e)) (spelled ws n) Any
+    → Reads (first_of es) (λ e. Some (n, cursor e)) (spelled ws n) Any
 spelled-reads es ws n h k m = record {
   run = λ s at r st c.
       record { end = at + length (spelled ws n); is = found es n (spelled ws n) h (covers_spelled es ws n k m) r st; left = stands_past (spelled ws n) r s at st };
 }
 
 -- a text that no spelling of a table starts, or is started by, is none of the table
-pub first_fails : (es : List Spelling) (t : List ℕ) → clear t es ≡ true → {s : List ℕ} {at : ℕ} (r : List ℕ) → Stands s at (t ++ r) → first_of es s at ≡ Not
+pub first_fails : (es : List Spelling) (t : List ℕ) → clear t es ≡ true → {s : List ℕ} {at : ℕ} (r : List ℕ) → Stands s at (t ++ r) → first_of es s at ≡ None
 unfolding first_of
 first_fails [] t h r st = refl
 first_fails (e ∷ es) t h r st =
@@ -164,27 +164,27 @@ first_fails (e ∷ es) t h r st =
     rw (stands_other e.bytes t r st (clash_sym e.bytes t ∙ p)) (first_fails es t q r st)
 
 module _ (n : ℕ) where
-  pub move-kind-reads : has_number move_kinds n ≡ true → Reads (first_of kinds) (λ e. As n (cursor e)) (spelled move_kinds n) Any
+  pub move-kind-reads : has_number move_kinds n ≡ true → Reads (first_of kinds) (λ e. Some (n, cursor e)) (spelled move_kinds n) Any
   unfolding same
   move-kind-reads h = spelled-reads kinds move_kinds n refl refl h
 
-  pub board-kind-reads : has_number kinds n ≡ true → Reads (first_of kinds) (λ e. As n (cursor e)) (spelled kinds n) Any
+  pub board-kind-reads : has_number kinds n ≡ true → Reads (first_of kinds) (λ e. Some (n, cursor e)) (spelled kinds n) Any
   unfolding same
   board-kind-reads h = spelled-reads kinds kinds n refl refl h
 
-  pub special_reads : has_number specials n ≡ true → Reads (first_of specials) (λ e. As n (cursor e)) (spelled specials n) Any
+  pub special_reads : has_number specials n ≡ true → Reads (first_of specials) (λ e. Some (n, cursor e)) (spelled specials n) Any
   unfolding same
   special_reads h = spelled-reads specials specials n refl refl h
 
-  pub preset-reads : has_number presets n ≡ true → Reads (first_of presets) (λ e. As n (cursor e)) (spelled presets n) Any
+  pub preset-reads : has_number presets n ≡ true → Reads (first_of presets) (λ e. Some (n, cursor e)) (spelled presets n) Any
   unfolding same
   preset-reads h = spelled-reads presets presets n refl refl h
 
-  pub numeral_reads : has_number numerals n ≡ true → Reads (first_of numerals) (λ e. As n (cursor e)) (spelled numerals n) Any
+  pub numeral_reads : has_number numerals n ≡ true → Reads (first_of numerals) (λ e. Some (n, cursor e)) (spelled numerals n) Any
   unfolding same
   numeral_reads h = spelled-reads numerals numerals n refl refl h
 
-  pub file-reads : has_number files n ≡ true → Reads (first_of files) (λ e. As n (cursor e)) (spelled files n) Any
+  pub file-reads : has_number files n ≡ true → Reads (first_of files) (λ e. Some (n, cursor e)) (spelled files n) Any
   unfolding same
   file-reads h = spelled-reads files files n refl refl h
 

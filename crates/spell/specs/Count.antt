@@ -1,29 +1,28 @@
 -- The count of a piece in hand, in kanji: 一 to 九十九.                                               (01, Reading rules: hands)
 -- Assumes nothing: these are definitions.
-use Rattle.std.specs.Prelude.{ℕ, ◌+◌, ◌*◌, ◌/◌, ◌%◌, List, [], ◌∷◌, ◌++◌, ltb}
+use Rattle.std.specs.Prelude.{ℕ, ◌+◌, ◌*◌, ◌/◌, ◌%◌, List, [], ◌∷◌, ◌++◌, ltb, Option, Some, None}
 use Rattle.lists.specs.Pick.{pick}
 use Rattle.text.specs.Text.{on_place, tag_at}
 use Rattle.spell.specs.Tables.{numerals}
 use Rattle.spell.specs.Spell.{on_spelled, first_of, spelled}
-use Rattle.spell.specs.declared.Spelled.{Spelled}
-use Rattle.spell.specs.declared.Spelled.TheVariants.{As, Not}
+use Rattle.text.specs.declared.Cursor.{Cursor}
 
 -- 十
 abbrev pub ten : List ℕ
 ten = 229 ∷ 141 ∷ 129 ∷ []
 
 -- The tens: 十 after a numeral or alone.                                                             (01, Reading rules: 十, 二十, 一十)
-unfoldable pub tens_at : List ℕ → ℕ → Spelled
+unfoldable pub tens_at : List ℕ → ℕ → Option (ℕ × Cursor)
 tens_at s at =
     on_spelled (first_of numerals s at)
-    (λ d c. on_place (tag_at ten s c.at) (λ e. As (d * 10) e) Not)
-    (on_place (tag_at ten s at) (λ e. As 10 e) Not)
+    (λ d c. on_place (tag_at ten s c.at) (λ e. Some (d * 10, e)) None)
+    (on_place (tag_at ten s at) (λ e. Some (10, e)) None)
 
 -- The count: tens and ones, or either alone.                                                         (01, Reading rules: hands)
-unfoldable pub hand_count_at : List ℕ → ℕ → Spelled
+unfoldable pub hand_count_at : List ℕ → ℕ → Option (ℕ × Cursor)
 hand_count_at s at =
     on_spelled (tens_at s at)
-    (λ t c. on_spelled (first_of numerals s c.at) (λ d e. As (t + d) e) (As t c))
+    (λ t c. on_spelled (first_of numerals s c.at) (λ d e. Some (t + d, e)) (Some (t, c)))
     (first_of numerals s at)
 
 -- How tens are written: no 一 before 十, and nothing for none.                                         (01, Writing)

@@ -1,23 +1,21 @@
 -- What a table of spellings says: which of them stands at a place, and how a number is written.
 -- Assumes nothing: these are definitions.
-use Rattle.std.specs.Prelude.{ℕ, ◌+◌, ◌*◌, List, [], ◌∷◌, Bool, true, false, length, get_or, eqb}
+use Rattle.std.specs.Prelude.{ℕ, ◌+◌, ◌*◌, List, [], ◌∷◌, Bool, true, false, length, get_or, eqb, Option, Some, None}
 use Rattle.lists.specs.Pick.{pick}
 use Rattle.text.specs.Text.{cursor, stands_at, same}
 use Rattle.text.specs.declared.Cursor.{Cursor}
 use Rattle.spell.specs.Tables.{Spelling}
-use Rattle.spell.specs.declared.Spelled.{Spelled}
-use Rattle.spell.specs.declared.Spelled.TheVariants.{As, Not}
 
 -- An answer taken apart: what to do with its values, and what stands for the other case.
-abbrev pub on_spelled : {A : Type 0} → Spelled → (ℕ → Cursor → A) → A → A
-on_spelled (As n c) f d = f n c
-on_spelled Not f d = d
+abbrev pub on_spelled : {A : Type 0} → Option (ℕ × Cursor) → (ℕ → Cursor → A) → A → A
+on_spelled (Some (n, c)) f d = f n c
+on_spelled None f d = d
 
 -- The first spelling of a table that stands at a place: its number, and the place past it.           (01, Reading rules)
-unfoldable pub first_of : List Spelling → List ℕ → ℕ → Spelled
-first_of [] s at = Not
+unfoldable pub first_of : List Spelling → List ℕ → ℕ → Option (ℕ × Cursor)
+first_of [] s at = None
 first_of (e ∷ es) s at =
-    let r = first_of es s at in pick (stands_at e.bytes s at) (As e.number (cursor (at + length e.bytes))) r
+    let r = first_of es s at in pick (stands_at e.bytes s at) (Some (e.number, cursor (at + length e.bytes))) r
 
 -- The number of the spelling that some bytes are, no more and no fewer; 0 where they are none.         (01, Reading rules)
 unfoldable pub number_spelled : List Spelling → List ℕ → ℕ

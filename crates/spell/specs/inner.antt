@@ -1,3 +1,4 @@
 pub mod Codes
 pub mod Slots
 pub mod Kinds
+pub mod Rows

@@ -6,7 +6,6 @@ ghost use Rattle.spell.specs.inner.Slots.{look, numeral_slots};
 ghost use Rattle.spell.specs.Spell.{first_of, number_spelled, spelled, code, code_of};
 ghost use Rattle.spell.specs.inner.Codes.{Digits, IsDigits, code_at};
 
-use crate::Spelled;
 use text::Cursor;
 
 // 一 to 九
@@ -29,10 +28,7 @@ fn wide32(b: u8) -> u32
 pub(crate) fn is_short(s: &[u8], at: usize) -> bool
     ensures { result ≡ ltb (length s.now) (at + 3) }
 {
-    if s.len() < 3 {
-        return true;
-    }
-    s.len() - 3 < at
+    s.len() < 3 || s.len() - 3 < at
 }
 
 // Three bytes as one number.
@@ -82,36 +78,32 @@ pub fn numeral_of(a: u8, b: u8, c: u8) -> u8
 }
 
 // The rank, or digit of a count, that stands at a place.   (the Rust's kansuji_digit)
-pub fn numeral(c: Cursor, s: &[u8]) -> Spelled
+pub fn numeral(c: Cursor, s: &[u8]) -> Option<(u8, Cursor)>
     ensures { result ≡ first_of numerals s.now c.at }
 {
     let at = c.at;
     if is_short(s, at) {
-        return Spelled::Not;
+        return None;
     }
     let n = numeral_of(s[at], s[at + 1], s[at + 2]);
     if n == 0 {
-        return Spelled::Not;
+        return None;
     }
-    Spelled::As(n, Cursor { at: at + 3 })
+    Some((n, Cursor { at: at + 3 }))
 }
 
 // The file that stands at a place: １ to ９ are one after another.   (the Rust's place_x)
-pub fn file(c: Cursor, s: &[u8]) -> Spelled
+pub fn file(c: Cursor, s: &[u8]) -> Option<(u8, Cursor)>
     ensures { result ≡ first_of files s.now c.at }
 {
     let at = c.at;
     if is_short(s, at) {
-        return Spelled::Not;
+        return None;
     }
-    let x = code_at(s, at);
-    if x < 0xefbc91 {
-        return Spelled::Not;
+    match code_at(s, at) {
+        x @ 0xefbc91..=0xefbc99 => Some(((x - 0xefbc90) as u8, Cursor { at: at + 3 })),
+        _ => None,
     }
-    if 0xefbc99 < x {
-        return Spelled::Not;
-    }
-    Spelled::As((x - 0xefbc90) as u8, Cursor { at: at + 3 })
 }
 
 // The three bytes of a numeral as one number; 0 where there is none.
@@ -137,10 +129,7 @@ fn put_digit(out: &mut [u8], n: u8, codes: &[u32]) -> usize
     ensures { (es : List Spelling) → Digits es codes.now → Wrote (fitting (spelled es n) out.old) out.old out.new result }
 {
     let i = lent::wide(n);
-    if i < 1 {
-        return 0;
-    }
-    if codes.len() < i {
+    if i < 1 || codes.len() < i {
         return 0;
     }
     let x = codes[i - 1];

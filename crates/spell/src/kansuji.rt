@@ -4,40 +4,38 @@ ghost use Rattle.lent.specs.Bytes.{Wrote, fitting};
 ghost use Rattle.text.specs.Text.{on_place, tag_at};
 ghost use Rattle.spell.specs.Count.{ten, tens_at, hand_count_at, tens_text, count_text};
 
-use crate::{Spelled, numeral, put_numeral};
-use text::{Cursor, Place};
+use crate::{numeral, put_numeral};
+use text::Cursor;
 
 // A value past 十, or that 十 does not stand here.
-fn past_ten(c: Cursor, s: &[u8], value: u8) -> Spelled
-    ensures { result ≡ on_place (tag_at ten s.now c.at) (λ e. Spelled.As value e) Spelled.Not }
+fn past_ten(c: Cursor, s: &[u8], value: u8) -> Option<(u8, Cursor)>
+    ensures { result ≡ on_place (tag_at ten s.now c.at) (λ e. Some (value, e)) None }
 {
-    let Place::Past(e) = c.tag(s, b"\xe5\x8d\x81") else {
-        return Spelled::Not;
-    };
-    Spelled::As(value, e)
+    let e = c.tag(s, b"\xe5\x8d\x81")?;
+    Some((value, e))
 }
 
 // The tens: 十 after a numeral or alone.
-fn tens(c: Cursor, s: &[u8]) -> Spelled
+fn tens(c: Cursor, s: &[u8]) -> Option<(u8, Cursor)>
     ensures { result ≡ tens_at s.now c.at }
 {
-    let Spelled::As(d, past) = numeral(c, s) else {
+    let Some((d, past)) = numeral(c, s) else {
         return past_ten(c, s, 10);
     };
     past_ten(past, s, d * 10)
 }
 
 // The count that stands at a place.   (the Rust's kansuji)
-pub fn count(c: Cursor, s: &[u8]) -> Spelled
+pub fn count(c: Cursor, s: &[u8]) -> Option<(u8, Cursor)>
     ensures { result ≡ hand_count_at s.now c.at }
 {
-    let Spelled::As(t, past) = tens(c, s) else {
+    let Some((t, past)) = tens(c, s) else {
         return numeral(c, s);
     };
-    let Spelled::As(d, end) = numeral(past, s) else {
-        return Spelled::As(t, past);
+    let Some((d, end)) = numeral(past, s) else {
+        return Some((t, past));
     };
-    Spelled::As(t + d, end)
+    Some((t + d, end))
 }
 
 fn put_tens(out: &mut [u8], t: u8) -> usize

@@ -4,118 +4,121 @@
 mod digits;
 mod kansuji;
 
-ghost use Rattle.std.specs.Prelude.{◌≡◌, List, [], ◌∷◌, ◌++◌};
+ghost use Rattle.std.specs.Prelude.{◌≡◌, true, List, [], ◌∷◌, ◌++◌};
 ghost use Rattle.lent.specs.Bytes.{Wrote, fitting};
-ghost use Rattle.spell.specs.Tables.{Spelling, move_kinds, kinds, specials, written_specials, presets, sides};
+ghost use Rattle.spell.specs.Tables.{move_kinds, kinds, specials, written_specials, presets, sides};
 ghost use Rattle.spell.specs.Words.{promotes};
 ghost use Rattle.spell.specs.inner.Slots.{look, kind_slots};
 ghost use Rattle.spell.specs.inner.Kinds.{promoted_kinds};
 ghost use Rattle.spell.specs.Spell.{first_of, number_spelled, spelled, code, code_of};
-ghost use Rattle.spell.specs.inner.Codes.{Rows, IsTable};
+ghost use Rattle.spell.specs.inner.Rows.{spellings, all_fit};
 
 pub use digits::{file, numeral, numeral_code, numeral_of, put_file, put_numeral};
 pub use kansuji::{count, put_count};
 use text::Cursor;
 
-// What a table has at a place: its number and the place past it.
-#[derive(Clone, Copy)]
-pub enum Spelled {
-    As(u8, Cursor),
-    Not,
+// A spelling in a table: its length, its number, and its bytes with zeros to the table's width.
+struct Row<const W: usize> {
+    length: usize,
+    number: u8,
+    bytes: [u8; W],
 }
 
-// A row is a spelling's length, its number and its bytes, with zeros to the table's width.
 // 杏 圭 全, which only a diagram is written with; 歩 香 桂 銀 金 角 飛 玉 と 成香 成桂 成銀 馬 龍 王 竜
 #[rattlefmt::skip]
-const KINDS: [u8; 152] = [
-    3, 10, 0xe6, 0x9d, 0x8f, 0, 0, 0, // 杏
-    3, 11, 0xe5, 0x9c, 0xad, 0, 0, 0, // 圭
-    3, 12, 0xe5, 0x85, 0xa8, 0, 0, 0, // 全
-    3, 1, 0xe6, 0xad, 0xa9, 0, 0, 0, // 歩
-    3, 2, 0xe9, 0xa6, 0x99, 0, 0, 0, // 香
-    3, 3, 0xe6, 0xa1, 0x82, 0, 0, 0, // 桂
-    3, 4, 0xe9, 0x8a, 0x80, 0, 0, 0, // 銀
-    3, 5, 0xe9, 0x87, 0x91, 0, 0, 0, // 金
-    3, 6, 0xe8, 0xa7, 0x92, 0, 0, 0, // 角
-    3, 7, 0xe9, 0xa3, 0x9b, 0, 0, 0, // 飛
-    3, 8, 0xe7, 0x8e, 0x89, 0, 0, 0, // 玉
-    3, 9, 0xe3, 0x81, 0xa8, 0, 0, 0, // と
-    6, 10, 0xe6, 0x88, 0x90, 0xe9, 0xa6, 0x99, // 成香
-    6, 11, 0xe6, 0x88, 0x90, 0xe6, 0xa1, 0x82, // 成桂
-    6, 12, 0xe6, 0x88, 0x90, 0xe9, 0x8a, 0x80, // 成銀
-    3, 13, 0xe9, 0xa6, 0xac, 0, 0, 0, // 馬
-    3, 14, 0xe9, 0xbe, 0x8d, 0, 0, 0, // 龍
-    3, 8, 0xe7, 0x8e, 0x8b, 0, 0, 0, // 王
-    3, 14, 0xe7, 0xab, 0x9c, 0, 0, 0, // 竜
+const KINDS: [Row<6>; 19] = [
+    Row { length: 3, number: 10, bytes: [0xe6, 0x9d, 0x8f, 0, 0, 0] }, // 杏
+    Row { length: 3, number: 11, bytes: [0xe5, 0x9c, 0xad, 0, 0, 0] }, // 圭
+    Row { length: 3, number: 12, bytes: [0xe5, 0x85, 0xa8, 0, 0, 0] }, // 全
+    Row { length: 3, number: 1, bytes: [0xe6, 0xad, 0xa9, 0, 0, 0] }, // 歩
+    Row { length: 3, number: 2, bytes: [0xe9, 0xa6, 0x99, 0, 0, 0] }, // 香
+    Row { length: 3, number: 3, bytes: [0xe6, 0xa1, 0x82, 0, 0, 0] }, // 桂
+    Row { length: 3, number: 4, bytes: [0xe9, 0x8a, 0x80, 0, 0, 0] }, // 銀
+    Row { length: 3, number: 5, bytes: [0xe9, 0x87, 0x91, 0, 0, 0] }, // 金
+    Row { length: 3, number: 6, bytes: [0xe8, 0xa7, 0x92, 0, 0, 0] }, // 角
+    Row { length: 3, number: 7, bytes: [0xe9, 0xa3, 0x9b, 0, 0, 0] }, // 飛
+    Row { length: 3, number: 8, bytes: [0xe7, 0x8e, 0x89, 0, 0, 0] }, // 玉
+    Row { length: 3, number: 9, bytes: [0xe3, 0x81, 0xa8, 0, 0, 0] }, // と
+    Row { length: 6, number: 10, bytes: [0xe6, 0x88, 0x90, 0xe9, 0xa6, 0x99] }, // 成香
+    Row { length: 6, number: 11, bytes: [0xe6, 0x88, 0x90, 0xe6, 0xa1, 0x82] }, // 成桂
+    Row { length: 6, number: 12, bytes: [0xe6, 0x88, 0x90, 0xe9, 0x8a, 0x80] }, // 成銀
+    Row { length: 3, number: 13, bytes: [0xe9, 0xa6, 0xac, 0, 0, 0] }, // 馬
+    Row { length: 3, number: 14, bytes: [0xe9, 0xbe, 0x8d, 0, 0, 0] }, // 龍
+    Row { length: 3, number: 8, bytes: [0xe7, 0x8e, 0x8b, 0, 0, 0] }, // 王
+    Row { length: 3, number: 14, bytes: [0xe7, 0xab, 0x9c, 0, 0, 0] }, // 竜
+];
+
+// 成香 成桂 成銀
+#[rattlefmt::skip]
+const PROMOTED: [Row<6>; 3] = [
+    Row { length: 6, number: 10, bytes: [0xe6, 0x88, 0x90, 0xe9, 0xa6, 0x99] }, // 成香
+    Row { length: 6, number: 11, bytes: [0xe6, 0x88, 0x90, 0xe6, 0xa1, 0x82] }, // 成桂
+    Row { length: 6, number: 12, bytes: [0xe6, 0x88, 0x90, 0xe9, 0x8a, 0x80] }, // 成銀
 ];
 
 // 投了 中断 千日手 切れ負け 反則負け 持将棋 入玉勝ち 詰み; then 中断 for each ending that is never read
 #[rattlefmt::skip]
-const SPECIALS: [u8; 196] = [
-    6, 0, 0xe6, 0x8a, 0x95, 0xe4, 0xba, 0x86, 0, 0, 0, 0, 0, 0, // 投了
-    6, 1, 0xe4, 0xb8, 0xad, 0xe6, 0x96, 0xad, 0, 0, 0, 0, 0, 0, // 中断
-    9, 2, 0xe5, 0x8d, 0x83, 0xe6, 0x97, 0xa5, 0xe6, 0x89, 0x8b, 0, 0, 0, // 千日手
-    12, 3, 0xe5, 0x88, 0x87, 0xe3, 0x82, 0x8c, 0xe8, 0xb2, 0xa0, 0xe3, 0x81, 0x91, // 切れ負け
-    12, 4, 0xe5, 0x8f, 0x8d, 0xe5, 0x89, 0x87, 0xe8, 0xb2, 0xa0, 0xe3, 0x81, 0x91, // 反則負け
-    9, 7, 0xe6, 0x8c, 0x81, 0xe5, 0xb0, 0x86, 0xe6, 0xa3, 0x8b, 0, 0, 0, // 持将棋
-    12, 8, 0xe5, 0x85, 0xa5, 0xe7, 0x8e, 0x89, 0xe5, 0x8b, 0x9d, 0xe3, 0x81, 0xa1, // 入玉勝ち
-    6, 11, 0xe8, 0xa9, 0xb0, 0xe3, 0x81, 0xbf, 0, 0, 0, 0, 0, 0, // 詰み
-    6, 5, 0xe4, 0xb8, 0xad, 0xe6, 0x96, 0xad, 0, 0, 0, 0, 0, 0, // 中断
-    6, 6, 0xe4, 0xb8, 0xad, 0xe6, 0x96, 0xad, 0, 0, 0, 0, 0, 0, // 中断
-    6, 9, 0xe4, 0xb8, 0xad, 0xe6, 0x96, 0xad, 0, 0, 0, 0, 0, 0, // 中断
-    6, 10, 0xe4, 0xb8, 0xad, 0xe6, 0x96, 0xad, 0, 0, 0, 0, 0, 0, // 中断
-    6, 12, 0xe4, 0xb8, 0xad, 0xe6, 0x96, 0xad, 0, 0, 0, 0, 0, 0, // 中断
-    6, 13, 0xe4, 0xb8, 0xad, 0xe6, 0x96, 0xad, 0, 0, 0, 0, 0, 0, // 中断
+const SPECIALS: [Row<12>; 14] = [
+    Row { length: 6, number: 0, bytes: [0xe6, 0x8a, 0x95, 0xe4, 0xba, 0x86, 0, 0, 0, 0, 0, 0] }, // 投了
+    Row { length: 6, number: 1, bytes: [0xe4, 0xb8, 0xad, 0xe6, 0x96, 0xad, 0, 0, 0, 0, 0, 0] }, // 中断
+    Row { length: 9, number: 2, bytes: [0xe5, 0x8d, 0x83, 0xe6, 0x97, 0xa5, 0xe6, 0x89, 0x8b, 0, 0, 0] }, // 千日手
+    Row { length: 12, number: 3, bytes: [0xe5, 0x88, 0x87, 0xe3, 0x82, 0x8c, 0xe8, 0xb2, 0xa0, 0xe3, 0x81, 0x91] }, // 切れ負け
+    Row { length: 12, number: 4, bytes: [0xe5, 0x8f, 0x8d, 0xe5, 0x89, 0x87, 0xe8, 0xb2, 0xa0, 0xe3, 0x81, 0x91] }, // 反則負け
+    Row { length: 9, number: 7, bytes: [0xe6, 0x8c, 0x81, 0xe5, 0xb0, 0x86, 0xe6, 0xa3, 0x8b, 0, 0, 0] }, // 持将棋
+    Row { length: 12, number: 8, bytes: [0xe5, 0x85, 0xa5, 0xe7, 0x8e, 0x89, 0xe5, 0x8b, 0x9d, 0xe3, 0x81, 0xa1] }, // 入玉勝ち
+    Row { length: 6, number: 11, bytes: [0xe8, 0xa9, 0xb0, 0xe3, 0x81, 0xbf, 0, 0, 0, 0, 0, 0] }, // 詰み
+    Row { length: 6, number: 5, bytes: [0xe4, 0xb8, 0xad, 0xe6, 0x96, 0xad, 0, 0, 0, 0, 0, 0] }, // 中断
+    Row { length: 6, number: 6, bytes: [0xe4, 0xb8, 0xad, 0xe6, 0x96, 0xad, 0, 0, 0, 0, 0, 0] }, // 中断
+    Row { length: 6, number: 9, bytes: [0xe4, 0xb8, 0xad, 0xe6, 0x96, 0xad, 0, 0, 0, 0, 0, 0] }, // 中断
+    Row { length: 6, number: 10, bytes: [0xe4, 0xb8, 0xad, 0xe6, 0x96, 0xad, 0, 0, 0, 0, 0, 0] }, // 中断
+    Row { length: 6, number: 12, bytes: [0xe4, 0xb8, 0xad, 0xe6, 0x96, 0xad, 0, 0, 0, 0, 0, 0] }, // 中断
+    Row { length: 6, number: 13, bytes: [0xe4, 0xb8, 0xad, 0xe6, 0x96, 0xad, 0, 0, 0, 0, 0, 0] }, // 中断
 ];
 
 // 平手 香落ち 右香落ち 角落ち 飛車落ち 飛香落ち 二枚落ち 三枚落ち 四枚落ち 五枚落ち 左五枚落ち 六枚落ち 左七枚落ち 右七枚落ち 八枚落ち 十枚落ち その他
 #[rattlefmt::skip]
-const PRESETS: [u8; 289] = [
-    6, 0, 0xe5, 0xb9, 0xb3, 0xe6, 0x89, 0x8b, 0, 0, 0, 0, 0, 0, 0, 0, 0, // 平手
-    9, 1, 0xe9, 0xa6, 0x99, 0xe8, 0x90, 0xbd, 0xe3, 0x81, 0xa1, 0, 0, 0, 0, 0, 0, // 香落ち
-    12, 2, 0xe5, 0x8f, 0xb3, 0xe9, 0xa6, 0x99, 0xe8, 0x90, 0xbd, 0xe3, 0x81, 0xa1, 0, 0, 0, // 右香落ち
-    9, 3, 0xe8, 0xa7, 0x92, 0xe8, 0x90, 0xbd, 0xe3, 0x81, 0xa1, 0, 0, 0, 0, 0, 0, // 角落ち
-    12, 4, 0xe9, 0xa3, 0x9b, 0xe8, 0xbb, 0x8a, 0xe8, 0x90, 0xbd, 0xe3, 0x81, 0xa1, 0, 0, 0, // 飛車落ち
-    12, 5, 0xe9, 0xa3, 0x9b, 0xe9, 0xa6, 0x99, 0xe8, 0x90, 0xbd, 0xe3, 0x81, 0xa1, 0, 0, 0, // 飛香落ち
-    12, 6, 0xe4, 0xba, 0x8c, 0xe6, 0x9e, 0x9a, 0xe8, 0x90, 0xbd, 0xe3, 0x81, 0xa1, 0, 0, 0, // 二枚落ち
-    12, 7, 0xe4, 0xb8, 0x89, 0xe6, 0x9e, 0x9a, 0xe8, 0x90, 0xbd, 0xe3, 0x81, 0xa1, 0, 0, 0, // 三枚落ち
-    12, 8, 0xe5, 0x9b, 0x9b, 0xe6, 0x9e, 0x9a, 0xe8, 0x90, 0xbd, 0xe3, 0x81, 0xa1, 0, 0, 0, // 四枚落ち
-    12, 9, 0xe4, 0xba, 0x94, 0xe6, 0x9e, 0x9a, 0xe8, 0x90, 0xbd, 0xe3, 0x81, 0xa1, 0, 0, 0, // 五枚落ち
-    15, 10, 0xe5, 0xb7, 0xa6, 0xe4, 0xba, 0x94, 0xe6, 0x9e, 0x9a, 0xe8, 0x90, 0xbd, 0xe3, 0x81, 0xa1, // 左五枚落ち
-    12, 11, 0xe5, 0x85, 0xad, 0xe6, 0x9e, 0x9a, 0xe8, 0x90, 0xbd, 0xe3, 0x81, 0xa1, 0, 0, 0, // 六枚落ち
-    15, 12, 0xe5, 0xb7, 0xa6, 0xe4, 0xb8, 0x83, 0xe6, 0x9e, 0x9a, 0xe8, 0x90, 0xbd, 0xe3, 0x81, 0xa1, // 左七枚落ち
-    15, 13, 0xe5, 0x8f, 0xb3, 0xe4, 0xb8, 0x83, 0xe6, 0x9e, 0x9a, 0xe8, 0x90, 0xbd, 0xe3, 0x81, 0xa1, // 右七枚落ち
-    12, 14, 0xe5, 0x85, 0xab, 0xe6, 0x9e, 0x9a, 0xe8, 0x90, 0xbd, 0xe3, 0x81, 0xa1, 0, 0, 0, // 八枚落ち
-    12, 15, 0xe5, 0x8d, 0x81, 0xe6, 0x9e, 0x9a, 0xe8, 0x90, 0xbd, 0xe3, 0x81, 0xa1, 0, 0, 0, // 十枚落ち
-    9, 16, 0xe3, 0x81, 0x9d, 0xe3, 0x81, 0xae, 0xe4, 0xbb, 0x96, 0, 0, 0, 0, 0, 0, // その他
+const PRESETS: [Row<15>; 17] = [
+    Row { length: 6, number: 0, bytes: [0xe5, 0xb9, 0xb3, 0xe6, 0x89, 0x8b, 0, 0, 0, 0, 0, 0, 0, 0, 0] }, // 平手
+    Row { length: 9, number: 1, bytes: [0xe9, 0xa6, 0x99, 0xe8, 0x90, 0xbd, 0xe3, 0x81, 0xa1, 0, 0, 0, 0, 0, 0] }, // 香落ち
+    Row { length: 12, number: 2, bytes: [0xe5, 0x8f, 0xb3, 0xe9, 0xa6, 0x99, 0xe8, 0x90, 0xbd, 0xe3, 0x81, 0xa1, 0, 0, 0] }, // 右香落ち
+    Row { length: 9, number: 3, bytes: [0xe8, 0xa7, 0x92, 0xe8, 0x90, 0xbd, 0xe3, 0x81, 0xa1, 0, 0, 0, 0, 0, 0] }, // 角落ち
+    Row { length: 12, number: 4, bytes: [0xe9, 0xa3, 0x9b, 0xe8, 0xbb, 0x8a, 0xe8, 0x90, 0xbd, 0xe3, 0x81, 0xa1, 0, 0, 0] }, // 飛車落ち
+    Row { length: 12, number: 5, bytes: [0xe9, 0xa3, 0x9b, 0xe9, 0xa6, 0x99, 0xe8, 0x90, 0xbd, 0xe3, 0x81, 0xa1, 0, 0, 0] }, // 飛香落ち
+    Row { length: 12, number: 6, bytes: [0xe4, 0xba, 0x8c, 0xe6, 0x9e, 0x9a, 0xe8, 0x90, 0xbd, 0xe3, 0x81, 0xa1, 0, 0, 0] }, // 二枚落ち
+    Row { length: 12, number: 7, bytes: [0xe4, 0xb8, 0x89, 0xe6, 0x9e, 0x9a, 0xe8, 0x90, 0xbd, 0xe3, 0x81, 0xa1, 0, 0, 0] }, // 三枚落ち
+    Row { length: 12, number: 8, bytes: [0xe5, 0x9b, 0x9b, 0xe6, 0x9e, 0x9a, 0xe8, 0x90, 0xbd, 0xe3, 0x81, 0xa1, 0, 0, 0] }, // 四枚落ち
+    Row { length: 12, number: 9, bytes: [0xe4, 0xba, 0x94, 0xe6, 0x9e, 0x9a, 0xe8, 0x90, 0xbd, 0xe3, 0x81, 0xa1, 0, 0, 0] }, // 五枚落ち
+    Row { length: 15, number: 10, bytes: [0xe5, 0xb7, 0xa6, 0xe4, 0xba, 0x94, 0xe6, 0x9e, 0x9a, 0xe8, 0x90, 0xbd, 0xe3, 0x81, 0xa1] }, // 左五枚落ち
+    Row { length: 12, number: 11, bytes: [0xe5, 0x85, 0xad, 0xe6, 0x9e, 0x9a, 0xe8, 0x90, 0xbd, 0xe3, 0x81, 0xa1, 0, 0, 0] }, // 六枚落ち
+    Row { length: 15, number: 12, bytes: [0xe5, 0xb7, 0xa6, 0xe4, 0xb8, 0x83, 0xe6, 0x9e, 0x9a, 0xe8, 0x90, 0xbd, 0xe3, 0x81, 0xa1] }, // 左七枚落ち
+    Row { length: 15, number: 13, bytes: [0xe5, 0x8f, 0xb3, 0xe4, 0xb8, 0x83, 0xe6, 0x9e, 0x9a, 0xe8, 0x90, 0xbd, 0xe3, 0x81, 0xa1] }, // 右七枚落ち
+    Row { length: 12, number: 14, bytes: [0xe5, 0x85, 0xab, 0xe6, 0x9e, 0x9a, 0xe8, 0x90, 0xbd, 0xe3, 0x81, 0xa1, 0, 0, 0] }, // 八枚落ち
+    Row { length: 12, number: 15, bytes: [0xe5, 0x8d, 0x81, 0xe6, 0x9e, 0x9a, 0xe8, 0x90, 0xbd, 0xe3, 0x81, 0xa1, 0, 0, 0] }, // 十枚落ち
+    Row { length: 9, number: 16, bytes: [0xe3, 0x81, 0x9d, 0xe3, 0x81, 0xae, 0xe4, 0xbb, 0x96, 0, 0, 0, 0, 0, 0] }, // その他
 ];
 
 // 先手 後手 下手 上手
 #[rattlefmt::skip]
-const SIDES: [u8; 32] = [
-    6, 0, 0xe5, 0x85, 0x88, 0xe6, 0x89, 0x8b, // 先手
-    6, 1, 0xe5, 0xbe, 0x8c, 0xe6, 0x89, 0x8b, // 後手
-    6, 0, 0xe4, 0xb8, 0x8b, 0xe6, 0x89, 0x8b, // 下手
-    6, 1, 0xe4, 0xb8, 0x8a, 0xe6, 0x89, 0x8b, // 上手
+const SIDES: [Row<6>; 4] = [
+    Row { length: 6, number: 0, bytes: [0xe5, 0x85, 0x88, 0xe6, 0x89, 0x8b] }, // 先手
+    Row { length: 6, number: 1, bytes: [0xe5, 0xbe, 0x8c, 0xe6, 0x89, 0x8b] }, // 後手
+    Row { length: 6, number: 0, bytes: [0xe4, 0xb8, 0x8b, 0xe6, 0x89, 0x8b] }, // 下手
+    Row { length: 6, number: 1, bytes: [0xe4, 0xb8, 0x8a, 0xe6, 0x89, 0x8b] }, // 上手
 ];
 
-// The first spelling of a table, whose rows have w bytes, that stands at a place.   (nom's alt of tags)
-fn find(c: Cursor, s: &[u8], table: &[u8], w: usize) -> Spelled
-    requires { IsTable w table.now }
-    ensures { (es : List Spelling) → Rows w es table.now → result ≡ first_of es s.now c.at }
+// The first spelling of a table that stands at a place.   (nom's alt of tags)
+fn find<const W: usize>(c: Cursor, s: &[u8], table: &[Row<W>]) -> Option<(u8, Cursor)>
+    requires { all_fit table.now ≡ true }
+    ensures { result ≡ first_of (spellings table.now) s.now c.at }
 {
     let at = c.at;
-    let mut i = 0;
-    while i < table.len() {
-        let n = lent::wide(table[i]);
-        let b = i + 2;
-        let e = b + n;
-        if text::stands(s, at, &table[b..e]) {
-            return Spelled::As(table[i + 1], Cursor { at: at + n });
+    for row in table {
+        let n = row.length;
+        if text::stands(s, at, &row.bytes[..n]) {
+            return Some((row.number, Cursor { at: at + n }));
         }
-        i += w;
     }
-    Spelled::Not
+    None
 }
 
 // The kinds of one character in 35 slots, each as a numeral stands in its.
@@ -159,77 +162,64 @@ pub fn kind_of(a: u8, b: u8, c: u8) -> u8
 pub fn promoted_of(a: u8, b: u8, c: u8) -> u8
     ensures { result ≡ number_spelled kinds (promotes ++ (a ∷ b ∷ c ∷ [])) }
 {
-    let k = kind_of(a, b, c);
-    if k < 2 {
-        return 0;
+    match kind_of(a, b, c) {
+        k @ 2..=4 => k + 8,
+        _ => 0,
     }
-    if 4 < k {
-        return 0;
-    }
-    k + 8
 }
 
 // 成香 成桂 成銀
-fn promoted(c: Cursor, s: &[u8]) -> Spelled
+fn promoted(c: Cursor, s: &[u8]) -> Option<(u8, Cursor)>
     ensures { result ≡ first_of promoted_kinds s.now c.at }
 {
-    find(
-        c,
-        s,
-        b"\x06\x0a\xe6\x88\x90\xe9\xa6\x99\x06\x0b\xe6\x88\x90\xe6\xa1\x82\x06\x0c\xe6\x88\x90\xe9\x8a\x80",
-        8,
-    )
+    find(c, s, &PROMOTED)
 }
 
 // The kind of piece that stands at a place, 1 to 14.   (the Rust's piece_kind)
-pub fn kind(c: Cursor, s: &[u8]) -> Spelled
+pub fn kind(c: Cursor, s: &[u8]) -> Option<(u8, Cursor)>
     ensures { result ≡ first_of kinds s.now c.at }
 {
     let at = c.at;
     if digits::is_short(s, at) {
-        return Spelled::Not;
+        return None;
     }
     let n = kind_of(s[at], s[at + 1], s[at + 2]);
     if n == 0 {
         return promoted(c, s);
     }
-    Spelled::As(n, Cursor { at: at + 3 })
+    Some((n, Cursor { at: at + 3 }))
 }
 
 // The ending that stands at a place, one of the eight that are read, by its number.   (the Rust's move_special)
-pub fn special(c: Cursor, s: &[u8]) -> Spelled
+pub fn special(c: Cursor, s: &[u8]) -> Option<(u8, Cursor)>
     ensures { result ≡ first_of specials s.now c.at }
 {
-    find(c, s, &SPECIALS[..112], 14)
+    find(c, s, &SPECIALS[..8])
 }
 
 // The preset that stands at a place, 0 to 16.   (the Rust's information_value_preset)
-pub fn preset(c: Cursor, s: &[u8]) -> Spelled
+pub fn preset(c: Cursor, s: &[u8]) -> Option<(u8, Cursor)>
     ensures { result ≡ first_of presets s.now c.at }
 {
-    find(c, s, &PRESETS, 17)
+    find(c, s, &PRESETS)
 }
 
 // The side that stands at a place, 0 Black, 1 White.   (the Rust's color_prefix)
-pub fn side(c: Cursor, s: &[u8]) -> Spelled
+pub fn side(c: Cursor, s: &[u8]) -> Option<(u8, Cursor)>
     ensures { result ≡ first_of sides s.now c.at }
 {
-    find(c, s, &SIDES, 8)
+    find(c, s, &SIDES)
 }
 
-// The first spelling of a number in a table, whose rows have w bytes; nothing where it has none.
-fn put_spelled(out: &mut [u8], n: u8, table: &[u8], w: usize) -> usize
-    requires { IsTable w table.now }
-    ensures { (es : List Spelling) → Rows w es table.now → Wrote (fitting (spelled es n) out.old) out.old out.new result }
+// The first spelling of a number in a table; nothing where it has none.
+fn put_spelled<const W: usize>(out: &mut [u8], n: u8, table: &[Row<W>]) -> usize
+    requires { all_fit table.now ≡ true }
+    ensures { Wrote (fitting (spelled (spellings table.now) n) out.old) out.old out.new result }
 {
-    let mut i = 0;
-    while i < table.len() {
-        let b = i + 2;
-        let e = b + lent::wide(table[i]);
-        if table[i + 1] == n {
-            return lent::put_bytes(out, &table[b..e]);
+    for row in table {
+        if row.number == n {
+            return lent::put_bytes(out, &row.bytes[..row.length]);
         }
-        i += w;
     }
     0
 }
@@ -261,33 +251,33 @@ pub fn kind_code(n: u8) -> u32
 pub fn put_kind(out: &mut [u8], n: u8) -> usize
     ensures { Wrote (fitting (spelled move_kinds n) out.old) out.old out.new result }
 {
-    put_spelled(out, n, &KINDS[24..], 8)
+    put_spelled(out, n, &KINDS[3..])
 }
 
 // A kind as a diagram is written.   (the Rust's write_board_kind)
 pub fn put_board_kind(out: &mut [u8], n: u8) -> usize
     ensures { Wrote (fitting (spelled kinds n) out.old) out.old out.new result }
 {
-    put_spelled(out, n, &KINDS, 8)
+    put_spelled(out, n, &KINDS)
 }
 
 // An ending.   (the Rust's write_move_lines)
 pub fn put_special(out: &mut [u8], n: u8) -> usize
     ensures { Wrote (fitting (spelled written_specials n) out.old) out.old out.new result }
 {
-    put_spelled(out, n, &SPECIALS, 14)
+    put_spelled(out, n, &SPECIALS)
 }
 
 // A preset.   (the Rust's write_initial_preset)
 pub fn put_preset(out: &mut [u8], n: u8) -> usize
     ensures { Wrote (fitting (spelled presets n) out.old) out.old out.new result }
 {
-    put_spelled(out, n, &PRESETS, 17)
+    put_spelled(out, n, &PRESETS)
 }
 
 // A side.   (先手 and 後手 of the Rust's write_initial_data)
 pub fn put_side(out: &mut [u8], n: u8) -> usize
     ensures { Wrote (fitting (spelled sides n) out.old) out.old out.new result }
 {
-    put_spelled(out, n, &SIDES, 8)
+    put_spelled(out, n, &SIDES)
 }

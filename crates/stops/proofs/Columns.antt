@@ -3,7 +3,7 @@
 use Prim.Native.Nat.{ℕ, suc, ◌+◌, ◌≤◌, ◌<◌}
 use native.Mathlib.Numerals.{add-one}
 use native.Mathlib.Omega.{arith}
-use mathlib.Core.Path.{◌≡◌, refl, sym, ap, ◌∙◌}
+use mathlib.Core.Path.{◌≡◌, refl, ap, ◌∙◌}
 use mathlib.Core.List.{List, [], ◌∷◌, ◌++◌}
 use mathlib.Core.Bool.{false}
 use lib.ListN.{length, get_or, take, length-take}
@@ -36,10 +36,10 @@ pub spot-next : (s : List ℕ) (k : ℕ) → k < length s → spot_at s (k + 1) 
 unfolding spot_at
 spot-next s k h = rw (add-one, take-suc s k 0) (spot-then (spot 1 1) (take k s) (get_or s k 0))
 
--- past the end the spot is that of the end
-pub spot_past : (s : List ℕ) (k at : ℕ) → length s ≤ k → k ≤ at → spot_at s k ≡ spot_at s at
+-- all bytes before a place are passed
+pub spot_end : (s t : List ℕ) (k at : ℕ) → t ≡ take at s → length t ≤ k → spot_at t k ≡ spot_at s at
 unfolding spot_at
-spot_past s k at h g = ap (spot_from (spot 1 1)) (take_all k s h ∙ sym (take_all at s (omega arith)))
+spot_end s t k at e h = ap (spot_from (spot 1 1)) (take_all k t h ∙ e)
 
 -- ---- how large the figures are
 

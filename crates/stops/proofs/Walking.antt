@@ -1,6 +1,7 @@
 -- Lines of play passed with their rows in a table: what is known before line k, what is told where no line follows or line k hangs nowhere, and
 -- one line more.
 -- Assumes nothing.
+use Rattle.std.specs.Prelude.{Option, Some, None}
 use Prim.Native.Nat.{ℕ, suc, ◌+◌, ◌-◌, ◌*◌, ◌≤◌, ◌<◌}
 use native.Mathlib.Omega.{arith}
 use native.Mathlib.Decide.{dec_lt}
@@ -15,8 +16,6 @@ use Rattle.lent.specs.Bytes.{fitting}
 use Rattle.lent.proofs.Regions.{length-put}
 use Rattle.jkf.specs.Attaching.{near, hangs, on_hang, Hung, on_hung, all, first, hung_from, Play, play, play_of, starts, counts, parent_in, all_hung}
 use Rattle.jkf.specs.Following.{start_at, count_at, hangs_by}
-use Rattle.jkf.specs.declared.Hang.{Hang}
-use Rattle.jkf.specs.declared.Hang.TheVariants.{On, Nowhere}
 use Rattle.jkf.proofs.Nears.{near_before, near_same}
 use Rattle.block.specs.Encode.{concat, line_bytes}
 use Rattle.block.proofs.Tabling.{concat_snoc}
@@ -215,7 +214,7 @@ module _ (s : List ℕ) (b : ℕ) where
               ∙ ap (λ (n : ℕ). hangs (starts ps) (counts ps) n k) start_is
 
           -- it hangs nowhere
-          pub walked_loose : {at : ℕ} → at ≡ place → hangs_by rows start k ≡ Nowhere → played_stop s b ≡ NoEntry (astray_in rows k start at)
+          pub walked_loose : {at : ℕ} → at ≡ place → hangs_by rows start k ≡ None → played_stop s b ≡ NoEntry (astray_in rows k start at)
           unfolding played_stop astray_from astray_in
           walked_loose {at} here h =
               ap (λ (g : Hung). on_hung g (λ m ply. NoEntry (astray_from ps (begins_at s b) m ply)) (stopped_at s b (last_end s b) (plays_at s b).at)) loose ∙ ap NoEntry told
@@ -244,16 +243,16 @@ module _ (s : List ℕ) (b : ℕ) where
                   ∙ ap (λ (a : ℕ). astray (near (start_at rows) start k) (start_at rows (near (start_at rows) start k)) (count_at rows (near (start_at rows) start k)) a) (begins_here ∙ sym here)
 
           -- it hangs, and its row is put
-          module _ {parent e count : ℕ} {rows' : List ℕ} (on : hangs_by rows start k ≡ On parent e) (n : count ≡ length (entries_at s place).state)
+          module _ {parent e count : ℕ} {rows' : List ℕ} (on : hangs_by rows start k ≡ Some (parent, e)) (n : count ≡ length (entries_at s place).state)
               (put : rows' ≡ row_put k (line_bytes start 0 count parent) rows) where
-            hangs-on_it : hangs (starts ps) (counts ps) (starts ps k) k ≡ On parent e
+            hangs-on_it : hangs (starts ps) (counts ps) (starts ps k) k ≡ Some (parent, e)
             hangs-on_it = sym hangs_here ∙ on
 
             count_is : count ≡ counts ps k
             count_is = n ∙ sym (ap (λ (p : Play). length p.entries) (play_here s b k next i.passed some))
 
             parent_is : parent ≡ parent_in ps k
-            parent_is = unfold parent_in in (sym (ap (λ (g : Hang). on_hang g (λ p e. p) 0) hangs-on_it))
+            parent_is = unfold parent_in in (sym (ap (λ (g : Option (ℕ × ℕ)). on_hang g (λ p e. p) 0) hangs-on_it))
 
             entries-more : entries_to (k + 1) ≡ entries_to k + count
             entries-more =

@@ -1,12 +1,11 @@
 -- Where reading stopped, and why. In all of this b is the place past the information blocks and the board.     (02, request (ii))
 -- Assumes nothing: these are definitions.
-use Rattle.std.specs.Prelude.{ℕ, ◌+◌, ◌-◌, List, [], ◌∷◌, length, get_or, take, eqb, ltb}
+use Rattle.std.specs.Prelude.{ℕ, ◌+◌, ◌-◌, List, [], ◌∷◌, length, get_or, take, eqb, ltb, Option}
 use Rattle.lists.specs.Pick.{pick}
 use Rattle.lists.specs.Repeat.{Step, more, stop, on_step, many_from}
 use Rattle.text.specs.Utf8.{is_next, well_formed_bytes}
 use Rattle.jkf.specs.Attaching.{on_hung, near, Play, starts, counts, all_hung}
 use Rattle.moves.specs.Failing.{further, on_failed, move_line_fail, skip_line_fail, comment_fail}
-use Rattle.moves.specs.declared.Failed.{Failed}
 use Rattle.moves.specs.declared.Reason.{Reason}
 use Rattle.moves.specs.declared.Reason.TheVariants.{NoNumber, TooLarge, NoPlace, NoKind, NoOrigin, NoBreak, CommentHere, EndOfText}
 use Rattle.plays.specs.Plays.{entries_at, skips_at, variation_item, slot_at, past_main, plays_at}
@@ -43,13 +42,13 @@ unfoldable pub seeking_at : ℕ → ℕ → ℕ → Seeking
 seeking_at b end p = pick (eqb p b) AtHead (pick (eqb end p) AfterComments AfterSkips)
 
 -- The rules that are tried there, in their order: of their failures the one that got further tells, else the one tried first.
-unfoldable pub tried_at : Seeking → List ℕ → ℕ → Failed
+unfoldable pub tried_at : Seeking → List ℕ → ℕ → Option (ℕ × Reason)
 tried_at AtHead s p = further (skip_line_fail s p) (further (comment_fail s p) (move_line_fail s p))
 tried_at AfterComments s p = further (comment_fail s p) (further (move_line_fail s p) (skip_line_fail s p))
 tried_at AfterSkips s p = further (skip_line_fail s p) (move_line_fail s p)
 
 -- The first byte not taken, the reason, and the place that the failing rule reached; that no rule fails is never so.
-unfoldable pub stopped_with : ℕ → ℕ → Failed → StopAnswer
+unfoldable pub stopped_with : ℕ → ℕ → Option (ℕ × Reason) → StopAnswer
 stopped_with taken p f = on_failed f (λ at r. Stopped taken r at) (Stopped taken EndOfText p)
 
 -- With the last line of play ending at a place, and so many bytes taken.

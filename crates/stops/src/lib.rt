@@ -9,7 +9,6 @@ ghost use Rattle.std.specs.Prelude.{◌≡◌, ◌≤◌, length};
 ghost use Rattle.kakinoki.specs.Starts.{on_fault, start_read};
 ghost use Rattle.stops.specs.Stopping.{played_stop, stop_of};
 
-use kakinoki::Fault;
 use moves::Reason;
 pub use spots::line_column;
 use text::Cursor;
@@ -67,10 +66,9 @@ fn stop_text(s: &[u8]) -> StopAnswer
 {
     let mut places = [0u16; 13107];
     let start = kakinoki::parse_without_moves(s, &mut places);
-    let fault = start.fault;
-    match fault {
-        Fault::At(at) => StopAnswer::HandLine(at as u64),
-        Fault::NoFault => {
+    match start.fault {
+        Some(at) => StopAnswer::HandLine(at as u64),
+        None => {
             let mut rows = [0u8; 65536];
             walk(start.next, s, &mut rows)
         }

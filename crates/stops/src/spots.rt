@@ -29,13 +29,8 @@ pub fn line_column(text: &[u8], at: usize) -> Spot
     ensures { result ≡ spot_at text.now at }
 {
     let mut x = Spot { line: 1, column: 1 };
-    let mut k = 0;
-    while k < at {
-        if text.len() <= k {
-            return x;
-        }
-        x = next_spot(text[k], x);
-        k += 1;
+    for &b in lent::front(text, at) {
+        x = next_spot(b, x);
     }
     x
 }

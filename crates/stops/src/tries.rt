@@ -4,7 +4,7 @@ ghost use Rattle.plays.specs.Plays.{skips_at};
 ghost use Rattle.stops.specs.Stopping.{seeking_at, tried_at, stopped_at, reason_number, stop_figures};
 
 use crate::{Seeking, StopAnswer};
-use moves::{Failed, Reason};
+use moves::Reason;
 use text::Cursor;
 
 // What stands before the place p, where the lines of play begin at a place and the last of them ends at another.
@@ -21,7 +21,7 @@ fn seeking_at(begin: Cursor, end: Cursor, p: Cursor) -> Seeking
 }
 
 // What the rules that are tried at a place say, in their order.
-fn tried(seeking: Seeking, c: Cursor, s: &[u8]) -> Failed
+fn tried(seeking: Seeking, c: Cursor, s: &[u8]) -> Option<(usize, Reason)>
     ensures { result ≡ tried_at seeking s.now c.at }
 {
     let comment = moves::comment_fails(c, s);
@@ -40,8 +40,8 @@ pub(crate) fn stopped(begin: Cursor, end: Cursor, taken: Cursor, s: &[u8]) -> St
 {
     let p = plays::skips(taken, s);
     match tried(seeking_at(begin, end, p), p, s) {
-        Failed::Silent => StopAnswer::Stopped(taken.at as u64, Reason::EndOfText, p.at as u64),
-        Failed::At(at, reason) => StopAnswer::Stopped(taken.at as u64, reason, at as u64),
+        None => StopAnswer::Stopped(taken.at as u64, Reason::EndOfText, p.at as u64),
+        Some((at, reason)) => StopAnswer::Stopped(taken.at as u64, reason, at as u64),
     }
 }
 

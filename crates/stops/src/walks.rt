@@ -7,7 +7,6 @@ ghost use Rattle.stops.specs.inner.Tables.{main_row, row_put, astray_in};
 
 use crate::tries::stopped;
 use crate::{Astray, Gone, StopAnswer};
-use jkf::Hang;
 use text::Cursor;
 
 // What is told of a variation that hangs nowhere, by the rows of the lines before it.
@@ -23,11 +22,7 @@ fn astray_of(rows: &[u8], k: usize, ply: u64, at: Cursor) -> Astray
         ply,
         parent: parent as u64,
         first,
-        last: if count == 0 {
-            first
-        } else {
-            first + (count - 1)
-        },
+        last: first + count.saturating_sub(1),
         at: at.at as u64,
     }
 }
@@ -63,7 +58,7 @@ pub(crate) fn walk(begin: Cursor, s: &[u8], rows: &mut [u8]) -> StopAnswer
             return stopped(begin, gone.end, gone.next, s);
         }
         let start = plays::ply(at, s);
-        let Hang::On(parent, _) = jkf::hang_of(rows, k, start) else {
+        let Some((parent, _)) = jkf::hang_of(rows, k, start) else {
             return StopAnswer::NoEntry(astray_of(rows, k, start, at));
         };
         block::put_line_row(rows, 8 * k, start, 0, line.entries, parent);

@@ -1,6 +1,7 @@
 -- A part of well-formed UTF-8 between two boundaries is well formed. Every byte of a character but its first is a continuation byte, so a
 -- boundary lies between two characters; and the characters between two boundaries are the same characters in the part.
 -- Assumes nothing.
+use Rattle.std.specs.Prelude.{Option, Some, None}
 use Prim.Native.Nat.{ℕ, zero, suc, ◌+◌, ◌-◌, ◌≤◌, ◌<◌}
 use native.Mathlib.Omega.{arith}
 use native.Mathlib.Decide.{dec_lt}
@@ -16,8 +17,6 @@ use Rattle.lists.proofs.Laws.{by_pick, pick-none, in_list}
 use Rattle.text.specs.Text.{cursor, past_all, stands_at, tag_at, break_at, tail_at, wide_colon, ends_key, key_from, key_at}
 use Rattle.text.specs.Utf8.{size_of, lowest_of, highest_of, second_of, is_next, char_width, well_formed_bytes}
 use Rattle.text.specs.declared.Cursor.{Cursor}
-use Rattle.text.specs.declared.Place.{Place}
-use Rattle.text.specs.declared.Place.TheVariants.{Past, Absent}
 use Rattle.text.proofs.Laws.{stands_off, no_past, past-at, break_after, tag_back, tag_after}
 use Rattle.text.proofs.Widths.{past_stop, turn, char_within, next_zero}
 
@@ -326,29 +325,29 @@ record Breaks (s : List ℕ) (at e : ℕ) : Type 0 where
   lf : get_or s last 0 ≡ 10
   next : last + 1 ≡ e
 
-breaks : (s : List ℕ) (at : ℕ) (c : Cursor) → break_at s at ≡ Past c → Breaks s at c.at
+breaks : (s : List ℕ) (at : ℕ) (c : Cursor) → break_at s at ≡ Some c → Breaks s at c.at
 unfolding break_at
 breaks s at c =
-    by_pick P (eqb (get_or s at 0) 10) (Past (cursor (at + 1))) _
+    by_pick P (eqb (get_or s at 0) 10) (Some (cursor (at + 1))) _
     (λ p e. let q = eqb-true (get_or s at 0) 10 p in
     record { first = omega arith; last = at; lf = q; next = past-at e })
-    (λ _. by_pick P (eqb (get_or s at 0) 13) _ Absent
-    (λ p. by_pick P (eqb (get_or s (at + 1) 0) 10) (Past (cursor (at + 2))) Absent
+    (λ _. by_pick P (eqb (get_or s at 0) 13) _ None
+    (λ p. by_pick P (eqb (get_or s (at + 1) 0) 10) (Some (cursor (at + 2))) None
     (λ r e. let q = eqb-true (get_or s at 0) 13 p in
     let n = past-at e in
     record { first = omega arith; last = at + 1; lf = eqb-true (get_or s (at + 1) 0) 10 r; next = omega arith })
     (λ _ e. no_past c e))
     (λ _ e. no_past c e))
   where
-    P : Place → Type 0
-    P r = r ≡ Past c → Breaks s at c.at
+    P : Option Cursor → Type 0
+    P r = r ≡ Some c → Breaks s at c.at
 
-before-break : (s : List ℕ) (at : ℕ) (c : Cursor) → break_at s at ≡ Past c → Boundary s at
+before-break : (s : List ℕ) (at : ℕ) (c : Cursor) → break_at s at ≡ Some c → Boundary s at
 before-break s at c e =
     let a = break_after s at c e in
     boundary_ascii s at (omega (arith, a.past, a.within)) (breaks s at c e).first
 
-pub boundary_break : (s : List ℕ) (at : ℕ) (c : Cursor) → well_formed_bytes s ≡ length s → break_at s at ≡ Past c → Boundary s at × Boundary s c.at
+pub boundary_break : (s : List ℕ) (at : ℕ) (c : Cursor) → well_formed_bytes s ≡ length s → break_at s at ≡ Some c → Boundary s at × Boundary s c.at
 boundary_break s at c w e =
     let b = breaks s at c e in
     let i = b.last in
@@ -356,7 +355,7 @@ boundary_break s at c w e =
     (before-break s at c e, subst (Boundary s) b.next (boundary_after s i w (in_list s i (omega arith)) (omega arith)))
 
 -- the end of a tail that has a break
-pub boundary_tail : (s : List ℕ) (at : ℕ) (e n : Cursor) → tail_at s at ≡ Past e → break_at s e.at ≡ Past n → Boundary s e.at
+pub boundary_tail : (s : List ℕ) (at : ℕ) (e n : Cursor) → tail_at s at ≡ Some e → break_at s e.at ≡ Some n → Boundary s e.at
 boundary_tail s at e n t q = before-break s e.at n q
 
 -- a byte string of one character
@@ -367,7 +366,7 @@ stands_first b t s at h e = go (eqb (get_or s at 0) b) refl
     go true p = eqb-true (get_or s at 0) b p
     go false p = absurd (true≢false (sym e ∙ stands_off (b ∷ t) s 0 at (omega arith) h (eqb-false (get_or s at 0) b p)))
 
-pub boundary_tag : (b : ℕ) (t s : List ℕ) (at : ℕ) (c : Cursor) → well_formed_bytes s ≡ length s → size_of b ≡ length (b ∷ t) → tag_at (b ∷ t) s at ≡ Past c
+pub boundary_tag : (b : ℕ) (t s : List ℕ) (at : ℕ) (c : Cursor) → well_formed_bytes s ≡ length s → size_of b ≡ length (b ∷ t) → tag_at (b ∷ t) s at ≡ Some c
     → Boundary s at × Boundary s c.at
 boundary_tag b t s at c w n e =
     let a = tag_after (b ∷ t) s at c (omega arith) e in
@@ -378,7 +377,7 @@ boundary_tag b t s at c w n e =
     (here, subst (Boundary s) (ap (λ (m : ℕ). at + m) (ap size_of first ∙ n) ∙ sym end) (boundary_past s at w here h))
 
 -- ：, three bytes
-pub boundary_colon : (s : List ℕ) (at : ℕ) (c : Cursor) → well_formed_bytes s ≡ length s → tag_at wide_colon s at ≡ Past c → Boundary s at × Boundary s c.at
+pub boundary_colon : (s : List ℕ) (at : ℕ) (c : Cursor) → well_formed_bytes s ≡ length s → tag_at wide_colon s at ≡ Some c → Boundary s at × Boundary s c.at
 unfolding size_of
 boundary_colon s at c w e = boundary_tag 239 (188 ∷ 154 ∷ []) s at c w refl e
 
@@ -398,7 +397,7 @@ pub key_part : (s : List ℕ) (at : ℕ) → key_at s at ≡ take (length (key_a
 unfolding key_at
 key_part s at = key-front (drop at s)
 
-pub key_well : (s : List ℕ) (at : ℕ) (c : Cursor) → well_formed_bytes s ≡ length s → Boundary s at → tag_at wide_colon s (at + length (key_at s at)) ≡ Past c
+pub key_well : (s : List ℕ) (at : ℕ) (c : Cursor) → well_formed_bytes s ≡ length s → Boundary s at → tag_at wide_colon s (at + length (key_at s at)) ≡ Some c
     → well_formed_bytes (key_at s at) ≡ length (key_at s at)
 key_well s at c w b e =
     let n = length (key_at s at) in

@@ -1,5 +1,6 @@
 -- Laws of what is read at a place, by which callers go.
 -- Assumes nothing.
+use Rattle.std.specs.Prelude.{Option, Some, None}
 use Prim.Native.Nat.{ℕ, suc, ◌+◌, ◌*◌, ◌-◌, ◌≤◌, ◌<◌, max}
 use native.Mathlib.Nat.{le_refl}
 use native.Mathlib.Omega.{arith}
@@ -13,8 +14,6 @@ use Rattle.lists.specs.Pick.{pick}
 use Rattle.lists.proofs.Laws.{pick_both, drop_step, head_at, class_in, in_list}
 use Rattle.text.specs.Text.{cursor, on_place, is_text, is_digit, span_from, span_at, prefix_from, stands_at, tag_at, same, text_at, break_at, tail_at, line_end_at, number_from, number_at}
 use Rattle.text.specs.declared.Cursor.{Cursor}
-use Rattle.text.specs.declared.Place.{Place}
-use Rattle.text.specs.declared.Place.TheVariants.{Past, Absent}
 
 -- ---- bytes of a class
 
@@ -103,6 +102,15 @@ pub stands_fits : (t s : List ℕ) (at : ℕ) → stands_at t s at ≡ true → 
 unfolding stands_at
 stands_fits t s at e = omega (arith, simp length-drop at (prefix_fits t (drop at s) e))
 
+-- a byte string that is longer than the rest does not stand there
+pub stands_longer : (t s : List ℕ) (at : ℕ) → length (drop at s) < length t → stands_at t s at ≡ false
+unfolding stands_at
+stands_longer t s at h = go (prefix_from t (drop at s)) refl
+  where
+    go : (u : Bool) → prefix_from t (drop at s) ≡ u → prefix_from t (drop at s) ≡ false
+    go true e = absurd (omega (arith, prefix_fits t (drop at s) e))
+    go false e = e
+
 -- ---- numbers
 
 pub digit_bounds : (b : ℕ) → is_digit b ≡ true → (48 ≤ b) × (b < 58)
@@ -142,23 +150,23 @@ number_ge s at n = number-from_ge (drop at s) n
 -- ---- how far an answer goes
 
 -- `Absent` is no place
-pub no_past : {A : Type 0} (c : Cursor) → Absent ≡ Past c → A
-no_past c e = let z : ◌≡◌ {A = ℕ} 0 1 = ap (λ (x : Place). on_place x (λ d. 1) 0) e in absurd (omega arith)
+pub no_past : {A : Type 0} (c : Cursor) → None ≡ Some c → A
+no_past c e = let z : ◌≡◌ {A = ℕ} 0 1 = ap (λ (x : Option Cursor). on_place x (λ d. 1) 0) e in absurd (omega arith)
 
-pub past-at : {c d : Cursor} → Past c ≡ Past d → c.at ≡ d.at
-past-at e = ap (λ (x : Place). on_place x (λ d. d.at) 0) e
+pub past-at : {c d : Cursor} → Some c ≡ Some d → c.at ≡ d.at
+past-at e = ap (λ (x : Option Cursor). on_place x (λ d. d.at) 0) e
 
 -- a place past something of the text, from the place at which it is
 pub record After (at n : ℕ) (c : Cursor) : Type 0 where
   pub past : at < c.at
   pub within : c.at ≤ n
 
-pub break_after : (s : List ℕ) (at : ℕ) (c : Cursor) → break_at s at ≡ Past c → After at (length s) c
+pub break_after : (s : List ℕ) (at : ℕ) (c : Cursor) → break_at s at ≡ Some c → After at (length s) c
 unfolding break_at
 break_after s at c e = go (eqb (get_or s at 0) 10) (eqb (get_or s at 0) 13) (eqb (get_or s (at + 1) 0) 10) refl refl refl e
   where
     go : (t u v : Bool) → eqb (get_or s at 0) 10 ≡ t → eqb (get_or s at 0) 13 ≡ u → eqb (get_or s (at + 1) 0) 10 ≡ v
-        → pick t (Past (cursor (at + 1))) (pick u (pick v (Past (cursor (at + 2))) Absent) Absent) ≡ Past c → After at (length s) c
+        → pick t (Some (cursor (at + 1))) (pick u (pick v (Some (cursor (at + 2))) None) None) ≡ Some c → After at (length s) c
     go true u v p q r e =
         let h = past-at e in
         record { past = omega arith; within = omega (arith, in_list s at (omega (arith, eqb-true (get_or s at 0) 10 p))) }
@@ -168,40 +176,40 @@ break_after s at c e = go (eqb (get_or s at 0) 10) (eqb (get_or s at 0) 13) (eqb
     go false true false p q r e = no_past c e
     go false false v p q r e = no_past c e
 
-pub tail_from : (s : List ℕ) (at : ℕ) (c : Cursor) → tail_at s at ≡ Past c → at ≤ c.at
+pub tail_from : (s : List ℕ) (at : ℕ) (c : Cursor) → tail_at s at ≡ Some c → at ≤ c.at
 unfolding tail_at
 tail_from s at c e = go (eqb (get_or s (text_at s at) 0) 13) (eqb (get_or s (text_at s at + 1) 0) 10) e
   where
-    end : Past (cursor (text_at s at)) ≡ Past c → at ≤ c.at
+    end : Some (cursor (text_at s at)) ≡ Some c → at ≤ c.at
     end e = let h = past-at e in omega (arith, span_ge is_text s at)
 
-    go : (t u : Bool) → pick t (pick u (Past (cursor (text_at s at))) Absent) (Past (cursor (text_at s at))) ≡ Past c → at ≤ c.at
+    go : (t u : Bool) → pick t (pick u (Some (cursor (text_at s at))) None) (Some (cursor (text_at s at))) ≡ Some c → at ≤ c.at
     go true true e = end e
     go true false e = no_past c e
     go false u e = end e
 
 -- a byte string that was read stands there
-pub tag_back : (t s : List ℕ) (at : ℕ) (c : Cursor) → tag_at t s at ≡ Past c → (stands_at t s at ≡ true) × (c.at ≡ at + length t)
+pub tag_back : (t s : List ℕ) (at : ℕ) (c : Cursor) → tag_at t s at ≡ Some c → (stands_at t s at ≡ true) × (c.at ≡ at + length t)
 unfolding tag_at
 tag_back t s at c e = go (stands_at t s at) refl e
   where
-    go : (u : Bool) → stands_at t s at ≡ u → pick u (Past (cursor (at + length t))) Absent ≡ Past c → (stands_at t s at ≡ true) × (c.at ≡ at + length t)
+    go : (u : Bool) → stands_at t s at ≡ u → pick u (Some (cursor (at + length t))) None ≡ Some c → (stands_at t s at ≡ true) × (c.at ≡ at + length t)
     go true p e = (p, sym (past-at e))
     go false p e = no_past c e
 
 -- a byte string of one byte or more is passed
-pub tag_after : (t s : List ℕ) (at : ℕ) (c : Cursor) → 0 < length t → tag_at t s at ≡ Past c → After at (length s) c
+pub tag_after : (t s : List ℕ) (at : ℕ) (c : Cursor) → 0 < length t → tag_at t s at ≡ Some c → After at (length s) c
 tag_after t s at c n e =
     let (p, q) = tag_back t s at c e in
     record { past = omega arith; within = omega (arith, stands_fits t s at p) }
 
 -- where a place is handed on and a place comes back, both are there
-pub place_back : (p : Place) (f : Cursor → Place) (c : Cursor) → on_place p f Absent ≡ Past c → (d : Cursor) × (p ≡ Past d) × (f d ≡ Past c)
-place_back (Past d) f c e = (d, refl, e)
-place_back Absent f c e = no_past c e
+pub place_back : (p : Option Cursor) (f : Cursor → Option Cursor) (c : Cursor) → on_place p f None ≡ Some c → (d : Cursor) × (p ≡ Some d) × (f d ≡ Some c)
+place_back (Some d) f c e = (d, refl, e)
+place_back None f c e = no_past c e
 
 -- a tail and its break
-pub line-end_after : (s : List ℕ) (at : ℕ) (c : Cursor) → line_end_at s at ≡ Past c → After at (length s) c
+pub line-end_after : (s : List ℕ) (at : ℕ) (c : Cursor) → line_end_at s at ≡ Some c → After at (length s) c
 unfolding line_end_at
 line-end_after s at c e =
     let (d, p, q) = place_back (tail_at s at) (λ d. break_at s d.at) c e in
@@ -211,9 +219,9 @@ line-end_after s at c e =
     record { past = omega arith; within = a.within }
 
 -- where an LF stands the tail is empty
-pub line-end_here : (s : List ℕ) (at : ℕ) → get_or s at 0 ≡ 10 → line_end_at s at ≡ Past (cursor (at + 1))
+pub line_end_here : (s : List ℕ) (at : ℕ) → get_or s at 0 ≡ 10 → line_end_at s at ≡ Some (cursor (at + 1))
 unfolding line_end_at tail_at break_at
-line-end_here s at e =
+line_end_here s at e =
     let h : at < length s = in_list s at (omega arith) in
     rw (span_off is_text s at h (rw (eq-eqb (get_or s at 0) 10 e)), ne_eqb (get_or s at 0) 13 (λ q. omega arith), eq-eqb (get_or s at 0) 10 e)
 

@@ -5,10 +5,8 @@ use native.Mathlib.Nat.{add-zero}
 use native.Mathlib.Omega.{arith}
 use mathlib.Core.Path.{◌≡◌, refl, sym, ap, subst, ◌∙◌}
 use mathlib.Core.List.{List}
-use mathlib.Core.Bool.{true}
 use lib.ListN.{length, get_or}
-use lib.Dec.{ltb}
-use borrow.Author.Tests.{lt-ltb, le-ltb, ne_eqb, ltb-true}
+use borrow.Author.Tests.{lt-ltb, le-ltb, ne_eqb}
 use Rattle.text.specs.inner.Runs.{Run, Count}
 use Rattle.text.specs.Text.{is_text, text_at, past_all}
 use Rattle.text.specs.Utf8.{size_of, lowest_of, highest_of, second_of, is_next, char_width}
@@ -30,22 +28,12 @@ run_on p q =
     record { from = omega arith; within = omega arith; same = p.same ∙ q.same }
 
 -- one step more, after k
-pub step-on : (f : ℕ → ℕ) (at k : ℕ) → f at ≡ f (at + k) → f (at + k) ≡ f (at + k + 1) → f at ≡ f (at + (k + 1))
+step-on : (f : ℕ → ℕ) (at k : ℕ) → f at ≡ f (at + k) → f (at + k) ≡ f (at + k + 1) → f at ≡ f (at + (k + 1))
 step-on f at k p q = let e : at + k + 1 ≡ at + (k + 1) = omega arith in p ∙ q ∙ ap f e
 
--- where eight bytes stand, the first k were passed
-pub record Passed (f : ℕ → ℕ) (s : List ℕ) (at k : ℕ) : Type 0 where
-  pub room : at + 8 ≤ length s
-  pub run : Run f s at (at + k)
-
-pub eight_first : (f : ℕ → ℕ) (s : List ℕ) (at : ℕ) → at + 8 ≤ length s → (at < length s → f at ≡ f (at + 1)) → Passed f s at 1
-eight_first f s at h on = record { room = h; run = record { from = omega arith; within = omega arith; same = on (omega arith) } }
-
-pub eight_on : (f : ℕ → ℕ) (s : List ℕ) (at k : ℕ) → ltb k 8 ≡ true → (at + k < length s → f (at + k) ≡ f (at + k + 1)) → Passed f s at k → Passed f s at (k + 1)
-eight_on f s at k few on p =
-    let h = p.room in
-    let l = ltb-true k 8 few in
-    record { room = h; run = record { from = omega arith; within = omega arith; same = step-on f at k p.run.same (on (omega arith)) } }
+-- one byte more, after k
+pub run_more : (f : ℕ → ℕ) (s : List ℕ) (at k : ℕ) → at + k < length s → f (at + k) ≡ f (at + k + 1) → Run f s at (at + k) → Run f s at (at + (k + 1))
+run_more f s at k h e p = record { from = omega arith; within = omega arith; same = step-on f at k p.same e }
 
 -- ---- bytes that are counted
 

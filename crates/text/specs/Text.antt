@@ -1,33 +1,31 @@
 -- The smallest things that are read at a place of a text.                                          (01, Reading rules)
 -- Every definition takes the whole text and a place, and answers a place of the whole text.
 -- Assumes nothing: these are definitions.
-use Rattle.std.specs.Prelude.{ℕ, ◌+◌, ◌*◌, ◌-◌, List, [], ◌∷◌, Bool, true, false, not, length, drop, get_or, eqb, ltb, leb}
+use Rattle.std.specs.Prelude.{ℕ, ◌+◌, ◌*◌, ◌-◌, List, [], ◌∷◌, Bool, true, false, not, length, drop, get_or, eqb, ltb, leb, Option, Some, None, Result, Ok, Err}
 use Rattle.lists.specs.Pick.{pick}
 use Rattle.lists.specs.Repeat.{Step, more, stop, repeat_from}
 use Rattle.text.specs.declared.Cursor.{Cursor}
-use Rattle.text.specs.declared.Place.{Place}
-use Rattle.text.specs.declared.Place.TheVariants.{Past, Absent}
-use Rattle.text.specs.declared.Number.{Number}
-use Rattle.text.specs.declared.Number.TheVariants.{Value, NoDigit, TooLarge}
+use Rattle.text.specs.declared.FigureError.{FigureError}
+use Rattle.text.specs.declared.FigureError.TheVariants.{Absent, TooLarge}
 
 abbrev pub cursor : ℕ → Cursor
 cursor at = record { at = at }
 
 -- An answer taken apart: what to do with its values, and what stands for all other cases.
-abbrev pub on_place : {A : Type 0} → Place → (Cursor → A) → A → A
-on_place (Past c) f d = f c
-on_place Absent f d = d
+abbrev pub on_place : {A : Type 0} → Option Cursor → (Cursor → A) → A → A
+on_place (Some c) f d = f c
+on_place None f d = d
 
-abbrev pub on_number : {A : Type 0} → Number → (ℕ → Cursor → A) → A → A
-on_number (Value n c) f d = f n c
-on_number NoDigit f d = d
-on_number TooLarge f d = d
+abbrev pub on_number : {A : Type 0} → Result (ℕ × Cursor) FigureError → (ℕ → Cursor → A) → A → A
+on_number (Ok (n, c)) f d = f n c
+on_number (Err Absent) f d = d
+on_number (Err TooLarge) f d = d
 
 -- The same where no number and one too large are told apart.                                        (02, request (iv))
-abbrev pub by_number : {A : Type 0} → Number → (ℕ → Cursor → A) → A → A → A
-by_number (Value n c) f none large = f n c
-by_number NoDigit f none large = none
-by_number TooLarge f none large = large
+abbrev pub by_number : {A : Type 0} → Result (ℕ × Cursor) FigureError → (ℕ → Cursor → A) → A → A → A
+by_number (Ok (n, c)) f none large = f n c
+by_number (Err Absent) f none large = none
+by_number (Err TooLarge) f none large = large
 
 -- ---- bytes of a class
 
@@ -64,8 +62,8 @@ unfoldable pub stands_at : List ℕ → List ℕ → ℕ → Bool
 stands_at t s at = prefix_from t (drop at s)
 
 -- Past a given byte string.
-unfoldable pub tag_at : List ℕ → List ℕ → ℕ → Place
-tag_at t s at = pick (stands_at t s at) (Past (cursor (at + length t))) Absent
+unfoldable pub tag_at : List ℕ → List ℕ → ℕ → Option Cursor
+tag_at t s at = pick (stands_at t s at) (Some (cursor (at + length t))) None
 
 -- ---- two texts                                                                                      (01, The block: header entry)
 
@@ -95,26 +93,26 @@ past_all w s at = (repeat_from (width_step (w s)) (length s) at tt).at
 -- ---- 01's words, in its order
 
 -- An LF, or a CR and an LF.                                                                        (01, Reading rules: break)
-unfoldable pub break_at : List ℕ → ℕ → Place
+unfoldable pub break_at : List ℕ → ℕ → Option Cursor
 break_at s at =
     pick (eqb (get_or s at 0) 10)
-    (Past (cursor (at + 1)))
-    (pick (eqb (get_or s at 0) 13) (pick (eqb (get_or s (at + 1) 0) 10) (Past (cursor (at + 2))) Absent) Absent)
+    (Some (cursor (at + 1)))
+    (pick (eqb (get_or s at 0) 13) (pick (eqb (get_or s (at + 1) 0) 10) (Some (cursor (at + 2))) None) None)
 
 abbrev pub text_at : List ℕ → ℕ → ℕ
 text_at = span_at is_text
 
 -- The end of a tail, where a CR must have an LF after it.
-abbrev pub tail_end : List ℕ → ℕ → Place
-tail_end s e = pick (eqb (get_or s e 0) 13) (pick (eqb (get_or s (e + 1) 0) 10) (Past (cursor e)) Absent) (Past (cursor e))
+abbrev pub tail_end : List ℕ → ℕ → Option Cursor
+tail_end s e = pick (eqb (get_or s e 0) 13) (pick (eqb (get_or s (e + 1) 0) 10) (Some (cursor e)) None) (Some (cursor e))
 
 -- To the first CR or LF, or to the end of the text.                                                (01, Reading rules: tail)
-unfoldable pub tail_at : List ℕ → ℕ → Place
+unfoldable pub tail_at : List ℕ → ℕ → Option Cursor
 tail_at s at = tail_end s (text_at s at)
 
 -- A tail and its break.
-unfoldable pub line_end_at : List ℕ → ℕ → Place
-line_end_at s at = on_place (tail_at s at) (λ c. break_at s c.at) Absent
+unfoldable pub line_end_at : List ℕ → ℕ → Option Cursor
+line_end_at s at = on_place (tail_at s at) (λ c. break_at s c.at) None
 
 -- U+3000, the ideographic space.
 abbrev pub wide_space : List ℕ
@@ -143,12 +141,12 @@ unfoldable pub number_at : List ℕ → ℕ → ℕ → ℕ
 number_at s at n = number_from (drop at s) n
 
 -- The digits from place at to place e make the number n: none, too large a number, or a value.
-abbrev pub number_is : ℕ → ℕ → ℕ → ℕ → Number
-number_is largest at e n = pick (eqb e at) NoDigit (pick (leb n largest) (Value n (cursor e)) TooLarge)
+abbrev pub number_is : ℕ → ℕ → ℕ → ℕ → Result (ℕ × Cursor) FigureError
+number_is largest at e n = pick (eqb e at) (Err Absent) (pick (leb n largest) (Ok (n, cursor e)) (Err TooLarge))
 
 -- One or more digits that make a number up to the largest allowed: 2^64 - 1 for a ply, 255 for a time or an origin.
 -- (01, Reading rules: move line, time)
-unfoldable pub digits_at : ℕ → List ℕ → ℕ → Number
+unfoldable pub digits_at : ℕ → List ℕ → ℕ → Result (ℕ × Cursor) FigureError
 digits_at largest s at = number_is largest at (span_at is_digit s at) (number_at s at 0)
 
 -- ---- keys

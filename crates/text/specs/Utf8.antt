@@ -1,10 +1,9 @@
 -- Well-formed UTF-8, by table 3-7 of the Unicode standard.                                         (01, Numbers of refusal: 2)
 -- Assumes nothing: these are definitions.
-use Rattle.std.specs.Prelude.{ℕ, ◌+◌, List, Bool, false, length, get_or, eqb, ltb}
+use Rattle.std.specs.Prelude.{ℕ, ◌+◌, List, Bool, false, length, get_or, eqb, ltb, Option, Some, None}
 use Rattle.lists.specs.Pick.{pick}
 use Rattle.text.specs.Text.{cursor, past_all}
-use Rattle.text.specs.declared.Place.{Place}
-use Rattle.text.specs.declared.Place.TheVariants.{Past, Absent}
+use Rattle.text.specs.declared.Cursor.{Cursor}
 
 -- How many bytes a character that starts with b has; 0 where none does. C0, C1 and F5 to FF start none.
 unfoldable pub size_of : ℕ → ℕ
@@ -44,5 +43,5 @@ abbrev pub well_formed_bytes : List ℕ → ℕ
 well_formed_bytes s = past_all char_width s 0
 
 -- Past one character.                                                                              (01, Reading rules: skip line)
-unfoldable pub character_at : List ℕ → ℕ → Place
-character_at s at = pick (eqb (char_width s at) 0) Absent (Past (cursor (at + char_width s at)))
+unfoldable pub character_at : List ℕ → ℕ → Option Cursor
+character_at s at = pick (eqb (char_width s at) 0) None (Some (cursor (at + char_width s at)))

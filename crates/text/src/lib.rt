@@ -16,113 +16,73 @@ pub struct Cursor {
     pub at: usize,
 }
 
-// A place past what was read, or that it is not there.
+// Why no figure is read: none stands there, or its value is above the largest allowed.
 #[derive(Clone, Copy)]
-pub enum Place {
-    Past(Cursor),
+pub enum FigureError {
     Absent,
-}
-
-// The value of one or more digits and the place past them, that no digit stands here, or that the value is above the largest allowed.
-#[derive(Clone, Copy)]
-pub enum Number {
-    Value(u64, Cursor),
-    NoDigit,
     TooLarge,
 }
 
 fn is_blank(b: u8) -> bool
     ensures { result ≡ is_blank b }
 {
-    if b == b' ' {
-        return true;
-    }
-    b == b'\t'
+    matches!(b, b' ' | b'\t')
 }
 
 fn is_text(b: u8) -> bool
     ensures { result ≡ is_text b }
 {
-    if b == b'\n' {
-        return false;
-    }
-    b != b'\r'
+    !matches!(b, b'\n' | b'\r')
 }
 
 pub fn is_digit(b: u8) -> bool
     ensures { result ≡ is_digit b }
 {
-    if b < b'0' {
-        return false;
-    }
-    b <= b'9'
+    b.is_ascii_digit()
 }
 
 // Whether the bytes t stand at a place.
 pub fn stands(s: &[u8], at: usize, t: &[u8]) -> bool
     ensures { result ≡ stands_at t.now s.now at }
 {
-    let mut i = 0;
-    let mut j = at;
-    while i < t.len() {
-        if s.len() <= j {
+    let here = lent::rest(s, at);
+    if here.len() < t.len() {
+        return false;
+    }
+    // a loop in place, since the library's starts_with is a call, and most strings differ in the first bytes
+    for (i, &b) in t.iter().enumerate() {
+        if here[i] != b {
             return false;
         }
-        if s[j] != t[i] {
-            return false;
-        }
-        i += 1;
-        j += 1;
     }
     true
 }
 
 // How wide the padding character at a place is: a space, or U+3000; 0 where there is none.
+#[tactic(auto, unfolding(crate::specs::Text::pad_width))]
 fn pad_width(s: &[u8], at: usize) -> usize
     ensures { result ≡ pad_width s.now at }
 {
     if lent::peek(s, at) == b' ' {
-        return 1;
+        1
+    } else if stands(s, at, b"\xe3\x80\x80") {
+        3
+    } else {
+        0
     }
-    if stands(s, at, b"\xe3\x80\x80") {
-        return 3;
-    }
-    0
 }
 
 // Past those of eight bytes that are surely text, up to the first below 14; past none where fewer stand.
 fn text_of_eight(s: &[u8], at: usize) -> usize
     ensures { Run (text_at s.now) s.now at result }
 {
-    if s.len() < 8 {
+    if s.len() < 8 || s.len() - 8 < at {
         return at;
     }
-    if s.len() - 8 < at {
-        return at;
-    }
-    if s[at] < 14 {
-        return at;
-    }
-    if s[at + 1] < 14 {
-        return at + 1;
-    }
-    if s[at + 2] < 14 {
-        return at + 2;
-    }
-    if s[at + 3] < 14 {
-        return at + 3;
-    }
-    if s[at + 4] < 14 {
-        return at + 4;
-    }
-    if s[at + 5] < 14 {
-        return at + 5;
-    }
-    if s[at + 6] < 14 {
-        return at + 6;
-    }
-    if s[at + 7] < 14 {
-        return at + 7;
+    for i in 0..8 {
+        if s[at + i] < 14 {
+            return at + i;
+        }
     }
     at + 8
 }
@@ -146,10 +106,7 @@ fn plain_four(s: &[u8], at: usize) -> u8
 fn is_plain(s: &[u8], at: usize) -> bool
     ensures { result ≡ true → Run (text_at s.now) s.now at (at + 16) }
 {
-    if s.len() < 16 {
-        return false;
-    }
-    if s.len() - 16 < at {
+    if s.len() < 16 || s.len() - 16 < at {
         return false;
     }
     plain_four(s, at) + plain_four(s, at + 4) + plain_four(s, at + 8) + plain_four(s, at + 12) == 16
@@ -184,7 +141,13 @@ fn plain_text(s: &[u8], from: usize) -> usize
 }
 
 // On from a place, where the digits from the start to it make the number first.
-fn digits_on(s: &[u8], largest: u64, start: usize, from: usize, first: u64) -> Number
+fn digits_on(
+    s: &[u8],
+    largest: u64,
+    start: usize,
+    from: usize,
+    first: u64,
+) -> Result<(u64, Cursor), FigureError>
     requires { Reading largest s.now start from first }
     ensures { result ≡ digits_at largest s.now start }
 {
@@ -193,19 +156,16 @@ fn digits_on(s: &[u8], largest: u64, start: usize, from: usize, first: u64) -> N
     let mut n = first;
     while is_digit(lent::peek(s, at)) {
         let d = (lent::peek(s, at) - b'0') as u64;
-        if tens < n {
-            return Number::TooLarge;
-        }
-        if largest - n * 10 < d {
-            return Number::TooLarge;
+        if tens < n || largest - n * 10 < d {
+            return Err(FigureError::TooLarge);
         }
         n = n * 10 + d;
         at += 1;
     }
     if at == start {
-        return Number::NoDigit;
+        return Err(FigureError::Absent);
     }
-    Number::Value(n, Cursor { at })
+    Ok((n, Cursor { at }))
 }
 
 impl Cursor {
@@ -214,10 +174,8 @@ impl Cursor {
         ensures { result.at ≡ blanks_at s.now self.at }
     {
         let mut at = self.at;
-        while at < s.len() {
-            if !is_blank(s[at]) {
-                return Cursor { at };
-            }
+        // no range: past the text's end it would end at that end and not here
+        while at < s.len() && is_blank(s[at]) {
             at += 1;
         }
         Cursor { at }
@@ -242,86 +200,82 @@ impl Cursor {
         ensures { result.at ≡ text_at s.now self.at }
     {
         let mut at = plain_text(s, self.at);
-        while at < s.len() {
-            if !is_text(s[at]) {
-                return Cursor { at };
-            }
+        // no range, for the same reason
+        while at < s.len() && is_text(s[at]) {
             at += 1;
         }
         Cursor { at }
     }
 
     // Past the text up to the first CR or LF, which must not be a CR without an LF.   (nom's not_line_ending)
-    pub fn tail(self, s: &[u8]) -> Place
+    #[tactic(auto, unfolding(crate::specs::Text::tail_at))]
+    pub fn tail(self, s: &[u8]) -> Option<Cursor>
         ensures { result ≡ tail_at s.now self.at }
     {
         let e = self.text(s);
         let at = e.at;
-        if lent::peek(s, at) == b'\r' {
-            if lent::peek(s, at + 1) != b'\n' {
-                return Place::Absent;
-            }
+        if lent::peek(s, at) == b'\r' && lent::peek(s, at + 1) != b'\n' {
+            return None;
         }
-        Place::Past(Cursor { at })
+        Some(Cursor { at })
     }
 
     // Past an LF or a CR LF.   (nom's line_ending)
-    pub fn line_ending(self, s: &[u8]) -> Place
+    #[tactic(auto, unfolding(crate::specs::Text::break_at))]
+    pub fn line_ending(self, s: &[u8]) -> Option<Cursor>
         ensures { result ≡ break_at s.now self.at }
     {
         let at = self.at;
         let b = lent::peek(s, at);
         if b == b'\n' {
-            return Place::Past(Cursor { at: at + 1 });
+            return Some(Cursor { at: at + 1 });
         }
-        if b == b'\r' {
-            if lent::peek(s, at + 1) == b'\n' {
-                return Place::Past(Cursor { at: at + 2 });
-            }
+        if b == b'\r' && lent::peek(s, at + 1) == b'\n' {
+            return Some(Cursor { at: at + 2 });
         }
-        Place::Absent
+        None
     }
 
     // Past a tail and its break, of which the tail is empty where an LF stands here.
-    pub fn line_end(self, s: &[u8]) -> Place
+    #[tactic(auto, using(crate::proofs::Laws::line_end_here), unfolding(crate::specs::Text::line_end_at))]
+    pub fn line_end(self, s: &[u8]) -> Option<Cursor>
         ensures { result ≡ line_end_at s.now self.at }
     {
         let at = self.at;
         if lent::peek(s, at) == b'\n' {
-            return Place::Past(Cursor { at: at + 1 });
+            return Some(Cursor { at: at + 1 });
         }
-        let Place::Past(end) = self.tail(s) else {
-            return Place::Absent;
-        };
+        let end = self.tail(s)?;
         end.line_ending(s)
     }
 
     // Past a given byte string.   (nom's tag)
-    pub fn tag(self, s: &[u8], t: &[u8]) -> Place
+    #[tactic(auto, using(crate::proofs::Laws::stands_fits), unfolding(crate::specs::Text::tag_at))]
+    pub fn tag(self, s: &[u8], t: &[u8]) -> Option<Cursor>
         ensures { result ≡ tag_at t.now s.now self.at }
     {
         let at = self.at;
         if stands(s, at, t) {
-            return Place::Past(Cursor { at: at + t.len() });
+            return Some(Cursor { at: at + t.len() });
         }
-        Place::Absent
+        None
     }
 
     // Past one character.   (nom's anychar)
-    pub fn character(self, s: &[u8]) -> Place
+    pub fn character(self, s: &[u8]) -> Option<Cursor>
         ensures { result ≡ character_at s.now self.at }
     {
         let at = self.at;
         let n = utf8::char_width(s, at);
         if n == 0 {
-            return Place::Absent;
+            return None;
         }
-        Place::Past(Cursor { at: at + n })
+        Some(Cursor { at: at + n })
     }
 
     // Past one or more digits, with the number that they make, if it is at most the largest allowed: one or two without a loop.
     // (nom's digit1, and str::parse)
-    pub fn digits(self, s: &[u8], largest: u64) -> Number
+    pub fn digits(self, s: &[u8], largest: u64) -> Result<(u64, Cursor), FigureError>
         ensures { result ≡ digits_at largest s.now self.at }
     {
         let start = self.at;
@@ -330,16 +284,16 @@ impl Cursor {
         }
         let a = lent::peek(s, start);
         if !is_digit(a) {
-            return Number::NoDigit;
+            return Err(FigureError::Absent);
         }
         let b = lent::peek(s, start + 1);
         if !is_digit(b) {
-            return Number::Value((a - b'0') as u64, Cursor { at: start + 1 });
+            return Ok(((a - b'0') as u64, Cursor { at: start + 1 }));
         }
         let n = ((a - b'0') * 10 + (b - b'0')) as u64;
         if is_digit(lent::peek(s, start + 2)) {
             return digits_on(s, largest, start, start + 2, n);
         }
-        Number::Value(n, Cursor { at: start + 2 })
+        Ok((n, Cursor { at: start + 2 }))
     }
 }

@@ -6,72 +6,59 @@ ghost use Rattle.text.specs.Utf8.{size_of, lowest_of, highest_of, second_of, is_
 ghost use Rattle.text.specs.inner.Runs.{Three};
 
 // How many bytes a character that starts with b has; 0 where none does.
+#[tactic(auto, unfolding(crate::specs::Utf8::size_of))]
 fn size(b: u8) -> usize
     ensures { result ≡ size_of b }
 {
-    if b < 128 {
-        return 1;
+    match b {
+        0..128 => 1,
+        194..224 => 2,
+        224..240 => 3,
+        240..245 => 4,
+        _ => 0,
     }
-    if b < 194 {
-        return 0;
-    }
-    if b < 224 {
-        return 2;
-    }
-    if b < 240 {
-        return 3;
-    }
-    if b < 245 {
-        return 4;
-    }
-    0
 }
 
+#[tactic(auto, unfolding(crate::specs::Utf8::lowest_of))]
 fn lowest(b: u8) -> u8
     ensures { result ≡ lowest_of b }
 {
-    if b == 224 {
-        return 160;
+    match b {
+        224 => 160,
+        240 => 144,
+        _ => 128,
     }
-    if b == 240 {
-        return 144;
-    }
-    128
 }
 
+#[tactic(auto, unfolding(crate::specs::Utf8::highest_of))]
 fn highest(b: u8) -> u8
     ensures { result ≡ highest_of b }
 {
-    if b == 237 {
-        return 160;
+    match b {
+        237 => 160,
+        244 => 144,
+        _ => 192,
     }
-    if b == 244 {
-        return 144;
-    }
-    192
 }
 
 // Whether d may follow the first byte b.
+#[tactic(auto, unfolding(crate::specs::Utf8::second_of))]
 fn second(b: u8, d: u8) -> bool
     ensures { result ≡ second_of b d }
 {
-    if d < lowest(b) {
-        return false;
-    }
-    d < highest(b)
+    (lowest(b)..highest(b)).contains(&d)
 }
 
 // Whether d may be a third or fourth byte.
+#[tactic(auto, unfolding(crate::specs::Utf8::is_next))]
 fn is_next(d: u8) -> bool
     ensures { result ≡ is_next d }
 {
-    if d < 128 {
-        return false;
-    }
-    d < 192
+    (128..192).contains(&d)
 }
 
 // The width of the character at a place; 0 where there is none.
+#[tactic(auto, unfolding(crate::specs::Utf8::char_width))]
 pub(crate) fn char_width(s: &[u8], at: usize) -> usize
     ensures { result ≡ char_width s.now at }
 {
@@ -105,35 +92,13 @@ pub(crate) fn char_width(s: &[u8], at: usize) -> usize
 fn ascii_of_eight(s: &[u8], at: usize) -> usize
     ensures { Run (past_all char_width s.now) s.now at result }
 {
-    if s.len() < 8 {
+    if s.len() < 8 || s.len() - 8 < at {
         return at;
     }
-    if s.len() - 8 < at {
-        return at;
-    }
-    if 128 <= s[at] {
-        return at;
-    }
-    if 128 <= s[at + 1] {
-        return at + 1;
-    }
-    if 128 <= s[at + 2] {
-        return at + 2;
-    }
-    if 128 <= s[at + 3] {
-        return at + 3;
-    }
-    if 128 <= s[at + 4] {
-        return at + 4;
-    }
-    if 128 <= s[at + 5] {
-        return at + 5;
-    }
-    if 128 <= s[at + 6] {
-        return at + 6;
-    }
-    if 128 <= s[at + 7] {
-        return at + 7;
+    for i in 0..8 {
+        if 128 <= s[at + i] {
+            return at + i;
+        }
     }
     at + 8
 }
@@ -157,10 +122,7 @@ fn ascii_four(s: &[u8], at: usize) -> u8
 fn is_ascii(s: &[u8], at: usize) -> bool
     ensures { result ≡ true → Run (past_all char_width s.now) s.now at (at + 16) }
 {
-    if s.len() < 16 {
-        return false;
-    }
-    if s.len() - 16 < at {
+    if s.len() < 16 || s.len() - 16 < at {
         return false;
     }
     ascii_four(s, at) + ascii_four(s, at + 4) + ascii_four(s, at + 8) + ascii_four(s, at + 12) == 16
@@ -202,29 +164,18 @@ fn ascii(s: &[u8], from: usize) -> usize
 fn three_one(a: u8, b: u8, c: u8) -> u8
     ensures { Count 1 result (Three a b c) }
 {
-    if a < 225 {
-        return 0;
+    if (225..240).contains(&a) && a != 237 && is_next(b) && is_next(c) {
+        1
+    } else {
+        0
     }
-    if 239 < a {
-        return 0;
-    }
-    if a == 237 {
-        return 0;
-    }
-    if !is_next(b) {
-        return 0;
-    }
-    if is_next(c) { 1 } else { 0 }
 }
 
 // Whether such a character stands at a place.
 fn is_three(s: &[u8], at: usize) -> bool
     ensures { result ≡ true → char_width s.now at ≡ 3 }
 {
-    if s.len() < 3 {
-        return false;
-    }
-    if s.len() - 3 < at {
+    if s.len() < 3 || s.len() - 3 < at {
         return false;
     }
     three_one(s[at], s[at + 1], s[at + 2]) == 1
@@ -234,21 +185,13 @@ fn is_three(s: &[u8], at: usize) -> bool
 fn are_threes(s: &[u8], at: usize) -> bool
     ensures { result ≡ true → Run (past_all char_width s.now) s.now at (at + 48) }
 {
-    if s.len() < 48 {
-        return false;
-    }
-    if s.len() - 48 < at {
-        return false;
-    }
-    if s[at + 24] < 225 {
+    if s.len() < 48 || s.len() - 48 < at || s[at + 24] < 225 {
         return false;
     }
     let mut n = 0;
-    let mut i = 0;
-    while i < 16 {
+    for i in 0..16 {
         let k = at + 3 * i;
         n += three_one(s[k], s[k + 1], s[k + 2]);
-        i += 1;
     }
     n == 16
 }

@@ -14,9 +14,8 @@ use Rattle.converter.proofs.put_record.Goals as goal
 
 pub put_headers-n-requires : goal.put_headers-n-requires
 put_headers-n-requires c =
-    let v = c.requires in
-    let b = c.args.b.now in
-    (v.0.sound, (record_room c.args.mode b v.1).0)
+    let b = c.args.s.block.bytes.now in
+    (record_room c.args.mode b c.requires).0
 
 pub slice_bounds-put_position-count : goal.slice_bounds-put_position-count
 slice_bounds-put_position-count c = within c.put_headers-n.ensures
@@ -26,8 +25,8 @@ slice_bounds-put_position-start c = slice_bounds-put_position-count c
 
 pub put_position-requires : goal.put_position-requires
 put_position-requires c =
-    let b = c.args.b.now in
-    let h = (record_room c.args.mode b c.requires.1).1 in
+    let b = c.args.s.block.bytes.now in
+    let h = (record_room c.args.mode b c.requires).1 in
     room_as (ap position_text c.position_of.ensures) (room_after (position_text (position_in (drop 28 b))) c.put_headers-n.ensures h)
 
 pub overflow_add-m : goal.overflow_add-m
@@ -41,15 +40,14 @@ slice_bounds-put_moves-start c = slice_bounds-put_moves-count c
 
 pub put_moves-requires : goal.put_moves-requires
 put_moves-requires c =
-    let v = c.requires in
-    let b = c.args.b.now in
+    let b = c.args.s.block.bytes.now in
     let w = then c.put_headers-n.ensures (as_text (ap position_text c.position_of.ensures) c.put_position.ensures) in
-    (v.0, room_after (lines_text (said_lines c.args.mode (decode b).lines)) w (record_room c.args.mode b v.1).2)
+    room_after (lines_text (said_lines c.args.mode (decode b).lines)) w (record_room c.args.mode b c.requires).2
 
 pub returns : goal.returns
 returns c =
     let w = then c.put_headers-n.ensures (as_text (ap position_text c.position_of.ensures) c.put_position.ensures) in
-    as_text (sym (record_is c.args.mode c.args.b.now)) (then w c.put_moves.ensures)
+    as_text (sym (record_is c.args.mode c.args.s.block.bytes.now)) (then w c.put_moves.ensures)
 
 pub overflow_add-result : goal.overflow_add-result
 overflow_add-result c = sum_fits (returns c) c.well_formed.0.0

@@ -16,7 +16,7 @@ use Rattle.converter.proofs.write_all.Goals as goal
 
 pub returns-then-out-needed : goal.returns-then-out-needed
 returns-then-out-needed c =
-    let w = (let b = c.args.b.now in
+    let w = (let b = c.args.s.block.bytes.now in
     let o = c.args.out.now in
     let t = record_text (said_record c.args.mode (decode b)) in
     let h : length o < length t = omega (arith, c.text_length-needed.ensures) in
@@ -24,19 +24,19 @@ returns-then-out-needed c =
     record { value = w.0; out_after = w.1 }
 
 pub put_record-requires : goal.put_record-requires
-put_record-requires c = (c.requires, omega (arith, c.text_length-needed.ensures))
+put_record-requires c = omega (arith, c.text_length-needed.ensures)
 
 pub overflow_sub-result : goal.overflow_sub-result
-overflow_sub-result c = omega (arith, c.lines_in.ensures.0, c.requires.most)
+overflow_sub-result c = omega (arith, c.lines_in.ensures.0, c.args.s.counted.most)
 
 pub returns : goal.returns
 returns c =
     let w = (let a = c.args in
-    let b = a.b.now in
+    let b = a.s.block.bytes.now in
     let o = a.out.now in
     let t = record_text (said_record a.mode (decode b)) in
-    let v = c.requires in
+    let v = c.args.s.counted in
     let h : length t ≤ length o = omega (arith, c.text_length-needed.ensures) in
-    let d : c.lines_in.result - a.lines ≡ left_out (decode b).lines = ap (λ (n : ℕ). n - a.lines) c.lines_in.ensures.0 ∙ sym (left_out_is v) in
+    let d : c.lines_in.result - a.s.lines ≡ left_out (decode b).lines = ap (λ (n : ℕ). n - a.s.lines) c.lines_in.ensures.0 ∙ sym (left_out_is v) in
     told (has_room t (left_out (decode b).lines) o h) (ap₂ Done c.text_length-needed.ensures d, c.put_record.ensures.bytes ∙ ap (λ (n : ℕ). t ++ drop n o) c.put_record.ensures.count)) in
     record { value = w.0; out_after = w.1 }

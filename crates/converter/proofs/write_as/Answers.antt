@@ -1,20 +1,25 @@
--- A block that is not sound is refused, and a sound one written, as the definition says.
+-- A block that is not sound is refused, and a sound one, which is the one that was given (`made_of`), written, as the definition says.
 -- Assumes nothing.
-use mathlib.Core.Path.{refl, sym, ◌∙◌}
-use Rattle.block.proofs.Deciding.{sound_says}
-use Rattle.converter.proofs.Showing.{not_sound, is_sound}
+use Prim.Native.Nat.{ℕ}
+use mathlib.Core.Path.{refl, ap, ◌∙◌}
+use mathlib.Core.List.{List}
 use Rattle.jkf.proofs.Answering.{told}
+use Rattle.block.specs.Decode.{decode}
+use Rattle.block.proofs.Sounding.{made_of, none_of}
+use Rattle.converter.specs.Show.{show}
+use Rattle.converter.specs.Writing.{shown_of}
+use Rattle.converter.proofs.Showing.{not_sound, is_sound}
 use Rattle.converter.proofs.write_as.Goals as goal
 
-pub returns-then-not-sound : goal.returns-then-not-sound
-returns-then-not-sound c =
-    let w = (told (not_sound c.args.mode c.args.block.now c.args.out.now (sym c.sound.ensures ∙ c.if-not-sound.true)) (refl, refl)) in
+pub returns-in_default : goal.returns-in_default
+returns-in_default c =
+    let a = c.args in
+    let w = told (not_sound a.mode a.block.now a.out.now (none_of a.block c.of.ensures c.in_default.not-Some)) (refl, refl) in
     record { value = w.0; out_after = w.1 }
-
-pub write_sound-requires : goal.write_sound-requires
-write_sound-requires c = sound_says c.args.block.now (sym c.sound.ensures ∙ c.if-not-sound.false)
 
 pub returns : goal.returns
 returns c =
-    let w = (told (is_sound c.args.mode c.args.block.now c.args.out.now (sym c.sound.ensures ∙ c.if-not-sound.false)) (c.write_sound.ensures.value, c.write_sound.ensures.out_after)) in
+    let a = c.args in
+    let (s, same) = made_of a.block c.of.ensures c.in-Some.b c.in-Some.is in
+    let w = told (is_sound a.mode a.block.now a.out.now s ∙ ap (λ (b : List ℕ). shown_of (show a.mode (decode b)) a.out.now) same) (c.write_sound.ensures.value, c.write_sound.ensures.out_after) in
     record { value = w.0; out_after = w.1 }

@@ -1,13 +1,12 @@
 -- The row of an entry of the usual form, and its line in the three pieces in which it is written.
 -- Assumes nothing: these are definitions.
-use Rattle.std.specs.Prelude.{ℕ, ◌+◌, ◌/◌, ◌%◌, ◌≤◌, ◌≡◌, List, [], ◌∷◌, ◌++◌, Bool, true, length, get_or, eqb, ltb}
+use Rattle.std.specs.Prelude.{ℕ, ◌+◌, ◌/◌, ◌%◌, ◌≤◌, ◌≡◌, List, [], ◌∷◌, ◌++◌, Bool, true, length, get_or, eqb, ltb, Some}
 use Rattle.lists.specs.Pick.{pick}
 use Rattle.lent.specs.Numbers.{padded}
 use Rattle.spell.specs.Tables.{move_kinds}
 use Rattle.spell.specs.Spell.{spelled}
 use Rattle.block.specs.EntryBytes.{target_in, origin_in, move_in}
 use Rattle.jkf.specs.declared.Clock.TheVariants.{Hms, Ms}
-use Rattle.jkf.specs.declared.Origin.TheVariants.{From}
 use Rattle.spell.specs.Words.{promotes}
 use Rattle.converter.specs.declared.Mode.{Mode}
 use Rattle.converter.specs.Said.{said_mark, said_origin}
@@ -58,7 +57,7 @@ pub record UsualRow (row : List ℕ) : Type 0 where
 -- A mode says it so: with 成 or without a mark, and with its origin in brackets.
 pub record SaidSo (mode : Mode) (row : List ℕ) : Type 0 where
   pub mark : promote_text (said_mark mode (get_or row 3 0)) ≡ promoted_text row
-  pub origin : said_origin mode (From (get_or row 6 0) (get_or row 7 0)) ≡ From (get_or row 6 0) (get_or row 7 0)
+  pub origin : said_origin mode (Some (get_or row 6 0, get_or row 7 0)) ≡ Some (get_or row 6 0, get_or row 7 0)
 
 -- A kind that is written with two characters: 成香, 成桂, 成銀, or one with 成 behind it.
 abbrev pub is_long : List ℕ → Bool

@@ -1,16 +1,17 @@
 -- Each table answers its definition, which finds nothing past the end (`first-end`).
 -- Assumes nothing.
 -- an answer that found nothing
+use Rattle.std.specs.Prelude.{ℕ, Option}
 use mathlib.Core.Bool.{Bool, true, false}
 use mathlib.Core.Path.{refl, ap, ◌∙◌}
-use Rattle.spell.specs.declared.Spelled.{Spelled}
 use Rattle.spell.specs.Spell.{on_spelled}
 use Rattle.spell.proofs.Counts.{count-end}
 use Rattle.spell.proofs.Answers.{first-end}
 use Rattle.spell.specs.Tables.{kinds, specials, presets, sides, numerals, files}
 use Rattle.edges.proofs.finds_nothing.Goals as goal
+use Rattle.text.specs.declared.Cursor.{Cursor}
 
-abbrev nothing : Spelled → Bool
+abbrev nothing : Option (ℕ × Cursor) → Bool
 nothing r = on_spelled r (λ n c. false) true
 
 pub expect-requires : goal.expect-requires

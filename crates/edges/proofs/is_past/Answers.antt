@@ -2,5 +2,5 @@
 -- Assumes nothing.
 use Rattle.edges.proofs.is_past.Goals as goal
 
-pub returns-in-Past : goal.returns-in-Past
-returns-in-Past c = rw c.in-Past.is
+pub returns-in-Some : goal.returns-in-Some
+returns-in-Some c = rw c.in-Some.is

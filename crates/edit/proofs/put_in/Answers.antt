@@ -1,22 +1,25 @@
--- One test.
+-- One test, whose block is the one that was given (`made_of`, `none_of`).
 -- Assumes nothing.
-use mathlib.Core.Path.{refl, sym, ◌∙◌}
+use Prim.Native.Nat.{ℕ}
+use mathlib.Core.Path.{refl, ap, ◌∙◌}
+use mathlib.Core.List.{List}
 use Rattle.jkf.proofs.Answering.{told}
-use Rattle.block.proofs.Deciding.{sound_says}
+use Rattle.block.specs.Decode.{decode}
+use Rattle.block.proofs.Sounding.{made_of, none_of}
+use Rattle.edit.specs.Edit.{insert}
+use Rattle.edit.specs.Outcomes.{edited_of}
 use Rattle.edit.proofs.Outcomes.{put_unsound, put-sound}
 use Rattle.edit.proofs.put_in.Goals as goal
 
-pub returns-then-not-sound : goal.returns-then-not-sound
-returns-then-not-sound c =
-    let w = (let a = c.args in
-    told (put_unsound a.block.now a.line a.out.now a.text.now (sym c.sound.ensures ∙ c.if-not-sound.true)) (refl, refl)) in
+pub returns-in_default : goal.returns-in_default
+returns-in_default c =
+    let a = c.args in
+    let w = told (put_unsound a.block.now a.line a.out.now a.text.now (none_of a.block c.of.ensures c.in_default.not-Some)) (refl, refl) in
     record { value = w.0; out_after = w.1 }
-
-pub insert-requires : goal.insert-requires
-insert-requires c = sound_says c.args.block.now (sym c.sound.ensures ∙ c.if-not-sound.false)
 
 pub returns : goal.returns
 returns c =
-    let w = (let a = c.args in
-    told (put-sound a.block.now a.line a.out.now a.text.now (sym c.sound.ensures ∙ c.if-not-sound.false)) (c.insert.ensures.value, c.insert.ensures.out_after)) in
+    let a = c.args in
+    let (s, e) = made_of a.block c.of.ensures c.in-Some.b c.in-Some.is in
+    let w = told (put-sound a.block.now a.line a.out.now a.text.now s ∙ ap (λ (b : List ℕ). edited_of (insert (decode b) a.line a.text.now) a.out.now) e) (c.insert.ensures.value, c.insert.ensures.out_after) in
     record { value = w.0; out_after = w.1 }

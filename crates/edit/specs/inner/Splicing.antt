@@ -1,7 +1,7 @@
 -- On the way to an edited block: what was counted of a text; the lines before line p, new ones, and the lines from line q on; how they are
 -- put, and their sizes.
 -- Assumes nothing: these are definitions.
-use Rattle.std.specs.Prelude.{ℕ, ◌+◌, ◌-◌, ◌≤◌, ◌≡◌, List, [], ◌∷◌, ◌++◌, map, length, take, drop, leb}
+use Rattle.std.specs.Prelude.{ℕ, ◌+◌, ◌-◌, ◌≤◌, ◌≡◌, List, [], ◌∷◌, ◌++◌, map, length, take, drop, leb, Option, Some, None}
 use Rattle.lists.specs.Pick.{pick}
 use Rattle.lists.specs.Repeat.{Ended}
 use Rattle.jkf.specs.Model.{Noted, Line, Record}
@@ -16,7 +16,7 @@ use Rattle.plays.specs.Plays.{ply_at, sequence_at}
 use Rattle.plays.specs.Counted.{extent_at}
 use Rattle.edit.specs.Edit.{reparented, variation_of, line_on}
 use Rattle.edit.specs.declared.Added.{Added}
-use Rattle.edit.specs.declared.Added.TheVariants.{Nothing, Variation}
+use Rattle.edit.specs.declared.Added.{Added}
 
 -- ---- the text
 
@@ -27,14 +27,14 @@ numbered_in t = sequence_at (ply_at t 0) t 0
 -- ---- the new lines
 
 -- None, or the line of a text.
-abbrev pub new_lines : Added → List ℕ → List Line
-new_lines Nothing t = []
-new_lines (Variation k ply x) t = line_on k (variation_of t) ∷ []
+abbrev pub new_lines : Option Added → List ℕ → List Line
+new_lines None t = []
+new_lines (Some r) t = line_on r.line (variation_of t) ∷ []
 
 -- What is handed on about the text was counted of it.
-abbrev pub Counted : Added → List ℕ → Type 0
-Counted Nothing t = Unit {0}
-Counted (Variation k ply x) t = (ply ≡ ply_at t 0) × (x ≡ extent_at t 0) × (length t ≤ 65535)
+abbrev pub Counted : Option Added → List ℕ → Type 0
+Counted None t = Unit {0}
+Counted (Some r) t = (r.ply ≡ ply_at t 0) × (r.extent ≡ extent_at t 0) × (length t ≤ 65535)
 
 -- ---- the lines
 

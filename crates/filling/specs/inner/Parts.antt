@@ -1,6 +1,6 @@
 -- The parts of a block that grow: the texts of their regions, that there is room for them, and that they were filled in.
 -- Assumes nothing: these are definitions.
-use Rattle.std.specs.Prelude.{ℕ, ◌+◌, ◌*◌, ◌≤◌, ◌<◌, ◌≡◌, List, [], ◌∷◌, length}
+use Rattle.std.specs.Prelude.{ℕ, ◌+◌, ◌*◌, ◌≤◌, ◌<◌, ◌≡◌, List, [], ◌∷◌, length, Option, Some, None, Result, Ok, Err}
 use Rattle.lent.specs.inner.Regions.{Filled, Room}
 use Rattle.jkf.specs.Model.{Header, Noted, Line}
 use Rattle.block.specs.Encode.{table, header_row, header_step, header_text, line_row, line_step, entry_row, entry_step, comment_row, comment_step, entries_of, comments_of, comment_text}
@@ -8,10 +8,6 @@ use Rattle.filling.specs.declared.Walk.{Walk}
 use Rattle.jkf.specs.declared.Answer.{Answer}
 use Rattle.jkf.specs.declared.Position.{Position}
 use Rattle.filling.specs.declared.Sizes.{Sizes}
-use Rattle.filling.specs.declared.Hooked.{Hooked}
-use Rattle.filling.specs.declared.Hooked.TheVariants.{Put, Loose}
-use Rattle.filling.specs.declared.Opening.{Opening}
-use Rattle.filling.specs.declared.Opening.TheVariants.{Begun, Refused}
 use Rattle.filling.specs.Filling.{length_of, begun, front_put, Grown, put_header, put_all}
 
 -- ---- the texts of the regions
@@ -123,13 +119,13 @@ sizes_of hs ls =
       bytes = length (header_text hs) + length (comment_text (comments_of (entries_of ls)));
     }
 
-abbrev pub on_opening : {A : Type 0} → Opening → (Walk → ℕ → A) → (Answer → A) → A
-on_opening (Begun w n) f g = f w n
-on_opening (Refused a) f g = g a
+abbrev pub on_opening : {A : Type 0} → Result (Walk × ℕ) Answer → (Walk → ℕ → A) → (Answer → A) → A
+on_opening (Ok (w, n)) f g = f w n
+on_opening (Err a) f g = g a
 
-abbrev pub on_hooked : {A : Type 0} → Hooked → (Walk → A) → A → A
-on_hooked (Put w) f d = f w
-on_hooked Loose f d = d
+abbrev pub on_hooked : {A : Type 0} → Option Walk → (Walk → A) → A → A
+on_hooked (Some w) f d = f w
+on_hooked None f d = d
 
 abbrev pub put_headers : List Header → Walk → List ℕ → Grown
 put_headers = put_all put_header

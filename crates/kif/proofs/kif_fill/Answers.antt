@@ -8,7 +8,7 @@ use Rattle.kif.proofs.kif_fill.Goals as goal
 pub returns : goal.returns
 returns c =
     record {
-      answered = told (c.figures_of-f.ensures ∙ ap figures c.fill-r.ensures.answer_value);
+      answered = told (c.from-f.ensures ∙ ap figures c.fill-r.ensures.answer_value);
       out_after = c.fill-r.ensures.out_after;
       lost_after = c.fill-r.ensures.lost_value;
     }

@@ -6,4 +6,4 @@ use Rattle.kif.proofs.Telling.{told}
 use Rattle.kif.proofs.kif_lines.Goals as goal
 
 pub returns : goal.returns
-returns c = told (c.figures_of-f.ensures ∙ ap figures c.lines.ensures)
+returns c = told (c.from-f.ensures ∙ ap figures c.lines.ensures)

@@ -7,4 +7,4 @@ use Rattle.kif.proofs.kif_put_in.Goals as goal
 
 pub returns : goal.returns
 returns c =
-    record { answered = told (c.figures_of-f.ensures ∙ ap figures c.put_in.ensures.value); out_after = c.put_in.ensures.out_after }
+    record { answered = told (c.from-f.ensures ∙ ap figures c.put_in.ensures.value); out_after = c.put_in.ensures.out_after }

@@ -7,4 +7,4 @@ use Rattle.kif.proofs.kif_write.Goals as goal
 
 pub returns : goal.returns
 returns c =
-    record { answered = told (c.figures_of-f.ensures ∙ ap figures c.write.ensures.value); out_after = c.write.ensures.out_after }
+    record { answered = told (c.from-f.ensures ∙ ap figures c.write.ensures.value); out_after = c.write.ensures.out_after }

@@ -7,6 +7,6 @@ use Rattle.kif.proofs.kif_write_as.Goals as goal
 
 pub returns : goal.returns
 returns c =
-    let answer = rw c.mode_of.ensures at c.write_as.ensures.value in
-    let after = rw c.mode_of.ensures at c.write_as.ensures.out_after in
-    record { answered = told (c.figures_of-f.ensures ∙ ap figures answer); out_after = after }
+    let answer = rw c.from.ensures at c.write_as.ensures.value in
+    let after = rw c.from.ensures at c.write_as.ensures.out_after in
+    record { answered = told (c.from-f.ensures ∙ ap figures answer); out_after = after }

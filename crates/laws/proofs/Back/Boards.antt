@@ -1,5 +1,6 @@
 -- The diagram reads back: each cell is stored at its place, and all 81 places are stored.
 -- Assumes nothing.
+use Rattle.std.specs.Prelude.{Some}
 use Prim.Native.Nat.{ℕ, zero, suc, ◌+◌, ◌*◌, ◌-◌, ◌≤◌}
 use native.Mathlib.Omega.{arith}
 use mathlib.Core.Path.{◌≡◌, refl, sym, ap, ◌∙◌}
@@ -14,7 +15,6 @@ use Rattle.lists.proofs.Stand.{Stands, Came, Reads, Any, then, came, stands_same
 use Rattle.text.specs.Text.{cursor}
 use Rattle.spell.specs.Tables.{kinds, numerals}
 use Rattle.spell.specs.Spell.{spelled, has_number}
-use Rattle.spell.specs.declared.Spelled.TheVariants.{As}
 use Rattle.spell.proofs.Written.{clash, board-kind-reads, numeral_reads}
 use Rattle.spell.proofs.Counts.{tag_reads}
 use Rattle.block.specs.Encode.{concat}
@@ -37,12 +37,12 @@ black-other : (n : ℕ) → 1 ≤ n → n ≤ 14 → clash empty_tag (32 ∷ spe
 unfolding spelled
 black-other n h k = not-true _ (range_at (λ n. not (clash empty_tag (32 ∷ spelled kinds n))) 14 1 n refl h (omega arith))
 
-cell_reads : (v : ℕ) → is_cell v ≡ true → Reads cell_at (λ e. As v (cursor e)) (cell_text v) Any
+cell_reads : (v : ℕ) → is_cell v ≡ true → Reads cell_at (λ e. Some (v, cursor e)) (cell_text v) Any
 unfolding cell_text cell_at white_at
 cell_reads v h = record { run = λ s at r st c. go (eqb v 0) (leb v 14) refl refl h s at r st }
   where
     go : (t u : Bool) → eqb v 0 ≡ t → leb v 14 ≡ u → pick u true (pick (leb 17 v) (leb v 30) false) ≡ true → (s : List ℕ) (at : ℕ) (r : List ℕ)
-        → Stands s at (pick t empty_tag (pick u ((32 ∷ []) ++ spelled kinds v) ((118 ∷ []) ++ spelled kinds (v - 16))) ++ r) → Came (cell_at s at) (λ e. As v (cursor e)) s r
+        → Stands s at (pick t empty_tag (pick u ((32 ∷ []) ++ spelled kinds v) ((118 ∷ []) ++ spelled kinds (v - 16))) ++ r) → Came (cell_at s at) (λ e. Some (v, cursor e)) s r
     go true u e f g s at r st =
         let q : v ≡ 0 = eqb-true v 0 e in
         then (tag_reads empty_tag) st tt λ e₁ i₁ l₁.

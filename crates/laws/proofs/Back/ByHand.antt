@@ -1,6 +1,7 @@
 -- Blocks made by hand are restored: a key that holds no ： ends where its own colon stands, and a writing that is done says that the entries can
 -- be read.                                                                                            (02, xi)
 -- Assumes nothing.
+use Rattle.std.specs.Prelude.{Option, Some, None}
 use Prim.Native.Nat.{ℕ, ◌+◌, ◌<◌}
 use native.Mathlib.Omega.{arith}
 use mathlib.Core.Path.{◌≡◌, refl, sym, ap, ◌∙◌}
@@ -16,7 +17,6 @@ use Rattle.lists.specs.Test.{claim}
 use Rattle.lists.proofs.Laws.{pick_both}
 use Rattle.text.specs.Text.{is_text, prefix_from, wide_colon, key_from}
 use Rattle.spell.specs.Tables.{sides}
-use Rattle.spell.specs.declared.Spelled.TheVariants.{Not}
 use Rattle.block.specs.EntryBytes.{clock_bytes, time_bytes, entry_head, entry_bytes}
 use Rattle.jkf.specs.Entries.{time_of}
 use Rattle.jkf.specs.declared.Clock.{Clock}
@@ -36,8 +36,6 @@ use Rattle.kakinoki.specs.Informations.{preset_line_at}
 use Rattle.moves.proofs.Smalls.{Bytes as AllBytes, each, empty}
 use Rattle.moves.specs.Fits.{ClockFits, hms_fits, ms_fits, TimeFits, untimed_fits, timed_fits, TargetFits, same_fits, square_fits, EntryFits, play_fits, end_fits}
 use Rattle.converter.specs.declared.Mode.{Mode}
-use Rattle.converter.specs.declared.Obstacle.{Obstacle}
-use Rattle.converter.specs.declared.Obstacle.TheVariants.{At, Clear}
 use Rattle.converter.specs.Headers.{header_line}
 use Rattle.converter.specs.Entries.{within, target_on_board, can_write}
 use Rattle.converter.specs.Said.{said_move, said_entry, said_noted, said_line, said_lines, said_record}
@@ -77,7 +75,7 @@ key-ends (b ∷ k) o h =
     let (c, cs) = pick_neither (prefix_from wide_colon (b ∷ k)) (holds_text wide_colon k) h in
     rw (t, colon_fails b k c, key-ends k ts cs)
 
-headers_sayable : {hs : List Header} → All (λ h. preset_line_at (header_line h) 0 ≡ Not) hs → All (λ h. begins_hand sides ((h.key ++ wide_colon) ++ h.value) ≡ false) hs
+headers_sayable : {hs : List Header} → All (λ h. preset_line_at (header_line h) 0 ≡ None) hs → All (λ h. begins_hand sides ((h.key ++ wide_colon) ++ h.value) ≡ false) hs
     → All (λ h. eqb (get_or h.key 0 0) 35 ≡ false) hs → All (λ h. 0 < length h.key) hs → All (λ h. holds_text wide_colon h.key ≡ false) hs
     → All (λ h. OneLine h.key) hs → All (λ h. OneLine h.value) hs → All HeaderSayable hs
 headers_sayable none ns xs ss cs ks vs = none
@@ -86,31 +84,31 @@ headers_sayable (next {x = h} p ps) (next n ns) (next x xs) (next s ss) (next c 
 
 -- ---- what a writing that is done says of the entries
 
-entries_clear : (k i : ℕ) (es : List Noted) → entry_obstacle k i es ≡ Clear → All (λ e. can_write e.what ≡ true) es
+entries_clear : (k i : ℕ) (es : List Noted) → entry_obstacle k i es ≡ None → All (λ e. can_write e.what ≡ true) es
 unfolding entry_obstacle
 entries_clear k i [] h = none
 entries_clear k i (e ∷ es) h = go (can_write e.what) refl h (entries_clear k (i + 1) es)
   where
-    go : (t : Bool) → can_write e.what ≡ t → pick t (entry_obstacle k (i + 1) es) (At k i) ≡ Clear → (entry_obstacle k (i + 1) es ≡ Clear → All (λ e. can_write e.what ≡ true) es)
+    go : (t : Bool) → can_write e.what ≡ t → pick t (entry_obstacle k (i + 1) es) (Some (k, i)) ≡ None → (entry_obstacle k (i + 1) es ≡ None → All (λ e. can_write e.what ≡ true) es)
         → All (λ e. can_write e.what ≡ true) (e ∷ es)
     go true q h ih = next q (ih h)
     go false q h ih = let z : ◌≡◌ {A = ℕ} 0 1 = cc in absurd (omega arith)
 
-lines_clear : (k : ℕ) (ls : List Line) → line_obstacle k ls ≡ Clear → All (λ l. All (λ e. can_write e.what ≡ true) l.entries) ls
+lines_clear : (k : ℕ) (ls : List Line) → line_obstacle k ls ≡ None → All (λ l. All (λ e. can_write e.what ≡ true) l.entries) ls
 unfolding line_obstacle
 lines_clear k [] h = none
 lines_clear k (l ∷ ls) h = go (entry_obstacle k 0 l.entries) refl h (lines_clear (k + 1) ls)
   where
-    go : (x : Obstacle) → entry_obstacle k 0 l.entries ≡ x → on_obstacle x (λ a b. At a b) (line_obstacle (k + 1) ls) ≡ Clear
-        → (line_obstacle (k + 1) ls ≡ Clear → All (λ l. All (λ e. can_write e.what ≡ true) l.entries) ls) → All (λ l. All (λ e. can_write e.what ≡ true) l.entries) (l ∷ ls)
-    go (At a b) q h ih = let z : ◌≡◌ {A = ℕ} 0 1 = cc in absurd (omega arith)
-    go Clear q h ih = next (entries_clear k 0 l.entries q) (ih h)
+    go : (x : Option (ℕ × ℕ)) → entry_obstacle k 0 l.entries ≡ x → on_obstacle x (λ a b. Some (a, b)) (line_obstacle (k + 1) ls) ≡ None
+        → (line_obstacle (k + 1) ls ≡ None → All (λ l. All (λ e. can_write e.what ≡ true) l.entries) ls) → All (λ l. All (λ e. can_write e.what ≡ true) l.entries) (l ∷ ls)
+    go (Some (a, b)) q h ih = let z : ◌≡◌ {A = ℕ} 0 1 = cc in absurd (omega arith)
+    go None q h ih = next (entries_clear k 0 l.entries q) (ih h)
 
 -- every entry can be written as it is said
 abbrev Writable : Mode → Noted → Type 0
 Writable mode e = can_write (said_entry mode e.what) ≡ true
 
-lines_writable : (mode : Mode) (ls : List Line) → All (λ l. 0 < l.start) (drop 1 ls) → line_obstacle 0 (said_lines mode ls) ≡ Clear → All (λ l. All (Writable mode) l.entries) ls
+lines_writable : (mode : Mode) (ls : List Line) → All (λ l. 0 < l.start) (drop 1 ls) → line_obstacle 0 (said_lines mode ls) ≡ None → All (λ l. All (Writable mode) l.entries) ls
 unfolding said_lines said_line said_noted
 lines_writable mode [] z h = none
 lines_writable mode (l ∷ ls) z h =

@@ -1,6 +1,7 @@
 -- Where each colour follows its ply, it does so after an edit: the numbers of a text that is put in are its plies, and each line of its move lines
 -- has the colour of its number; all other lines keep their starts and their entries.                   (02, request (iii))
 -- Assumes nothing.
+use Rattle.std.specs.Prelude.{Option, Some, None, Result, Ok, Err}
 use Prim.Native.Nat.{ℕ, zero, suc, ◌+◌}
 use native.Mathlib.Omega.{arith}
 use mathlib.Core.Path.{◌≡◌, refl, sym, ◌∙◌, subst}
@@ -13,8 +14,8 @@ use Rattle.lists.specs.All.{All, next}
 use Rattle.lists.specs.Repeat.{many_from}
 use Rattle.lists.proofs.Laws.{by_pick}
 use Rattle.text.specs.declared.Cursor.{Cursor}
-use Rattle.text.specs.declared.Number.{Number}
-use Rattle.text.specs.declared.Number.TheVariants.{Value, NoDigit, TooLarge}
+use Rattle.text.specs.declared.FigureError.{FigureError}
+use Rattle.text.specs.declared.FigureError.TheVariants.{Absent, TooLarge}
 use Rattle.jkf.specs.declared.Entry.{Entry}
 use Rattle.jkf.specs.declared.Entry.TheVariants.{Slot, Moved, End}
 use Rattle.jkf.specs.declared.Time.{Time}
@@ -23,14 +24,9 @@ use Rattle.jkf.specs.Attaching.{Play}
 use Rattle.block.specs.Encode.{encode}
 use Rattle.block.specs.Decode.{version_in, decode}
 use Rattle.block.specs.Formed.{Formed}
-use Rattle.text.specs.declared.Place.{Place}
-use Rattle.text.specs.declared.Place.TheVariants.{Past, Absent}
 use Rattle.text.specs.Text.{on_place, on_number, blanks_at, digits_at, line_end_at}
 use Rattle.moves.specs.Moves.{color_of, finished, on_what, what_at, time_at, played_line, move_line_at}
-use Rattle.moves.specs.declared.What.{What}
-use Rattle.moves.specs.declared.What.TheVariants.{Is, Nothing}
 use Rattle.moves.specs.declared.MoveLine.{MoveLine}
-use Rattle.moves.specs.declared.MoveLine.TheVariants.{Numbered, NoLine}
 use Rattle.plays.specs.Plays.{noted, comments_at, entry_item, entries_at, number_item, numbers_at, in_sequence, ply_at}
 use Rattle.plays.proofs.Sequences.{numbers_many}
 use Rattle.edit.specs.Edit.{plays_in, is_variation, variation_of}
@@ -56,26 +52,26 @@ finished-follows n x (Moved m) = move refl
 finished-follows n x (End s u) = ending
 
 -- its entry has the colour of its number
-abbrev Told : MoveLine → Type 0
+abbrev Told : Option MoveLine → Type 0
 Told = OnMoveLine (λ n e c. Follows n e)
 
 line-follows : (s : List ℕ) (at : ℕ) → Told (move_line_at s at)
 unfolding move_line_at
 line-follows s at = go (digits_at 18446744073709551615 s (blanks_at s at))
   where
-    go : (x : Number) → Told (on_number x (λ n c. played_line n s (blanks_at s c.at)) NoLine)
-    go (Value n c) = over (what_at s (blanks_at s c.at))
+    go : (x : Result (ℕ × Cursor) FigureError) → Told (on_number x (λ n c. played_line n s (blanks_at s c.at)) None)
+    go (Ok (n, c)) = over (what_at s (blanks_at s c.at))
       where
-        over : (w : What) → Told (on_what w (λ e d. on_place (line_end_at s (time_at s (blanks_at s d.at)).next.at)
-            (λ f. Numbered n (finished (color_of n) (time_at s (blanks_at s d.at)).time e) f) NoLine) NoLine)
-        over (Is e d) = ends (line_end_at s (time_at s (blanks_at s d.at)).next.at)
+        over : (w : Option (Entry × Cursor)) → Told (on_what w (λ e d. on_place (line_end_at s (time_at s (blanks_at s d.at)).next.at)
+            (λ f. Some (record { number = n; entry = (finished (color_of n) (time_at s (blanks_at s d.at)).time e); next = f })) None) None)
+        over (Some (e, d)) = ends (line_end_at s (time_at s (blanks_at s d.at)).next.at)
           where
-            ends : (p : Place) → Told (on_place p (λ f. Numbered n (finished (color_of n) (time_at s (blanks_at s d.at)).time e) f) NoLine)
-            ends (Past f) = numbered (finished-follows n (time_at s (blanks_at s d.at)).time e)
-            ends Absent = no_line
-        over Nothing = no_line
-    go NoDigit = no_line
-    go TooLarge = no_line
+            ends : (p : Option Cursor) → Told (on_place p (λ f. Some (record { number = n; entry = (finished (color_of n) (time_at s (blanks_at s d.at)).time e); next = f })) None)
+            ends (Some f) = numbered (finished-follows n (time_at s (blanks_at s d.at)).time e)
+            ends None = no_line
+        over None = no_line
+    go (Err Absent) = no_line
+    go (Err TooLarge) = no_line
 
 -- ---- a text
 
@@ -98,7 +94,7 @@ module _ (t : List ℕ) where
   past c = (comments_at t c.at).at
 
   -- what is read first, and the rest
-  numbers_next : (k at m : ℕ) (e : Entry) (c : Cursor) → move_line_at t at ≡ Numbered m e c
+  numbers_next : (k at m : ℕ) (e : Entry) (c : Cursor) → move_line_at t at ≡ Some (record { number = m; entry = e; next = c })
       → (numbers (suc k) at ≡ m ∷ numbers k (past c)) × (entries (suc k) at ≡ noted e (comments_at t c.at).state ∷ entries k (past c))
   unfolding many_from number_item entry_item
   numbers_next k at m e c q = (rw (numbers, q), rw (entries, q))
@@ -108,13 +104,13 @@ module _ (t : List ℕ) where
   counted_colored zero n at = λ _. end
   counted_colored (suc k) n at = go (move_line_at t at) refl (counted_colored k)
     where
-      go : (r : MoveLine) → move_line_at t at ≡ r → ((n at : ℕ) → in_sequence n (numbers k at) ≡ length (numbers k at) → Colored n (entries k at))
+      go : (r : Option MoveLine) → move_line_at t at ≡ r → ((n at : ℕ) → in_sequence n (numbers k at) ≡ length (numbers k at) → Colored n (entries k at))
           → in_sequence n (numbers (suc k) at) ≡ length (numbers (suc k) at) → Colored n (entries (suc k) at)
-      go (Numbered m e c) q ih =
-          let (a, b) = numbers_next k at m e c q in
-          let one = one_colored n m (noted e (comments_at t c.at).state) (numbers k (past c)) (entries k (past c)) (line_is (line-follows t at) q) (ih (n + 1) (past c)) in
+      go (Some r) q ih =
+          let (a, b) = numbers_next k at r.number r.entry r.next q in
+          let one = one_colored n r.number (noted r.entry (comments_at t r.next.at).state) (numbers k (past r.next)) (entries k (past r.next)) (line_is (line-follows t at) q) (ih (n + 1) (past r.next)) in
           λ h. subst (Colored n) (sym b) (one (subst (λ (ns : List ℕ). in_sequence n ns ≡ length ns) a h))
-      go NoLine q ih = λ _. rw (entries, q) end
+      go None q ih = λ _. rw (entries, q) end
 
   text_colored : is_variation t ≡ true → Colored (ply_at t 0) (entries_at t 0).state
   unfolding entries_at numbers_at

@@ -1,5 +1,6 @@
 -- Comments, and move lines with their comments, read back one after the other.
 -- Assumes nothing.
+use Rattle.std.specs.Prelude.{Some, None}
 use Prim.Native.Nat.{ℕ, ◌+◌, ◌-◌, ◌≤◌}
 use mathlib.Core.Path.{◌≡◌, refl, ◌∙◌}
 use mathlib.Core.List.{List, [], ◌∷◌, ◌++◌, map, append_assoc}
@@ -17,8 +18,8 @@ use Rattle.spell.proofs.Counts.{tag_reads}
 use Rattle.jkf.specs.Model.{Noted}
 use Rattle.block.specs.Encode.{concat}
 use Rattle.moves.specs.Moves.{remark_from, kept_at, comment_line_at, move_line_at}
-use Rattle.moves.specs.declared.Remark.TheVariants.{Stands as Remarked, NoRemark}
-use Rattle.moves.specs.declared.MoveLine.TheVariants.{NoLine}
+use Rattle.moves.specs.declared.Remark.{Remark}
+use Rattle.moves.specs.declared.MoveLine.{MoveLine}
 use Rattle.moves.specs.Fits.{EntryFits}
 use Rattle.plays.specs.Plays.{comments_at, entries_at, ply_at}
 use Rattle.plays.proofs.Items.{comments-more, comments-none, entries-more, entries_none}
@@ -38,12 +39,12 @@ is_mark b = pick (eqb b 42) true (eqb b 38)
 
 -- a comment line and where it ends
 remark_came : (t : List ℕ) → OneLine t → {s : List ℕ} {at : ℕ} (r : List ℕ) → Stands s at (remark_text t ++ r) → {B : Type 0}
-    → ((from to next : ℕ) → comment_line_at s at ≡ Remarked (cursor from) (cursor to) (cursor next) → take (to - from) (drop from s) ≡ t → Stands s next r → B) → B
+    → ((from to next : ℕ) → comment_line_at s at ≡ Some (record { from = (cursor from); to = (cursor to); next = (cursor next) }) → take (to - from) (drop from s) ≡ t → Stands s next r → B) → B
 unfolding remark_text star_text comment_line_at remark_from kept_at
 remark_came t h {s} {at} r st k = go t (eqb (get_or t 0 0) 38) refl h st k
   where
     go : (t : List ℕ) (u : Bool) → eqb (get_or t 0 0) 38 ≡ u → OneLine t → Stands s at (((pick u [] (42 ∷ []) ++ t) ++ (10 ∷ [])) ++ r) → {B : Type 0}
-        → ((from to next : ℕ) → comment_line_at s at ≡ Remarked (cursor from) (cursor to) (cursor next) → take (to - from) (drop from s) ≡ t → Stands s next r → B) → B
+        → ((from to next : ℕ) → comment_line_at s at ≡ Some (record { from = (cursor from); to = (cursor to); next = (cursor next) }) → take (to - from) (drop from s) ≡ t → Stands s next r → B) → B
     go t false e h st k =
         then (tag_reads (42 ∷ [])) (simp append_assoc at st) tt λ e₁ i₁ l₁.
         then (tail_reads t h) l₁ refl λ e₂ i₂ l₂.
@@ -59,7 +60,7 @@ remark_came t h {s} {at} r st k = go t (eqb (get_or t 0 0) 38) refl h st k
         then break-reads l₂ tt λ e₃ i₃ l₃.
         k at e₂ e₃ (rw (byte_fails 42 [] st' z, i₁, i₂, i₃)) (stands_between (b ∷ t) st' l₂) l₃
 
-remark_stops : {s : List ℕ} {at : ℕ} (r : List ℕ) → Stands s at r → Off is_mark r → comment_line_at s at ≡ NoRemark
+remark_stops : {s : List ℕ} {at : ℕ} (r : List ℕ) → Stands s at r → Off is_mark r → comment_line_at s at ≡ None
 unfolding comment_line_at kept_at
 remark_stops r st o = let (p, q) = pick_neither (eqb (get_or r 0 0) 42) (eqb (get_or r 0 0) 38) o in rw (byte_fails 42 [] st p, byte_fails 38 [] st q)
 
@@ -102,7 +103,7 @@ unfolding entries_text
 entries_off f h k ply [] r o = o
 entries_off f h k ply (e ∷ es) r o = rw append_assoc (line_off f h k ply e (entries_text (ply + 1) es ++ r))
 
-line_stops : {s : List ℕ} {at : ℕ} (r : List ℕ) → Stands s at r → After r → move_line_at s at ≡ NoLine
+line_stops : {s : List ℕ} {at : ℕ} (r : List ℕ) → Stands s at r → After r → move_line_at s at ≡ None
 unfolding move_line_at
 line_stops r st a = rw (blanks_none st a.blanks, digits_fail 18446744073709551615 st a.digits)
 

@@ -1,6 +1,7 @@
 -- A well-formed record that a text can say is fit to be read back, where colours follow their plies, hands hold at most 99 of a kind, and no
 -- variation starts at 0.
 -- Assumes nothing.
+use Rattle.std.specs.Prelude.{Some, None}
 use Prim.Native.Nat.{ℕ, zero, suc, ◌+◌, ◌-◌, ◌/◌, ◌%◌, ◌≤◌, ◌<◌}
 use native.Mathlib.Omega.{arith}
 use native.Mathlib.Decide.{dec_lt}
@@ -25,14 +26,13 @@ use Rattle.block.specs.Formed.{header_of, line_of, header_fits, Formed}
 use Rattle.kakinoki.specs.Boards.{no_cells}
 use Rattle.sorted.specs.Sorted.{on_order, compared, by_bytes}
 use Rattle.sorted.specs.inner.Orders.{Ascending}
-use Rattle.sorted.specs.declared.Order.{Order}
-use Rattle.sorted.specs.declared.Order.TheVariants.{Less, Equal, Greater}
+use Rattle.std.specs.declared.cmp.Ordering.{Ordering}
+use Rattle.std.specs.declared.cmp.Ordering.TheVariants.{Less, Equal, Greater}
 use Rattle.sorted.proofs.Orders.{Chain, bytes_chain}
 use Rattle.parser.specs.Parse.{by_header}
 use Rattle.plays.specs.Plays.{noted}
 use Rattle.converter.specs.Said.{shown}
 use Rattle.converter.specs.Show.{hand_obstacle, hands_obstacle}
-use Rattle.converter.specs.declared.Obstacle.TheVariants.{At, Clear}
 use Rattle.edit.specs.Edit.{plays_in}
 use Rattle.edit.proofs.Listing.{starts_in, counts_in, BranchedIn, as_branched}
 use Rattle.parser.proofs.Alls.{index_all}
@@ -74,13 +74,13 @@ all_zero zero (x ∷ l) e h = absurd (omega arith)
 all_zero (suc n) [] e h = absurd (omega arith)
 all_zero (suc n) (x ∷ l) e h = ap₂ (λ (y : ℕ) (k : List ℕ). y ∷ k) (h 0 (omega arith)) (all_zero n l (omega arith) (λ k b. h (suc k) (omega arith)))
 
-few_clear : (hands : List ℕ) (n i : ℕ) → hand_obstacle hands i n ≡ Clear → (k : ℕ) → i ≤ k → k < i + n → get_or hands k 0 ≤ 99
+few_clear : (hands : List ℕ) (n i : ℕ) → hand_obstacle hands i n ≡ None → (k : ℕ) → i ≤ k → k < i + n → get_or hands k 0 ≤ 99
 unfolding hand_obstacle
 few_clear hands zero i e k a b = absurd (omega arith)
 few_clear hands (suc n) i e k a b = go (ltb 99 (get_or hands i 0)) refl e (few_clear hands n (i + 1)) (dec_lt i k)
   where
-    go : (t : Bool) → ltb 99 (get_or hands i 0) ≡ t → pick t (At (i / 7) (i % 7)) (hand_obstacle hands (i + 1) n) ≡ Clear
-        → (hand_obstacle hands (i + 1) n ≡ Clear → (k : ℕ) → i + 1 ≤ k → k < i + 1 + n → get_or hands k 0 ≤ 99) → Dec (i < k) → get_or hands k 0 ≤ 99
+    go : (t : Bool) → ltb 99 (get_or hands i 0) ≡ t → pick t (Some (i / 7, i % 7)) (hand_obstacle hands (i + 1) n) ≡ None
+        → (hand_obstacle hands (i + 1) n ≡ None → (k : ℕ) → i + 1 ≤ k → k < i + 1 + n → get_or hands k 0 ≤ 99) → Dec (i < k) → get_or hands k 0 ≤ 99
     go true q e ih d = let z : ◌≡◌ {A = ℕ} 0 1 = cc in absurd (omega arith)
     go false q e ih (yes l) = ih e k (omega arith) (omega arith)
     go false q e ih (no l) = let z : k ≡ i = omega arith in rw z (ltb-false 99 (get_or hands i 0) q)
@@ -92,13 +92,13 @@ side_of t h = go (eqb t 0) refl
     go true e = subst Side (sym (eqb-true t 0 e)) black
     go false e = let n : t ≡ 0 → ⊥ = eqb-false t 0 e in let z : 1 ≡ t = omega arith in subst Side z white
 
-position_fitted : (p : Position) → length p.cells ≡ 81 → length p.hands ≡ 14 → claim (fits_test p) → hands_obstacle p ≡ Clear → PositionFits p
+position_fitted : (p : Position) → length p.cells ≡ 81 → length p.hands ≡ 14 → claim (fits_test p) → hands_obstacle p ≡ None → PositionFits p
 unfolding hands_obstacle
 position_fitted p c n f o = go (eqb p.board 0) refl f.1.1.1.1 o
   where
     go : (t : Bool) → eqb p.board 0 ≡ t
         → pick t (flag (p.turn equals 0 and each 81 (λ i. get_or p.cells i 0 equals 0) and each 14 (λ i. get_or p.hands i 0 equals 0))) (eqb p.preset 16) ≡ true
-        → pick t Clear (hand_obstacle p.hands 0 14) ≡ Clear → PositionFits p
+        → pick t None (hand_obstacle p.hands 0 14) ≡ None → PositionFits p
     go true e d o =
         let (t₀, z) = says (p.turn equals 0 and each 81 (λ i. get_or p.cells i 0 equals 0) and each 14 (λ i. get_or p.hands i 0 equals 0)) d in
         let b₀ : p.board ≡ 0 = eqb-true p.board 0 e in
@@ -146,8 +146,8 @@ before_less (x ∷ a) (y ∷ b) h = go (ltb x y) refl (eqb x y) refl (before_les
 less_less : (x y z : Header) → by_header x y ≡ Less → by_header y z ≡ Less → by_header x z ≡ Less
 less_less x y z p q = go (by_header x y) (by_header y z) (by_header x z) p q (bytes_chain x.key y.key z.key)
   where
-    go : (a b c : Order) → a ≡ Less → b ≡ Less → Chain a b c → c ≡ Less
-    go a b c p q h = subst (λ (b : Order). Chain Less b c) q (subst (λ (a : Order). Chain a b c) p h)
+    go : (a b c : Ordering) → a ≡ Less → b ≡ Less → Chain a b c → c ≡ Less
+    go a b c p q h = subst (λ (b : Ordering). Chain Less b c) q (subst (λ (a : Ordering). Chain a b c) p h)
 
 less_all : (x y : Header) (hs : List Header) → by_header x y ≡ Less → All (λ z. by_header y z ≡ Less) hs → All (λ z. by_header x z ≡ Less) hs
 less_all x y [] p none = none
@@ -236,7 +236,7 @@ all_fitted (l ∷ ls) n g (next k ks) (leads s ss) (next c cs) = go l.entries re
         (fit t.comments (entries_fitted 1 ts c₁ n₁)
         (lines_fitted (shown-later ls) (shown-all ks) (shown-all (all_unmap _ ls ss)) (shown-all (all_unmap _ ls cs))) (λ y. alone (length es) (ap length e) y ls g))
 
-pub record_fitted : (r : Record) → Formed r → Sayable r → ColorsFollow r → hands_obstacle r.position ≡ Clear → RecordFits (shown_record r)
+pub record_fitted : (r : Record) → Formed r → Sayable r → ColorsFollow r → hands_obstacle r.position ≡ None → RecordFits (shown_record r)
 record_fitted r g s c o =
     let w = formed_fits r g in
     let low : length (entries_of r.lines) ≤ 65535 = omega (arith, fits r w) in

@@ -1,5 +1,6 @@
 -- A hand line reads back: its pieces are read kind by kind, from the rook down to the pawn.
 -- Assumes nothing.
+use Rattle.std.specs.Prelude.{Some, None}
 use Prim.Native.Nat.{ℕ, ◌+◌, ◌-◌, ◌≤◌}
 use native.Mathlib.Omega.{arith}
 use mathlib.Core.Path.{◌≡◌, refl, sym, ap, ◌∙◌}
@@ -15,18 +16,16 @@ use Rattle.lists.proofs.Repeats.{repeat_more, repeat_stop}
 use Rattle.lists.proofs.Stand.{Stands, Came, Off, then, came, stands_past, byte_0}
 use Rattle.text.specs.Text.{cursor, tag_at, padding_at, pad_width, wide_space, prefix_from, stands_at}
 use Rattle.text.proofs.Widths.{past_stop, past_more, pad_within}
-use Rattle.text.specs.declared.Place.TheVariants.{Absent}
 use Rattle.spell.specs.Tables.{kinds, numerals}
 use Rattle.spell.specs.Spell.{first_of, spelled, has_number}
 use Rattle.spell.specs.Count.{ten, tens_at, hand_count_at, count_text}
-use Rattle.spell.specs.declared.Spelled.TheVariants.{As, Not}
 use Rattle.spell.proofs.Written.{stands_here, first_fails, board-kind-reads}
 use Rattle.spell.proofs.Counts.{tag_reads, Over, count-reads}
 use Rattle.block.specs.Encode.{concat}
 use Rattle.block.specs.Decode.{run}
 use Rattle.kakinoki.specs.Informations.{hand, piece_at, empty_hand, piece_step, pieces_at, hand_at}
 use Rattle.spell.specs.Words.{none_tag}
-use Rattle.kakinoki.specs.declared.Piece.TheVariants.{Of}
+use Rattle.kakinoki.specs.declared.Piece.{Piece}
 use Rattle.kakinoki.proofs.Pieces.{piece_goes}
 use Rattle.converter.specs.Diagrams.{held_text, held, all_held, or_none}
 use Rattle.laws.proofs.Back.Leaves.{tag_fails, byte_fails}
@@ -85,19 +84,19 @@ kind_has n h k = range_at (has_number kinds) 7 1 n refl h (omega arith)
 over_space : (r : List ℕ) → Over (wide_space ++ r)
 over_space r = record { numeral = λ s at st. first_fails numerals wide_space refl r st; tens = λ s at st. tag_fails ten wide_space refl r st }
 
-count_none : {s : List ℕ} {at : ℕ} {r : List ℕ} → Over r → Stands s at r → hand_count_at s at ≡ Not
+count_none : {s : List ℕ} {at : ℕ} {r : List ℕ} → Over r → Stands s at r → hand_count_at s at ≡ None
 unfolding hand_count_at tens_at
 count_none {s} {at} o st = rw (o.numeral s at st, o.tens s at st)
 
 -- a kind that is held once or more, before what begins no padding
 piece_came : (k n : ℕ) → 1 ≤ k → k ≤ 7 → 1 ≤ n → n ≤ 99 → {s : List ℕ} {at : ℕ} (r : List ℕ) → Off is_pad r
-    → Stands s at (spelled kinds k ++ (pick (ltb 1 n) (count_text n) [] ++ (wide_space ++ r))) → Came (piece_at s at) (λ e. Of k n (cursor e)) s r
+    → Stands s at (spelled kinds k ++ (pick (ltb 1 n) (count_text n) [] ++ (wide_space ++ r))) → Came (piece_at s at) (λ e. Some (record { kind = k; count = n; next = (cursor e) })) s r
 unfolding piece_at
 piece_came k n h l m z {s} {at} r o st =
     then (board-kind-reads k (kind_has k h l)) st tt λ e₁ i₁ l₁.
     go (ltb 1 n) refl e₁ i₁ l₁
   where
-    go : (t : Bool) → ltb 1 n ≡ t → (e₁ : ℕ) → first_of kinds s at ≡ As k (cursor e₁) → Stands s e₁ (pick t (count_text n) [] ++ (wide_space ++ r)) → Came (piece_at s at) (λ e. Of k n (cursor e)) s r
+    go : (t : Bool) → ltb 1 n ≡ t → (e₁ : ℕ) → first_of kinds s at ≡ Some (k, cursor e₁) → Stands s e₁ (pick t (count_text n) [] ++ (wide_space ++ r)) → Came (piece_at s at) (λ e. Some (record { kind = k; count = n; next = (cursor e) })) s r
     go true q e₁ i₁ l₁ =
         then (count-reads n (omega arith) z) l₁ (over_space r) λ e₂ i₂ l₂.
         came (padding_one l₂ o) λ e₃ i₃ l₃.
@@ -234,6 +233,6 @@ hand_came hands side few {s} {at} r st =
         either false q st =
             let st' : Stands s at (seven a b c d e f g (10 ∷ r)) = rw (seven_append a b c d e f g (10 ∷ r)) at st in
             let o : eqb (get_or (seven a b c d e f g (10 ∷ r)) 0 0) 227 ≡ false = (pads (get_or (seven a b c d e f g (10 ∷ r)) 0 0) (seven_off a b c d e f g (10 ∷ r) refl)).1 in
-            let z : tag_at none_tag s at ≡ Absent = byte_fails 227 (129 ∷ 170 ∷ 227 ∷ 129 ∷ 151 ∷ []) st' o in
+            let z : tag_at none_tag s at ≡ None = byte_fails 227 (129 ∷ 170 ∷ 227 ∷ 129 ∷ 151 ∷ []) st' o in
             came (seven_came a b c d e f g ha hb hc hd he hf hg r st') λ e₁ i₁ l₁.
             record { end = e₁; is = rw (z, i₁); left = l₁ }

@@ -1,5 +1,6 @@
 -- A header line reads back: it is no # line, no preset, no side to move and no hand, and its key ends at the ： that is written.
 -- Assumes nothing.
+use Rattle.std.specs.Prelude.{Option, Some, None}
 use Prim.Native.Nat.{ℕ, zero, suc, ◌+◌, ◌-◌, ◌≤◌, ◌<◌}
 use native.Mathlib.Omega.{arith}
 use mathlib.Core.Path.{◌≡◌, refl, sym, ap, ◌∙◌, subst}
@@ -14,12 +15,9 @@ use Rattle.lists.specs.Repeat.{more}
 use Rattle.lists.proofs.Laws.{pick_both}
 use Rattle.lists.proofs.Stand.{Stands, Came, Reads, Any, then, stands_past, stands_same, stands_between, stands_seam, byte_0}
 use Rattle.text.specs.Text.{cursor, on_place, is_text, prefix_from, stands_at, tag_at, break_at, wide_space, pad_width, padding_at, wide_colon, key_from, key_at}
-use Rattle.text.specs.declared.Place.TheVariants.{Absent}
 use Rattle.text.proofs.Widths.{past_stop, past_more, pad_within}
 use Rattle.spell.specs.Tables.{Spelling, sides}
 use Rattle.spell.specs.Spell.{on_spelled, first_of}
-use Rattle.spell.specs.declared.Spelled.{Spelled}
-use Rattle.spell.specs.declared.Spelled.TheVariants.{As, Not}
 use Rattle.spell.proofs.Counts.{tag_reads}
 use Rattle.jkf.specs.Model.{Header}
 use Rattle.kakinoki.specs.Informations.{hash_lines_at, padded_end_at, ends_line, preset_line_at, turn_line_at, empty_hand, held_at, hand_said, hand_line_at, value_at, key_value_at, header_at, of_pair, keyed_at, hands_or_keyed_at, information_at, information_item}
@@ -31,6 +29,7 @@ use Rattle.laws.specs.Sayable.{every_byte, OneLine, begins_hand, HeaderSayable}
 use Rattle.laws.proofs.Back.Leaves.{all_append, tail_reads, break-reads}
 use Rattle.laws.proofs.Back.PresetLines.{Break, lf, stands_local, prefix_split, one-line_rest, preset_alike, plain}
 use Rattle.laws.proofs.Back.Information.{hash_none}
+use Rattle.text.specs.declared.Cursor.{Cursor}
 
 -- ---- the key
 
@@ -92,27 +91,27 @@ not_break : (c : ℕ) → is_text c ≡ true → (eqb c 10 ≡ false) × (eqb c 
 not_break c h = (ne_eqb c 10 (λ e. true≢false (sym h ∙ ap is_text e)), ne_eqb c 13 (λ e. true≢false (sym h ∙ ap is_text e)))
 
 -- where no padding stands before the colon, the line is not over
-stays : (c : ℕ) (l : List ℕ) {s : List ℕ} {at : ℕ} → is_text c ≡ true → Stands s at (c ∷ l) → pad_width s at ≡ 0 → padded_end_at s at ≡ Absent
+stays : (c : ℕ) (l : List ℕ) {s : List ℕ} {at : ℕ} → is_text c ≡ true → Stands s at (c ∷ l) → pad_width s at ≡ 0 → padded_end_at s at ≡ None
 unfolding padded_end_at break_at
 stays c l {s} {at} h st z = let (p, q) = not_break c h in rw (past_stop pad_width s at z, byte_0 st, p, q)
 
 wide-none : (k v : List ℕ) → prefix_from wide_space (k ++ (wide_colon ++ v)) ≡ true → (j : List ℕ) × (k ≡ wide_space ++ j)
 wide-none k v h = prefix_before wide_space k v refl h
 
-colon_stays : (v : List ℕ) {s : List ℕ} {at : ℕ} → Stands s at (wide_colon ++ v) → padded_end_at s at ≡ Absent
+colon_stays : (v : List ℕ) {s : List ℕ} {at : ℕ} → Stands s at (wide_colon ++ v) → padded_end_at s at ≡ None
 unfolding pad_width
 colon_stays v {s} {at} st = stays 239 _ refl st (rw (byte_0 st, other))
   where
     other : stands_at wide_space s at ≡ false
     other = stands_other wide_space (239 ∷ []) _ st refl
 
-pad_colon_step : (n : ℕ) (k v : List ℕ) → ((k v : List ℕ) → length k ≤ n → OneLine k → (s : List ℕ) (at : ℕ) → Stands s at (k ++ (wide_colon ++ v)) → padded_end_at s at ≡ Absent)
-    → length k ≤ suc n → OneLine k → (s : List ℕ) (at : ℕ) → Stands s at (k ++ (wide_colon ++ v)) → padded_end_at s at ≡ Absent
+pad_colon_step : (n : ℕ) (k v : List ℕ) → ((k v : List ℕ) → length k ≤ n → OneLine k → (s : List ℕ) (at : ℕ) → Stands s at (k ++ (wide_colon ++ v)) → padded_end_at s at ≡ None)
+    → length k ≤ suc n → OneLine k → (s : List ℕ) (at : ℕ) → Stands s at (k ++ (wide_colon ++ v)) → padded_end_at s at ≡ None
 unfolding pad_width padded_end_at stands_at
 pad_colon_step n [] v ih h o s at st = colon_stays v st
 pad_colon_step n (b ∷ k) v ih h o s at st = go (eqb b 32) (prefix_from wide_space ((b ∷ k) ++ (wide_colon ++ v))) refl refl
   where
-    past : (t j : List ℕ) → 0 < length t → b ∷ k ≡ t ++ j → pad_width s at ≡ length t → padded_end_at s at ≡ Absent
+    past : (t j : List ℕ) → 0 < length t → b ∷ k ≡ t ++ j → pad_width s at ≡ length t → padded_end_at s at ≡ None
     past t j z e w =
         let o' = one-line_rest t j (subst OneLine e o) in
         let l = stands_past t (j ++ (wide_colon ++ v)) s at (stands_same (ap (λ (l : List ℕ). l ++ (wide_colon ++ v)) e ∙ append_assoc t j (wide_colon ++ v)) st) in
@@ -120,12 +119,12 @@ pad_colon_step n (b ∷ k) v ih h o s at st = go (eqb b 32) (prefix_from wide_sp
         let ne : pad_width s at ≡ 0 → ⊥ = λ q. omega arith in
         ap (break_at s) (past_more pad_width s at pad_within ne ∙ ap (λ (n : ℕ). padding_at s (at + n)) w) ∙ ih j v (omega (arith, m)) o' s (at + length t) l
 
-    go : (t u : Bool) → eqb b 32 ≡ t → prefix_from wide_space ((b ∷ k) ++ (wide_colon ++ v)) ≡ u → padded_end_at s at ≡ Absent
+    go : (t u : Bool) → eqb b 32 ≡ t → prefix_from wide_space ((b ∷ k) ++ (wide_colon ++ v)) ≡ u → padded_end_at s at ≡ None
     go true u e f = past (b ∷ []) k (omega arith) refl (rw (byte_0 st, e))
     go false true e f = let (j, q) = wide-none (b ∷ k) v f in past wide_space j (omega arith) q (rw (byte_0 st, e, st.rest, f))
     go false false e f = stays b _ (pick_both (is_text b) (every_byte is_text k) o).0 st (rw (byte_0 st, e, st.rest, f))
 
-pad_colon : (n : ℕ) (k v : List ℕ) → length k ≤ n → OneLine k → (s : List ℕ) (at : ℕ) → Stands s at (k ++ (wide_colon ++ v)) → padded_end_at s at ≡ Absent
+pad_colon : (n : ℕ) (k v : List ℕ) → length k ≤ n → OneLine k → (s : List ℕ) (at : ℕ) → Stands s at (k ++ (wide_colon ++ v)) → padded_end_at s at ≡ None
 pad_colon zero [] v h o s at st = colon_stays v st
 pad_colon zero (b ∷ k) v h o s at st = absurd (omega arith)
 pad_colon (suc n) k v h o s at st = pad_colon_step n k v (pad_colon n) h o s at st
@@ -137,14 +136,14 @@ free (e ∷ es) = pick (no_colon e.bytes) (free es) false
 
 module _ (k v : List ℕ) (o : OneLine k) {s : List ℕ} {at : ℕ} (st : Stands s at (k ++ (wide_colon ++ v))) where
   -- 番 after a side, in the key
-  turn-tag : (n : ℕ) (t j : List ℕ) → k ≡ t ++ j → on_place (tag_at turn_tag s (at + length t)) (λ d. ends_line s n d.at) Not ≡ Not
+  turn-tag : (n : ℕ) (t j : List ℕ) → k ≡ t ++ j → on_place (tag_at turn_tag s (at + length t)) (λ d. ends_line s n d.at) None ≡ None
   unfolding tag_at stands_at
   turn-tag n t j e = go (prefix_from turn_tag (j ++ (wide_colon ++ v))) refl
     where
       l : Stands s (at + length t) (j ++ (wide_colon ++ v))
       l = stands_past t (j ++ (wide_colon ++ v)) s at (stands_same (ap (λ (l : List ℕ). l ++ (wide_colon ++ v)) e ∙ append_assoc t j (wide_colon ++ v)) st)
 
-      go : (u : Bool) → prefix_from turn_tag (j ++ (wide_colon ++ v)) ≡ u → on_place (tag_at turn_tag s (at + length t)) (λ d. ends_line s n d.at) Not ≡ Not
+      go : (u : Bool) → prefix_from turn_tag (j ++ (wide_colon ++ v)) ≡ u → on_place (tag_at turn_tag s (at + length t)) (λ d. ends_line s n d.at) None ≡ None
       go true f =
           let (i, q) = prefix_before turn_tag j v refl f in
           let m = stands_past turn_tag (i ++ (wide_colon ++ v)) s (at + length t) (stands_same (ap (λ (l : List ℕ). l ++ (wide_colon ++ v)) q) l) in
@@ -153,20 +152,20 @@ module _ (k v : List ℕ) (o : OneLine k) {s : List ℕ} {at : ℕ} (st : Stands
       go false f = rw (l.rest, f)
 
   turn_fails : (es : List Spelling) → free es ≡ true
-      → on_spelled (first_of es s at) (λ n c. on_place (tag_at turn_tag s c.at) (λ d. ends_line s n d.at) Not) Not ≡ Not
+      → on_spelled (first_of es s at) (λ n c. on_place (tag_at turn_tag s c.at) (λ d. ends_line s n d.at) None) None ≡ None
   unfolding first_of stands_at
   turn_fails [] h = refl
   turn_fails (e ∷ es) h = let (p, q) = pick_both (no_colon e.bytes) (free es) h in go (prefix_from e.bytes (k ++ (wide_colon ++ v))) refl p (turn_fails es q)
     where
-      Ended : Spelled → Spelled
-      Ended r = on_spelled r (λ n c. on_place (tag_at turn_tag s c.at) (λ d. ends_line s n d.at) Not) Not
+      Ended : Option (ℕ × Cursor) → Option (ℕ × Cursor)
+      Ended r = on_spelled r (λ n c. on_place (tag_at turn_tag s c.at) (λ d. ends_line s n d.at) None) None
 
-      go : (u : Bool) → prefix_from e.bytes (k ++ (wide_colon ++ v)) ≡ u → no_colon e.bytes ≡ true → Ended (first_of es s at) ≡ Not
-          → Ended (pick (prefix_from e.bytes (drop at s)) (As e.number (cursor (at + length e.bytes))) (first_of es s at)) ≡ Not
+      go : (u : Bool) → prefix_from e.bytes (k ++ (wide_colon ++ v)) ≡ u → no_colon e.bytes ≡ true → Ended (first_of es s at) ≡ None
+          → Ended (pick (prefix_from e.bytes (drop at s)) (Some (e.number, cursor (at + length e.bytes))) (first_of es s at)) ≡ None
       go true f p ih = let (j, q) = prefix_before e.bytes k v p f in rw (st.rest, f) (turn-tag e.number e.bytes j q)
       go false f p ih = rw (st.rest, f) ih
 
-  pub no_turn : turn_line_at s at ≡ Not
+  pub no_turn : turn_line_at s at ≡ None
   unfolding turn_line_at
   no_turn = turn_fails sides refl
 
@@ -186,12 +185,12 @@ module _ (u : List ℕ) {x : List ℕ} (b : Break x) {s : List ℕ} {at : ℕ} (
       let (p, q) = pick_both (every_byte is_text e.bytes) (plain es) h in
       go (prefix_from e.bytes u) refl (prefix_from (e.bytes ++ hands_tag) u) refl n p (hand_fails es q)
     where
-      Held : Spelled → HandSaid
+      Held : Option (ℕ × Cursor) → HandSaid
       Held r = on_spelled r (λ side c. on_place (tag_at hands_tag s c.at) (λ d. held_at side s d.at) (hand_said NoHand empty_hand)) (hand_said NoHand empty_hand)
 
       go : (t : Bool) → prefix_from e.bytes u ≡ t → (y : Bool) → prefix_from (e.bytes ++ hands_tag) u ≡ y → pick y true (begins_hand es u) ≡ false → OneLine e.bytes
           → (begins_hand es u ≡ false → Held (first_of es s at) ≡ hand_said NoHand empty_hand)
-          → Held (pick (stands_at e.bytes s at) (As e.number (cursor (at + length e.bytes))) (first_of es s at)) ≡ hand_said NoHand empty_hand
+          → Held (pick (stands_at e.bytes s at) (Some (e.number, cursor (at + length e.bytes))) (first_of es s at)) ≡ hand_said NoHand empty_hand
       go true f true g n p ih = absurd (true≢false n)
       go true f false g n p ih =
           let (w, q) = prefix_split e.bytes u f in
@@ -233,8 +232,8 @@ header_item h f = record { run = λ s at r st c. go s at r st }
         let st₁ : Stands s at (h.key ++ (wide_colon ++ (h.value ++ (10 ∷ r)))) = stands_same (line-parts h.key h.value r) st in
         let st₂ : Stands s at (body ++ (10 ∷ r)) = stands_same (line_body h.key h.value r) st in
         let z₁ : hash_lines_at s at ≡ at = hash_none st₁ (ap (λ (b : ℕ). eqb b 35) (first_byte h.key _ f.some) ∙ f.no_hash) in
-        let z₂ : preset_line_at s at ≡ Not = preset_alike body o (lf {r = []}) (lf {r = r}) (stands_seam [] (header_line h)) st₂ f.no_preset in
-        let z₃ : turn_line_at s at ≡ Not = no_turn h.key (h.value ++ (10 ∷ r)) (key-text h.key f.key) st₁ in
+        let z₂ : preset_line_at s at ≡ None = preset_alike body o (lf {r = []}) (lf {r = r}) (stands_seam [] (header_line h)) st₂ f.no_preset in
+        let z₃ : turn_line_at s at ≡ None = no_turn h.key (h.value ++ (10 ∷ r)) (key-text h.key f.key) st₁ in
         let z₄ : hand_line_at s at ≡ hand_said NoHand empty_hand = no-hand body lf st₂ f.no_hand in
         let k₁ : key_from (drop at s) ≡ h.key = ap key_from st₁.rest ∙ key-from h.key (h.value ++ (10 ∷ r)) f.key in
         let ne : eqb (length h.key) 0 ≡ false = ne_eqb (length h.key) 0 (λ e. let g = f.some in omega arith) in

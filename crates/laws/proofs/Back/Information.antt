@@ -1,5 +1,6 @@
 -- Information lines read back: presets, hands, the side to move, header lines.
 -- Assumes nothing.
+use Rattle.std.specs.Prelude.{Some, None}
 use Prim.Native.Nat.{ℕ, ◌≤◌}
 use native.Mathlib.Omega.{arith}
 use mathlib.Core.Path.{◌≡◌, refl}
@@ -11,10 +12,8 @@ use Rattle.lists.specs.Repeat.{more}
 use Rattle.lists.proofs.Laws.{range_at}
 use Rattle.lists.proofs.Stand.{Stands, Reads, Any, then, came}
 use Rattle.text.specs.Text.{cursor, tag_at, same}
-use Rattle.text.specs.declared.Place.TheVariants.{Absent}
 use Rattle.spell.specs.Tables.{presets, sides}
 use Rattle.spell.specs.Spell.{first_of, spelled, has_number}
-use Rattle.spell.specs.declared.Spelled.TheVariants.{As}
 use Rattle.spell.proofs.Written.{spelled-reads, preset-reads}
 use Rattle.spell.proofs.Counts.{tag_reads}
 use Rattle.kakinoki.specs.Informations.{hash_line_at, hash_lines_at, padded_end_at, preset_line_at, turn_line_at, held_at, hand_line_at, of_preset, of_turn, of_hands, hands_or_keyed_at, information_at, information_item}
@@ -67,7 +66,7 @@ pub data Side : ℕ → Type 0 where
   black : Side 0
   white : Side 1
 
-side-reads : {side : ℕ} → Side side → Reads (first_of sides) (λ e. As side (cursor e)) (spelled sides side) Any
+side-reads : {side : ℕ} → Side side → Reads (first_of sides) (λ e. Some (side, cursor e)) (spelled sides side) Any
 unfolding has_number same
 side-reads black = spelled-reads sides sides 0 refl refl refl
 side-reads white = spelled-reads sides sides 1 refl refl refl
@@ -85,9 +84,9 @@ hands_item hands {side} d few = record {
       let st' = simp append_assoc at st in
       let b = side-begins d (hands_tag ++ (or_none (all_held hands side) ++ (10 ∷ r))) in
       let z = hash_none st' (rw b) in
-      let y : tag_at preset_tag s at ≡ Absent = byte_fails 230 _ st' (rw b) in
+      let y : tag_at preset_tag s at ≡ None = byte_fails 230 _ st' (rw b) in
       then (side-reads d) st' tt λ e₁ i₁ l₁.
-      let x : tag_at turn_tag s e₁ ≡ Absent = byte_fails 231 _ l₁ refl in
+      let x : tag_at turn_tag s e₁ ≡ None = byte_fails 231 _ l₁ refl in
       then (tag_reads hands_tag) l₁ tt λ e₂ i₂ l₂.
       came (hand_came hands side few r l₂) λ e₃ i₃ l₃.
       then break-reads l₃ tt λ e₄ i₄ l₄.

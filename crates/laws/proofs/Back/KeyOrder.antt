@@ -16,8 +16,8 @@ use Rattle.jkf.specs.Model.{Header}
 use Rattle.block.specs.Encode.{concat}
 use Rattle.block.specs.Decode.{run}
 use Rattle.text.specs.Text.{same}
-use Rattle.sorted.specs.declared.Order.{Order}
-use Rattle.sorted.specs.declared.Order.TheVariants.{Less, Greater}
+use Rattle.std.specs.declared.cmp.Ordering.{Ordering}
+use Rattle.std.specs.declared.cmp.Ordering.TheVariants.{Less, Greater}
 use Rattle.sorted.specs.Sorted.{enter, enter_all}
 use Rattle.sorted.specs.inner.Orders.{into}
 use Rattle.sorted.specs.inner.Orders.{merge, Ascending}
@@ -48,7 +48,7 @@ keep_none : {A : Type 0} (l : List A) → keep {A = A} (λ x. false) l ≡ []
 keep_none [] = refl
 keep_none (x ∷ l) = keep_none l
 
-module _ {A : Type 0} (o : A → A → Order) (flips : (x y : A) → o y x ≡ flip (o x y)) where
+module _ {A : Type 0} (o : A → A → Ordering) (flips : (x y : A) → o y x ≡ flip (o x y)) where
   into-first : (x : A) (f : List A → List A) (ys : List A) → All (λ y. o x y ≡ Less) ys → into o x f ys ≡ x ∷ f ys
   unfolding into
   into-first x f [] h = refl

@@ -1,5 +1,6 @@
 -- The leaves read what was written: byte strings, blanks, digits, tails, breaks.
 -- Assumes nothing.
+use Rattle.std.specs.Prelude.{Some, None, Ok, Err}
 use Prim.Native.Nat.{ℕ, zero, suc, ◌+◌, ◌*◌, ◌-◌, ◌/◌, ◌%◌, ◌≤◌, ◌<◌}
 use native.Mathlib.Nat.{add-zero}
 use native.Mathlib.Omega.{arith}
@@ -15,8 +16,7 @@ use Rattle.lists.proofs.Stand.{Stands, Came, Reads, Any, Off, then, stands_past,
 use Rattle.lent.specs.Numbers.{digits_from, decimal, padded}
 use Rattle.lent.proofs.Digits.{decimal-one}
 use Rattle.text.specs.Text.{cursor, is_blank, is_text, is_digit, span_from, span_at, prefix_from, stands_at, tag_at, break_at, tail_at, line_end_at, blanks_at, number_from, number_at, digits_at}
-use Rattle.text.specs.declared.Place.TheVariants.{Past, Absent}
-use Rattle.text.specs.declared.Number.TheVariants.{Value, NoDigit}
+use Rattle.text.specs.declared.FigureError.TheVariants.{Absent}
 use Rattle.text.proofs.Laws.{digit_bounds}
 use Rattle.spell.proofs.Written.{clash, stands_other}
 use Rattle.laws.specs.Sayable.{every_byte}
@@ -68,16 +68,16 @@ pick_neither false u h = (refl, h)
 
 -- ---- a byte string that does not stand there
 
-pub tag_absent : (a : List ℕ) {s : List ℕ} {at : ℕ} {r : List ℕ} → Stands s at r → prefix_from a r ≡ false → tag_at a s at ≡ Absent
+pub tag_absent : (a : List ℕ) {s : List ℕ} {at : ℕ} {r : List ℕ} → Stands s at r → prefix_from a r ≡ false → tag_at a s at ≡ None
 unfolding tag_at stands_at
 tag_absent a st h = rw (st.rest, h)
 
-pub tag_fails : (a t : List ℕ) → clash a t ≡ false → {s : List ℕ} {at : ℕ} (r : List ℕ) → Stands s at (t ++ r) → tag_at a s at ≡ Absent
+pub tag_fails : (a t : List ℕ) → clash a t ≡ false → {s : List ℕ} {at : ℕ} (r : List ℕ) → Stands s at (t ++ r) → tag_at a s at ≡ None
 unfolding tag_at
 tag_fails a t h r st = rw (stands_other a t r st h)
 
 -- a first byte that is another
-pub byte_fails : (b : ℕ) (t : List ℕ) {s : List ℕ} {at : ℕ} {r : List ℕ} → Stands s at r → eqb (get_or r 0 0) b ≡ false → tag_at (b ∷ t) s at ≡ Absent
+pub byte_fails : (b : ℕ) (t : List ℕ) {s : List ℕ} {at : ℕ} {r : List ℕ} → Stands s at r → eqb (get_or r 0 0) b ≡ false → tag_at (b ∷ t) s at ≡ None
 unfolding tag_at stands_at prefix_from
 byte_fails b t {r = []} st h = rw st.rest
 byte_fails b t {r = x ∷ r} st h = rw (st.rest, h)
@@ -124,7 +124,7 @@ pub record Digits (t : List ℕ) (n : ℕ) : Type 0 where
   pub some : 0 < length t
   pub makes : value t 0 ≡ n
 
-pub digits-read : (largest : ℕ) (t : List ℕ) (n : ℕ) → Digits t n → n ≤ largest → Reads (digits_at largest) (λ e. Value n (cursor e)) t (Off is_digit)
+pub digits-read : (largest : ℕ) (t : List ℕ) (n : ℕ) → Digits t n → n ≤ largest → Reads (digits_at largest) (λ e. Ok (n, cursor e)) t (Off is_digit)
 unfolding digits_at number_at
 digits-read largest t n d v = record {
   run = λ s at r st c.
@@ -136,7 +136,7 @@ digits-read largest t n d v = record {
       record { end = w.end; is = rw (w.is, ne_eqb _ _ ne, st.rest, number-from t r 0 h c, d.makes, le-leb _ _ v); left = w.left };
 }
 
-pub digits_fail : (largest : ℕ) {s : List ℕ} {at : ℕ} {r : List ℕ} → Stands s at r → Off is_digit r → digits_at largest s at ≡ NoDigit
+pub digits_fail : (largest : ℕ) {s : List ℕ} {at : ℕ} {r : List ℕ} → Stands s at r → Off is_digit r → digits_at largest s at ≡ Err Absent
 unfolding digits_at
 digits_fail largest {s} {at} {r} st o =
     then (span-reads is_digit [] refl) st o λ e₁ i₁ l₁.
@@ -173,7 +173,7 @@ pub decimal-digits : (n : ℕ) → Digits (decimal n) n
 unfolding decimal
 decimal-digits n = digits-from (suc n) n (omega arith)
 
-pub decimal-reads : (n : ℕ) → n ≤ 18446744073709551615 → Reads (digits_at 18446744073709551615) (λ e. Value n (cursor e)) (decimal n) (Off is_digit)
+pub decimal-reads : (n : ℕ) → n ≤ 18446744073709551615 → Reads (digits_at 18446744073709551615) (λ e. Ok (n, cursor e)) (decimal n) (Off is_digit)
 decimal-reads n = digits-read 18446744073709551615 (decimal n) n (decimal-digits n)
 
 -- with zeros in front of it
@@ -228,7 +228,7 @@ padded_off f w n r h k = go (w - length (decimal n)) (decimal n) (decimal-digits
 -- ---- the end of a line
 
 -- a tail before an LF, and the LF
-pub tail_reads : (t : List ℕ) → every_byte is_text t ≡ true → Reads tail_at (λ e. Past (cursor e)) t (λ r. get_or r 0 0 ≡ 10)
+pub tail_reads : (t : List ℕ) → every_byte is_text t ≡ true → Reads tail_at (λ e. Some (cursor e)) t (λ r. get_or r 0 0 ≡ 10)
 unfolding tail_at
 tail_reads t h = record {
   run = λ s at r st c.
@@ -237,11 +237,11 @@ tail_reads t h = record {
       record { end = w.end; is = rw (w.is, byte_0 w.left, c); left = w.left };
 }
 
-pub break-reads : Reads break_at (λ e. Past (cursor e)) (10 ∷ []) Any
+pub break-reads : Reads break_at (λ e. Some (cursor e)) (10 ∷ []) Any
 unfolding break_at
 break-reads = record { run = λ s at r st c. record { end = at + 1; is = rw (byte_0 st); left = stands_past (10 ∷ []) r s at st } }
 
-pub line-end-reads : (t : List ℕ) → every_byte is_text t ≡ true → Reads line_end_at (λ e. Past (cursor e)) (t ++ (10 ∷ [])) Any
+pub line-end-reads : (t : List ℕ) → every_byte is_text t ≡ true → Reads line_end_at (λ e. Some (cursor e)) (t ++ (10 ∷ [])) Any
 unfolding line_end_at
 line-end-reads t h = record {
   run = λ s at r st c.

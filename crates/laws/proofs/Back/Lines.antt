@@ -1,5 +1,6 @@
 -- Lines of play read back. A line takes the head of the next one with it: an empty line and 変化 are one skip line.
 -- Assumes nothing.
+use Rattle.std.specs.Prelude.{Option, Some, None}
 use Prim.Native.Nat.{ℕ, ◌≤◌, ◌<◌}
 use native.Mathlib.Omega.{arith}
 use mathlib.Core.Path.{◌≡◌, refl, ap, ◌∙◌}
@@ -15,7 +16,6 @@ use Rattle.lists.proofs.Stand.{Stands, Came, Reads, Any, then, came, stands_past
 use Rattle.lent.specs.Numbers.{decimal}
 use Rattle.text.specs.Text.{cursor, is_text, is_digit}
 use Rattle.text.specs.Utf8.{size_of, lowest_of, highest_of, second_of, is_next, char_width, character_at}
-use Rattle.text.specs.declared.Place.TheVariants.{Past, Absent}
 use Rattle.text.proofs.Ends.{character_end}
 use Rattle.spell.proofs.Written.{stands_other}
 use Rattle.jkf.specs.declared.Entry.TheVariants.{Slot}
@@ -34,12 +34,13 @@ use Rattle.converter.specs.Said.{said_noted, said_line}
 use Rattle.laws.specs.Modes.{LosesNothing, whole}
 use Rattle.laws.specs.Sayable.{every_byte, OneLine}
 use Rattle.laws.proofs.Back.Leaves.{all_append, all_of, digit_is, decimal-digits, line-end-reads, padded_off, byte_2, in_text}
+use Rattle.text.specs.declared.Cursor.{Cursor}
 use Rattle.laws.proofs.Back.Entries.{is_mark, comments-read, EntriesFit, done, also, After, entries_off, entries-read, ply_came}
 
 -- ---- skip lines
 
 -- an LF, or 手, and the rest of a line
-lf_skips : (t : List ℕ) → OneLine t → Reads skip_line_at (λ e. Past (cursor e)) ((10 ∷ t) ++ (10 ∷ [])) Any
+lf_skips : (t : List ℕ) → OneLine t → Reads skip_line_at (λ e. Some (cursor e)) ((10 ∷ t) ++ (10 ∷ [])) Any
 unfolding skip_line_at begins_no_skip character_at char_width size_of
 lf_skips t h = record {
   run = λ s at r st c.
@@ -51,7 +52,7 @@ lf_skips t h = record {
       record { end = e₁; is = rw (b, z₁, z₂, lt-ltb _ _ k, i₁); left = l₁ };
 }
 
-number-skips : Reads skip_line_at (λ e. Past (cursor e)) number_line Any
+number-skips : Reads skip_line_at (λ e. Some (cursor e)) number_line Any
 unfolding skip_line_at begins_no_skip character_at char_width size_of second_of lowest_of highest_of is_next
 number-skips = record {
   run = λ s at r st c.
@@ -69,7 +70,7 @@ number-skips = record {
 digit-text : (b : ℕ) → is_digit b ≡ true → is_text b ≡ true
 digit-text = digit_is is_text refl
 
-head-skips : (n : ℕ) → Reads skip_line_at (λ e. Past (cursor e)) (variation_head n) Any
+head-skips : (n : ℕ) → Reads skip_line_at (λ e. Some (cursor e)) (variation_head n) Any
 unfolding variation_head
 head-skips n = record {
   run = λ s at r st c.
@@ -83,7 +84,7 @@ head-skips n = record {
 abbrev is_move : ℕ → Bool
 is_move b = pick (eqb b 32) true (is_digit b)
 
-skip_fails : {s : List ℕ} {at : ℕ} (r : List ℕ) → Stands s at r → is_move (get_or r 0 0) ≡ true → skip_line_at s at ≡ Absent
+skip_fails : {s : List ℕ} {at : ℕ} (r : List ℕ) → Stands s at r → is_move (get_or r 0 0) ≡ true → skip_line_at s at ≡ None
 unfolding skip_line_at begins_no_skip
 skip_fails {s} {at} r st h = rw (byte_0 st, begins (eqb (get_or r 0 0) 32) (eqb (get_or r 0 0) 42) (is_digit (get_or r 0 0)) _ h)
   where
@@ -93,7 +94,7 @@ skip_fails {s} {at} r st h = rw (byte_0 st, begins (eqb (get_or r 0 0) 32) (eqb 
     begins false false true w h = refl
     begins false false false w h = absurd (false≢true h)
 
-skip_ends : {s : List ℕ} {at : ℕ} → Stands s at [] → skip_line_at s at ≡ Absent
+skip_ends : {s : List ℕ} {at : ℕ} → Stands s at [] → skip_line_at s at ≡ None
 unfolding skip_line_at begins_no_skip
 skip_ends {s} {at} st =
     let n : length (drop at s) ≡ 0 = ap length st.rest in
@@ -101,15 +102,15 @@ skip_ends {s} {at} st =
     let e : length s ≤ at = omega (arith, n, length-drop at s) in
     rw (character_end s at e) (same (begins_no_skip s at))
   where
-    same : (t : Bool) → pick t Absent Absent ≡ Absent
+    same : (t : Bool) → pick {A = Option Cursor} t None None ≡ None
     same true = refl
     same false = refl
 
-skipped-at : (s : List ℕ) (at e : ℕ) → skip_line_at s at ≡ Past (cursor e) → skipped_at s at ≡ e
+skipped-at : (s : List ℕ) (at e : ℕ) → skip_line_at s at ≡ Some (cursor e) → skipped_at s at ≡ e
 unfolding skipped_at
 skipped-at s at e h = rw h
 
-skipped_none : (s : List ℕ) (at : ℕ) → skip_line_at s at ≡ Absent → skipped_at s at ≡ at
+skipped_none : (s : List ℕ) (at : ℕ) → skip_line_at s at ≡ None → skipped_at s at ≡ at
 unfolding skipped_at
 skipped_none s at h = rw h
 

@@ -1,6 +1,7 @@
 -- A move line reads back from what is said of its entry where nothing is lost: its mark and its time are said as they are, and its origin in
 -- brackets or as 打, which is how (0,0) is read.
 -- Assumes nothing.
+use Rattle.std.specs.Prelude.{Option, Some, None, Ok}
 use Prim.Native.Nat.{ℕ, ◌+◌, ◌*◌, ◌/◌, ◌%◌, ◌≤◌}
 use native.Mathlib.Omega.{arith}
 use mathlib.Core.Path.{◌≡◌, refl}
@@ -15,7 +16,6 @@ use Rattle.lent.specs.Numbers.{decimal}
 use Rattle.text.specs.Text.{cursor, is_blank, wide_space, same, prefix_from}
 use Rattle.spell.specs.Tables.{move_kinds, specials, written_specials, numerals, files}
 use Rattle.spell.specs.Spell.{first_of, spelled, has_number}
-use Rattle.spell.specs.declared.Spelled.TheVariants.{Not}
 use Rattle.text.proofs.Laws.{same_is}
 use Rattle.spell.proofs.Written.{first_fails, move-kind-reads, special_reads, numeral_reads, file-reads, file-bytes}
 use Rattle.spell.proofs.Counts.{tag_reads}
@@ -26,17 +26,12 @@ use Rattle.jkf.specs.declared.Time.{Time}
 use Rattle.jkf.specs.declared.Time.TheVariants.{Untimed, Timed}
 use Rattle.jkf.specs.declared.Target.{Target}
 use Rattle.jkf.specs.declared.Target.TheVariants.{Same, Square}
-use Rattle.jkf.specs.declared.Origin.{Origin}
-use Rattle.jkf.specs.declared.Origin.TheVariants.{Unknown, From}
 use Rattle.jkf.specs.declared.Move.{Move}
 use Rattle.jkf.specs.declared.Entry.{Entry}
 use Rattle.jkf.specs.declared.Entry.TheVariants.{Slot, Moved, End}
 use Rattle.moves.specs.Moves.{square_at, move_to_at, mark, promote_at, origin_at, move_from_at, move_entry, kind_to_origin_at, move_at, what_at, color_of, finished, move_line_at}
 use Rattle.spell.specs.Words.{same_word, promotes, declines, drops}
-use Rattle.moves.specs.declared.Aim.TheVariants.{To}
-use Rattle.moves.specs.declared.Source.TheVariants.{Out}
-use Rattle.moves.specs.declared.What.TheVariants.{Is}
-use Rattle.moves.specs.declared.MoveLine.TheVariants.{Numbered}
+use Rattle.moves.specs.declared.MoveLine.{MoveLine}
 use Rattle.moves.specs.Fits.{TargetFits, same_fits, square_fits, OriginFits, from_fits, MoveFits, EntryFits, play_fits, end_fits, TimeFits}
 use Rattle.converter.specs.Entries.{target_text, promote_text, origin_text, move_text, special_text, play_text, width_of, entry_line}
 use Rattle.converter.specs.declared.Mode.{Mode}
@@ -60,7 +55,7 @@ kind_has : (n : ℕ) → 1 ≤ n → n ≤ 14 → has_number move_kinds n ≡ tr
 unfolding has_number
 kind_has n h k = range_at (has_number move_kinds) 14 1 n refl h (omega arith)
 
-target-reads : (t : Target) → TargetFits t → Reads move_to_at (λ e. To t (cursor e)) (target_text t) Any
+target-reads : (t : Target) → TargetFits t → Reads move_to_at (λ e. Some (t, cursor e)) (target_text t) Any
 unfolding move_to_at square_at target_text
 target-reads Same same_fits = record {
   run = λ s at r st c.
@@ -109,21 +104,21 @@ mark-reads p h = record { run = λ s at r st c. go (eqb p 2) (eqb p 1) refl refl
         record { end = at; is = rw (tag_absent promotes st c.promoted, tag_absent declines st c.declined, q); left = st }
 
 -- an origin and what is said of it: itself in brackets, or of (0,0) that it is not known
-data Told : Origin → Origin → Type 0 where
-  bracketed : {x y : ℕ} → x ≤ 25 → y ≤ 9 → x * 10 + y ≤ 255 → Told (From x y) (From x y)
-  dropped : Told (From 0 0) Unknown
+data Told : Option (ℕ × ℕ) → Option (ℕ × ℕ) → Type 0 where
+  bracketed : {x y : ℕ} → x ≤ 25 → y ≤ 9 → x * 10 + y ≤ 255 → Told (Some (x, y)) (Some (x, y))
+  dropped : Told (Some (0, 0)) None
 
-origin-told : {mode : Mode} → LosesNothing mode → {o : Origin} → OriginFits o → Told o (said_origin mode o)
+origin-told : {mode : Mode} → LosesNothing mode → {o : Option (ℕ × ℕ)} → OriginFits o → Told o (said_origin mode o)
 unfolding said_origin as_drop
 origin-told whole (from_fits h k v) = bracketed h k v
 origin-told shared (from_fits {x} {y} h k v) = go (eqb x 0) (eqb y 0) refl refl
   where
-    go : (t u : Bool) → eqb x 0 ≡ t → eqb y 0 ≡ u → Told (From x y) (pick t (pick u Unknown (From x y)) (From x y))
+    go : (t u : Bool) → eqb x 0 ≡ t → eqb y 0 ≡ u → Told (Some (x, y)) (pick t (pick u None (Some (x, y))) (Some (x, y)))
     go true true e f = rw (eqb-true x 0 e, eqb-true y 0 f) dropped
     go true false e f = bracketed h k v
     go false u e f = bracketed h k v
 
-origin-reads : {o p : Origin} → Told o p → Reads move_from_at (λ e. Out o (cursor e)) (origin_text p) Any
+origin-reads : {o p : Option (ℕ × ℕ)} → Told o p → Reads move_from_at (λ e. Ok (o, cursor e)) (origin_text p) Any
 unfolding move_from_at origin_at origin_text
 origin-reads dropped = record {
   run = λ s at r st c.
@@ -142,7 +137,7 @@ origin-reads (bracketed {x} {y} h k v) = record {
       record { end = e₃; is = rw (z, i₁, i₂, i₃, a, b); left = l₃ };
 }
 
-origin-begins : {o p : Origin} → Told o p → (r : List ℕ) → Unmarked (origin_text p ++ r)
+origin-begins : {o p : Option (ℕ × ℕ)} → Told o p → (r : List ℕ) → Unmarked (origin_text p ++ r)
 unfolding origin_text prefix_from
 origin-begins dropped r = record { promoted = refl; declined = refl }
 origin-begins (bracketed h k v) r = record { promoted = refl; declined = refl }
@@ -153,13 +148,13 @@ unfolding target_text
 target_off Same same_fits r = refl
 target_off (Square x y) (square_fits a b g h) r = rw (file-bytes x a b)
 
-target-ends : (t : Target) → TargetFits t → {s : List ℕ} {at : ℕ} (r : List ℕ) → Stands s at (target_text t ++ r) → first_of specials s at ≡ Not
+target-ends : (t : Target) → TargetFits t → {s : List ℕ} {at : ℕ} (r : List ℕ) → Stands s at (target_text t ++ r) → first_of specials s at ≡ None
 unfolding target_text
 target-ends Same same_fits r st = first_fails specials (same_word ++ wide_space) refl r st
 target-ends (Square x y) (square_fits a b g h) r st = first_fails specials (239 ∷ 188 ∷ []) refl _ (rw (file-bytes x a b) at st)
 
 move-reads : {mode : Mode} → LosesNothing mode → (m : Move) → MoveFits m
-    → Reads what_at (λ e. Is (move_entry m.to m.piece m.promote m.from) (cursor e)) (move_text (said_move mode m)) Any
+    → Reads what_at (λ e. Some (move_entry m.to m.piece m.promote m.from, cursor e)) (move_text (said_move mode m)) Any
 unfolding what_at move_at kind_to_origin_at move_text said_move
 move-reads n m f = record {
   run = λ s at r st c.
@@ -221,7 +216,7 @@ special-text x h = same_is _ _ (go (has_number specials (special_number x)) h (s
     go true e k = k
     go false e k = absurd (false≢true e)
 
-ending-reads : (x : Special) → has_number specials (special_number x) ≡ true → Reads what_at (λ e. Is (End x Untimed) (cursor e)) (special_text x) Any
+ending-reads : (x : Special) → has_number specials (special_number x) ≡ true → Reads what_at (λ e. Some (End x Untimed, cursor e)) (special_text x) Any
 unfolding what_at
 ending-reads x h = record {
   run = λ s at r st c.
@@ -254,7 +249,7 @@ bare Slot = Slot
 bare (Moved m) = move_entry m.to m.piece m.promote m.from
 bare (End x t) = End x Untimed
 
-play-reads : {mode : Mode} → LosesNothing mode → (e : Entry) → EntryFits e → Reads what_at (λ c. Is (bare e) (cursor c)) (play_text (said_entry mode e)) Any
+play-reads : {mode : Mode} → LosesNothing mode → (e : Entry) → EntryFits e → Reads what_at (λ c. Some (bare e, cursor c)) (play_text (said_entry mode e)) Any
 unfolding play_text said_entry
 play-reads {mode = mode} n Slot x' = elim x' [ ]
 play-reads n (Moved m) (play_fits f) = move-reads n m f
@@ -291,7 +286,7 @@ finished_is ply (Moved m) (move h) = rw (← h)
 finished_is ply (End x t) ending = refl
 
 pub line_reads : {mode : Mode} → LosesNothing mode → (ply : ℕ) (e : Entry) → ply ≤ 18446744073709551615 → EntryFits e → Follows ply e
-    → Reads move_line_at (λ c. Numbered ply e (cursor c)) (entry_line ply (said_entry mode e)) Any
+    → Reads move_line_at (λ c. Some (record { number = ply; entry = e; next = (cursor c) })) (entry_line ply (said_entry mode e)) Any
 unfolding move_line_at entry_line
 line_reads {mode} n ply e low f g = record {
   run = λ s at r st c.

@@ -1,5 +1,6 @@
 -- Whether a line is a preset depends on the line alone: not on what follows it, nor on which break ends it.
 -- Assumes nothing.
+use Rattle.std.specs.Prelude.{Option, Some, None}
 use Prim.Native.Nat.{ℕ, zero, suc, ◌+◌, ◌≤◌, ◌<◌}
 use native.Mathlib.Nat.{add-zero}
 use native.Mathlib.Omega.{arith}
@@ -13,17 +14,14 @@ use Rattle.lists.specs.Pick.{pick}
 use Rattle.lists.proofs.Laws.{pick_both}
 use Rattle.lists.proofs.Stand.{Stands, stands_past, stands_same, byte_0, byte_1}
 use Rattle.text.specs.Text.{cursor, on_place, is_text, prefix_from, stands_at, tag_at, break_at, wide_space, pad_width, padding_at}
-use Rattle.text.specs.declared.Place.{Place}
-use Rattle.text.specs.declared.Place.TheVariants.{Past, Absent}
 use Rattle.text.proofs.Widths.{past_stop, past_more, pad_within}
 use Rattle.spell.specs.Tables.{Spelling, presets}
 use Rattle.spell.specs.Spell.{on_spelled, first_of}
-use Rattle.spell.specs.declared.Spelled.{Spelled}
-use Rattle.spell.specs.declared.Spelled.TheVariants.{As, Not}
 use Rattle.spell.proofs.Written.{stands_here}
 use Rattle.kakinoki.specs.Informations.{padded_end_at, ends_line, preset_line_at}
 use Rattle.spell.specs.Words.{preset_tag}
 use Rattle.laws.specs.Sayable.{every_byte, OneLine}
+use Rattle.text.specs.declared.Cursor.{Cursor}
 
 -- a break, and what follows it
 pub data Break : List ℕ → Type 0 where
@@ -131,7 +129,7 @@ pad_split (suc n) w h o = pad_step n w (pad_split n) h o
 
 -- the line is over where nothing is left of it, and only there
 break_is : (z : List ℕ) → OneLine z → {x : List ℕ} → Break x → {s : List ℕ} {at : ℕ} → Stands s at (z ++ x)
-    → (e : ℕ) × (break_at s at ≡ pick (eqb (length z) 0) (Past (cursor e)) Absent)
+    → (e : ℕ) × (break_at s at ≡ pick (eqb (length z) 0) (Some (cursor e)) None)
 unfolding break_at
 break_is [] o lf {at = at} st = (at + 1, rw (byte_0 st))
 break_is [] o crlf {at = at} st = (at + 2, rw (byte_0 st, byte_1 st))
@@ -147,7 +145,7 @@ break_is (c ∷ z) o b {at = at} st =
     thirteen c h = ne_eqb c 13 (λ e. true≢false (sym h ∙ ap is_text e))
 
 over_is : (w : List ℕ) (p : Padded w) → OneLine w → {x : List ℕ} → Break x → {s : List ℕ} {at : ℕ} → Stands s at (w ++ x)
-    → (e : ℕ) × (padded_end_at s at ≡ pick (eqb (length p.rest) 0) (Past (cursor e)) Absent)
+    → (e : ℕ) × (padded_end_at s at ≡ pick (eqb (length p.rest) 0) (Some (cursor e)) None)
 unfolding padded_end_at
 over_is w p o {x} b {s} {at} st =
     let l = stands_past p.front (p.rest ++ x) s at (stands_same (ap (λ (l : List ℕ). l ++ x) p.parts ∙ append_assoc p.front p.rest x) st) in
@@ -156,34 +154,34 @@ over_is w p o {x} b {s} {at} st =
 
 -- so two places at which a line stands end it alike
 ends_alike : (n : ℕ) (w : List ℕ) → OneLine w → {x y : List ℕ} → Break x → Break y → {s s' : List ℕ} {at at' : ℕ} → Stands s at (w ++ x) → Stands s' at' (w ++ y)
-    → ends_line s n at ≡ Not → ends_line s' n at' ≡ Not
+    → ends_line s n at ≡ None → ends_line s' n at' ≡ None
 ends_alike n w o b c {s} {s'} {at} {at'} st su q =
     let p = pad_split (length w) w (omega arith) o in
     let (e, i) = over_is w p o b st in
     let (f, j) = over_is w p o c su in
     go e f (eqb (length p.rest) 0) (padded_end_at s at) (padded_end_at s' at') i j q
   where
-    go : (e f : ℕ) (t : Bool) (u v : Place) → u ≡ pick t (Past (cursor e)) Absent → v ≡ pick t (Past (cursor f)) Absent
-        → on_place u (λ e. As n e) Not ≡ Not → on_place v (λ e. As n e) Not ≡ Not
-    go e f true u v i j q = let z : ◌≡◌ {A = Spelled} (As n (cursor e)) Not = rw i at q in let y : ◌≡◌ {A = ℕ} 0 1 = cc in absurd (omega arith)
+    go : (e f : ℕ) (t : Bool) (u v : Option Cursor) → u ≡ pick t (Some (cursor e)) None → v ≡ pick t (Some (cursor f)) None
+        → on_place {A = Option (ℕ × Cursor)} u (λ e. Some (n, e)) None ≡ None → on_place {A = Option (ℕ × Cursor)} v (λ e. Some (n, e)) None ≡ None
+    go e f true u v i j q = let z : ◌≡◌ {A = Option (ℕ × Cursor)} (Some (n, cursor e)) None = rw i at q in let y : ◌≡◌ {A = ℕ} 0 1 = cc in absurd (omega arith)
     go e f false u v i j q = rw j
 
 module _ {x y : List ℕ} (b : Break x) (c : Break y) where
   first_alike : (es : List Spelling) → plain es ≡ true → (v : List ℕ) → OneLine v → {s s' : List ℕ} {at at' : ℕ} → Stands s at (v ++ x) → Stands s' at' (v ++ y)
-      → on_spelled (first_of es s at) (λ n d. ends_line s n d.at) Not ≡ Not → on_spelled (first_of es s' at') (λ n d. ends_line s' n d.at) Not ≡ Not
+      → on_spelled (first_of es s at) (λ n d. ends_line s n d.at) None ≡ None → on_spelled (first_of es s' at') (λ n d. ends_line s' n d.at) None ≡ None
   unfolding first_of
   first_alike [] h v o st su = λ q. refl
   first_alike (e ∷ es) h v o {s} {s'} {at} {at'} st su =
       let (p, k) = pick_both (every_byte is_text e.bytes) (plain es) h in
       go (prefix_from e.bytes v) refl (stands_local e.bytes v b p st) (stands_local e.bytes v c p su) (first_alike es k v o st su)
     where
-      Ended : List ℕ → Spelled → Spelled
-      Ended s r = on_spelled r (λ n d. ends_line s n d.at) Not
+      Ended : List ℕ → Option (ℕ × Cursor) → Option (ℕ × Cursor)
+      Ended s r = on_spelled r (λ n d. ends_line s n d.at) None
 
       go : (t : Bool) → prefix_from e.bytes v ≡ t → stands_at e.bytes s at ≡ prefix_from e.bytes v → stands_at e.bytes s' at' ≡ prefix_from e.bytes v
-          → (Ended s (first_of es s at) ≡ Not → Ended s' (first_of es s' at') ≡ Not)
-          → Ended s (pick (stands_at e.bytes s at) (As e.number (cursor (at + length e.bytes))) (first_of es s at)) ≡ Not
-          → Ended s' (pick (stands_at e.bytes s' at') (As e.number (cursor (at' + length e.bytes))) (first_of es s' at')) ≡ Not
+          → (Ended s (first_of es s at) ≡ None → Ended s' (first_of es s' at') ≡ None)
+          → Ended s (pick (stands_at e.bytes s at) (Some (e.number, cursor (at + length e.bytes))) (first_of es s at)) ≡ None
+          → Ended s' (pick (stands_at e.bytes s' at') (Some (e.number, cursor (at' + length e.bytes))) (first_of es s' at')) ≡ None
       go true f i j ih q =
           let (w, z) = prefix_split e.bytes v f in
           let l = stands_past e.bytes (w ++ x) s at (stands_same (ap (λ (l : List ℕ). l ++ x) z ∙ append_assoc e.bytes w x) st) in
@@ -193,16 +191,16 @@ module _ {x y : List ℕ} (b : Break x) (c : Break y) where
 
 -- a line that is no preset at one place is none at another
 pub preset_alike : (v : List ℕ) → OneLine v → {x y : List ℕ} → Break x → Break y → {s s' : List ℕ} {at at' : ℕ} → Stands s at (v ++ x) → Stands s' at' (v ++ y)
-    → preset_line_at s at ≡ Not → preset_line_at s' at' ≡ Not
+    → preset_line_at s at ≡ None → preset_line_at s' at' ≡ None
 unfolding preset_line_at tag_at
 preset_alike v o {x} {y} b c {s} {s'} {at} {at'} st su = go (prefix_from preset_tag v) refl (stands_local preset_tag v b refl st) (stands_local preset_tag v c refl su)
   where
-    Ended : List ℕ → ℕ → Spelled
-    Ended s at = on_spelled (first_of presets s at) (λ n d. ends_line s n d.at) Not
+    Ended : List ℕ → ℕ → Option (ℕ × Cursor)
+    Ended s at = on_spelled (first_of presets s at) (λ n d. ends_line s n d.at) None
 
     go : (t : Bool) → prefix_from preset_tag v ≡ t → stands_at preset_tag s at ≡ prefix_from preset_tag v → stands_at preset_tag s' at' ≡ prefix_from preset_tag v
-        → on_place (pick (stands_at preset_tag s at) (Past (cursor (at + 12))) Absent) (λ c. Ended s c.at) Not ≡ Not
-        → on_place (pick (stands_at preset_tag s' at') (Past (cursor (at' + 12))) Absent) (λ c. Ended s' c.at) Not ≡ Not
+        → on_place (pick (stands_at preset_tag s at) (Some (cursor (at + 12))) None) (λ c. Ended s c.at) None ≡ None
+        → on_place (pick (stands_at preset_tag s' at') (Some (cursor (at' + 12))) None) (λ c. Ended s' c.at) None ≡ None
     go true f i j q =
         let (w, z) = prefix_split preset_tag v f in
         let l = stands_past preset_tag (w ++ x) s at (stands_same (ap (λ (l : List ℕ). l ++ x) z) st) in

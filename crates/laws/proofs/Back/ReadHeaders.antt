@@ -1,5 +1,6 @@
 -- The header entries of a reading: each has a line in the text that was read as a key and a value, and it is read so wherever it stands.
 -- Assumes nothing.
+use Rattle.std.specs.Prelude.{Option, Some, None}
 use Prim.Native.Nat.{ℕ, zero, suc, ◌+◌, ◌-◌, ◌≤◌, ◌<◌}
 use native.Mathlib.Omega.{arith}
 use mathlib.Core.Path.{◌≡◌, refl, sym, ap, ◌∙◌, subst}
@@ -16,14 +17,10 @@ use Rattle.lists.proofs.Laws.{pick_both, head_at}
 use Rattle.lists.proofs.Stand.{Stands, then, stands_past, stands_same, byte_0, byte_1}
 use Rattle.text.specs.Text.{cursor, on_place, is_text, prefix_from, stands_at, break_at, tail_at, text_at, line_end_at, wide_colon, key_from, key_at, same}
 use Rattle.text.specs.declared.Cursor.{Cursor}
-use Rattle.text.specs.declared.Place.{Place}
-use Rattle.text.specs.declared.Place.TheVariants.{Past, Absent}
 use Rattle.text.proofs.Laws.{tag_back, no_past, break_after, tail_from}
 use Rattle.text.proofs.Boundaries.{key_part}
 use Rattle.spell.specs.Tables.{Spelling, sides}
 use Rattle.spell.specs.Spell.{on_spelled, first_of}
-use Rattle.spell.specs.declared.Spelled.{Spelled}
-use Rattle.spell.specs.declared.Spelled.TheVariants.{As, Not}
 use Rattle.spell.proofs.Written.{covers, holds, found}
 use Rattle.spell.proofs.Counts.{tag_reads}
 use Rattle.kakinoki.specs.Informations.{on_held, on_key_value, hash_line_at, hash_lines_at, preset_line_at, turn_line_at, empty_hand, hand_at, held_at, hand_said, hand_line_at, text_between, header_at, Said, information, keyed_at, hands_or_keyed_at, information_at, information_item, keyed_place, header_places_from, header_places_at, padded_end_at}
@@ -51,24 +48,24 @@ use Rattle.laws.proofs.Back.ReadPlays.{text-all, tail_is}
 
 -- ---- what is tried before a key and a value
 
-keyed_preset : (s : List ℕ) (at : ℕ) → (information_at s at).info ≡ Keyed → (preset_line_at s at ≡ Not) × ((hand_line_at s at).held ≡ NoHand)
+keyed_preset : (s : List ℕ) (at : ℕ) → (information_at s at).info ≡ Keyed → (preset_line_at s at ≡ None) × ((hand_line_at s at).held ≡ NoHand)
 unfolding information_at hands_or_keyed_at
 keyed_preset s at e = go (preset_line_at s at) refl (turn_line_at s at) (hand_line_at s at).held refl e
   where
-    go : (p : Spelled) → preset_line_at s at ≡ p → (t : Spelled) (h : Held) → (hand_line_at s at).held ≡ h
+    go : (p : Option (ℕ × Cursor)) → preset_line_at s at ≡ p → (t : Option (ℕ × Cursor)) (h : Held) → (hand_line_at s at).held ≡ h
         → (on_spelled p (λ n c. information (Preset n) empty_hand c) (on_spelled t (λ n c. information (Turn n) empty_hand c)
         (on_held h (λ side c. information (Hands side) (hand_line_at s at).counts c) (information Refused empty_hand (cursor at)) (keyed_at s at)))).info ≡ Keyed
-        → (preset_line_at s at ≡ Not) × ((hand_line_at s at).held ≡ NoHand)
-    go (As n c) q t h r e = let z : ◌≡◌ {A = ℕ} 0 1 = cc in absurd (omega arith)
-    go Not q (As n c) h r e = let z : ◌≡◌ {A = ℕ} 0 1 = cc in absurd (omega arith)
-    go Not q Not (By side c) r e = let z : ◌≡◌ {A = ℕ} 0 1 = cc in absurd (omega arith)
-    go Not q Not Unreadable r e = let z : ◌≡◌ {A = ℕ} 0 1 = cc in absurd (omega arith)
-    go Not q Not NoHand r e = (q, r)
+        → (preset_line_at s at ≡ None) × ((hand_line_at s at).held ≡ NoHand)
+    go (Some (n, c)) q t h r e = let z : ◌≡◌ {A = ℕ} 0 1 = cc in absurd (omega arith)
+    go None q (Some (n, c)) h r e = let z : ◌≡◌ {A = ℕ} 0 1 = cc in absurd (omega arith)
+    go None q None (By side c) r e = let z : ◌≡◌ {A = ℕ} 0 1 = cc in absurd (omega arith)
+    go None q None Unreadable r e = let z : ◌≡◌ {A = ℕ} 0 1 = cc in absurd (omega arith)
+    go None q None NoHand r e = (q, r)
 
 -- ---- the parts of a header line
 
 -- a break begins what follows
-break_back : (s : List ℕ) (at : ℕ) (c : Cursor) → break_at s at ≡ Past c → Break (drop at s)
+break_back : (s : List ℕ) (at : ℕ) (c : Cursor) → break_at s at ≡ Some c → Break (drop at s)
 unfolding break_at
 break_back s at c e = go (drop at s) (head_at s at) second (eqb (get_or s at 0) 10) refl (eqb (get_or s at 0) 13) refl (eqb (get_or s (at + 1) 0) 10) refl e
   where
@@ -76,7 +73,7 @@ break_back s at c e = go (drop at s) (head_at s at) second (eqb (get_or s at 0) 
     second = sym (get_or-drop at s 1 0)
 
     go : (l : List ℕ) → get_or s at 0 ≡ get_or l 0 0 → get_or s (at + 1) 0 ≡ get_or l 1 0 → (t : Bool) → eqb (get_or s at 0) 10 ≡ t → (u : Bool) → eqb (get_or s at 0) 13 ≡ u → (v : Bool) → eqb (get_or s (at + 1) 0) 10 ≡ v
-        → pick t (Past (cursor (at + 1))) (pick u (pick v (Past (cursor (at + 2))) Absent) Absent) ≡ Past c → Break l
+        → pick t (Some (cursor (at + 1))) (pick u (pick v (Some (cursor (at + 2))) None) None) ≡ Some c → Break l
     go [] f g true p u q v r e = let z : ◌≡◌ {A = ℕ} 0 10 = sym f ∙ eqb-true _ _ p in absurd (omega arith)
     go (x ∷ l) f g true p u q v r e = let z : x ≡ 10 = sym f ∙ eqb-true _ _ p in subst (λ (y : ℕ). Break (y ∷ l)) (sym z) lf
     go l f g false p false q v r e = no_past c e
@@ -132,7 +129,7 @@ parts_of s at end l =
       };
       break = break_back s to.at end p.over;
       one = subst (λ (i : ℕ). OneLine (take (i - from.at) (drop from.at s))) (sym k) (text-all s from.at);
-      is = ap (λ (r : KeyValue). on_key_value r (λ from to end. text_between s from to) []) l.is;
+      is = ap (λ (r : Option KeyValue). on_key_value r (λ from to end. text_between s from to) []) l.is;
       some = l.named;
     }
 
@@ -157,18 +154,18 @@ key-short (b ∷ k) r h = go (is_text b) (prefix_from wide_colon (b ∷ (k ++ (w
 
 -- ---- no # line
 
-line-ends : (u : List ℕ) → OneLine u → {x : List ℕ} → Break x → {s : List ℕ} {at : ℕ} → Stands s at (u ++ x) → line_end_at s at ≡ Absent → ⊥
+line-ends : (u : List ℕ) → OneLine u → {x : List ℕ} → Break x → {s : List ℕ} {at : ℕ} → Stands s at (u ++ x) → line_end_at s at ≡ None → ⊥
 unfolding line_end_at tail_at break_at
 line-ends u o b {s} {at} st q = then (span-reads is_text u o) st (break_off b) λ e i l. over b e i l
   where
-    never : {c : Cursor} → Past c ≡ Absent → ⊥
+    never : {c : Cursor} → Some c ≡ None → ⊥
     never q = let z : ◌≡◌ {A = ℕ} 0 1 = cc in omega arith
 
     over : {x : List ℕ} → Break x → (e : ℕ) → text_at s at ≡ e → Stands s e x → ⊥
     over lf e i l = never (rw (i, byte_0 l, byte_0 l) at q)
     over crlf e i l = never (rw (i, byte_0 l, byte_1 l, byte_0 l, byte_1 l) at q)
 
-no-hash : (b : ℕ) (u : List ℕ) → OneLine u → {x : List ℕ} → Break x → {s : List ℕ} {at : ℕ} → Stands s at (b ∷ (u ++ x)) → hash_line_at s at ≡ Absent → eqb b 35 ≡ false
+no-hash : (b : ℕ) (u : List ℕ) → OneLine u → {x : List ℕ} → Break x → {s : List ℕ} {at : ℕ} → Stands s at (b ∷ (u ++ x)) → hash_line_at s at ≡ None → eqb b 35 ≡ false
 unfolding hash_line_at
 no-hash b u o {x} k {s} {at} st q = go (eqb b 35) refl
   where
@@ -185,9 +182,9 @@ held_not : (side : ℕ) (s : List ℕ) (at : ℕ) → (held_at side s at).held �
 unfolding held_at
 held_not side s at = go (padded_end_at s (hand_at s at).next.at)
   where
-    go : (p : Place) → (on_place p (λ e. hand_said (By side e) (hand_at s at).counts) (hand_said Unreadable empty_hand)).held ≡ NoHand → ⊥
-    go (Past c) q = let z : ◌≡◌ {A = ℕ} 0 1 = cc in omega arith
-    go Absent q = let z : ◌≡◌ {A = ℕ} 0 1 = cc in omega arith
+    go : (p : Option Cursor) → (on_place p (λ e. hand_said (By side e) (hand_at s at).counts) (hand_said Unreadable empty_hand)).held ≡ NoHand → ⊥
+    go (Some c) q = let z : ◌≡◌ {A = ℕ} 0 1 = cc in omega arith
+    go None q = let z : ◌≡◌ {A = ℕ} 0 1 = cc in omega arith
 
 no-hand : (es : List Spelling) → covers sides es ≡ true → (u x : List ℕ) → {s : List ℕ} {at : ℕ} → Stands s at (u ++ x) → (hand_line_at s at).held ≡ NoHand → begins_hand es u ≡ false
 unfolding hand_line_at
@@ -200,7 +197,7 @@ no-hand (e ∷ es) h u x {s} {at} st q =
     go true f a ih =
         let (v, w) = prefix_split (e.bytes ++ hands_tag) u f in
         let st' : Stands s at (e.bytes ++ (hands_tag ++ (v ++ x))) = stands_same (ap (λ (l : List ℕ). l ++ x) w ∙ append_assoc (e.bytes ++ hands_tag) v x ∙ append_assoc e.bytes hands_tag (v ++ x)) st in
-        let i : first_of sides s at ≡ As e.number (cursor (at + length e.bytes)) = found sides e.number e.bytes refl a (hands_tag ++ (v ++ x)) st' in
+        let i : first_of sides s at ≡ Some (e.number, cursor (at + length e.bytes)) = found sides e.number e.bytes refl a (hands_tag ++ (v ++ x)) st' in
         then (tag_reads hands_tag) (stands_past e.bytes (hands_tag ++ (v ++ x)) s at st') tt λ e₁ i₁ l₁.
         absurd (held_not e.number s e₁ (rw (i, i₁) at q))
     go false f a ih = ih
@@ -218,7 +215,7 @@ line_stands : (k v : List ℕ) → Stands (header_line (record { key = k; value 
 unfolding header_line
 line_stands k v = record { rest = refl; within = omega arith }
 
-pub header_sayable : (s : List ℕ) (at : ℕ) → (information_at s at).info ≡ Keyed → hash_line_at s at ≡ Absent → HeaderSayable (header_at s at)
+pub header_sayable : (s : List ℕ) (at : ℕ) → (information_at s at).info ≡ Keyed → hash_line_at s at ≡ None → HeaderSayable (header_at s at)
 unfolding header_at same
 header_sayable s at e n = go (header_at s at).value p.is
   where
@@ -259,27 +256,27 @@ header_sayable s at e n = go (header_at s at).value p.is
           no_preset = line-none;
         })
       where
-        line-none : preset_line_at (header_line (record { key = k; value = v })) 0 ≡ Not
+        line-none : preset_line_at (header_line (record { key = k; value = v })) 0 ≡ None
         line-none = preset_alike body o p.break (lf {r = []}) st (line_stands k v) (keyed_preset s at e).0
 
 -- ---- all entries
 
 -- past all # lines none follows
-hash_step : (s : List ℕ) (n : ℕ) → ((at : ℕ) → length s ≤ n + at → hash_line_at s (hash_lines_at s at) ≡ Absent) → (at : ℕ) → length s ≤ suc n + at → hash_line_at s (hash_lines_at s at) ≡ Absent
+hash_step : (s : List ℕ) (n : ℕ) → ((at : ℕ) → length s ≤ n + at → hash_line_at s (hash_lines_at s at) ≡ None) → (at : ℕ) → length s ≤ suc n + at → hash_line_at s (hash_lines_at s at) ≡ None
 hash_step s n ih at h = go (hash_line_at s at) refl
   where
-    go : (r : Place) → hash_line_at s at ≡ r → hash_line_at s (hash_lines_at s at) ≡ Absent
-    go Absent q = ap (hash_line_at s) (hash_stop s at q) ∙ q
-    go (Past c) q = let (a, e) = hash_more s at c q in ap (hash_line_at s) e ∙ ih c.at (omega (arith, a.past))
+    go : (r : Option Cursor) → hash_line_at s at ≡ r → hash_line_at s (hash_lines_at s at) ≡ None
+    go None q = ap (hash_line_at s) (hash_stop s at q) ∙ q
+    go (Some c) q = let (a, e) = hash_more s at c q in ap (hash_line_at s) e ∙ ih c.at (omega (arith, a.past))
 
-hash_first : (s : List ℕ) (at : ℕ) → length s ≤ at → hash_line_at s (hash_lines_at s at) ≡ Absent
+hash_first : (s : List ℕ) (at : ℕ) → length s ≤ at → hash_line_at s (hash_lines_at s at) ≡ None
 hash_first s at h = go (hash_line_at s at) refl
   where
-    go : (r : Place) → hash_line_at s at ≡ r → hash_line_at s (hash_lines_at s at) ≡ Absent
-    go Absent q = ap (hash_line_at s) (hash_stop s at q) ∙ q
-    go (Past c) q = let a = (hash_more s at c q).0 in absurd (omega (arith, a.past, a.within))
+    go : (r : Option Cursor) → hash_line_at s at ≡ r → hash_line_at s (hash_lines_at s at) ≡ None
+    go None q = ap (hash_line_at s) (hash_stop s at q) ∙ q
+    go (Some c) q = let a = (hash_more s at c q).0 in absurd (omega (arith, a.past, a.within))
 
-hash_last : (s : List ℕ) (n : ℕ) (at : ℕ) → length s ≤ n + at → hash_line_at s (hash_lines_at s at) ≡ Absent
+hash_last : (s : List ℕ) (n : ℕ) (at : ℕ) → length s ≤ n + at → hash_line_at s (hash_lines_at s at) ≡ None
 hash_last s zero at h = hash_first s at (omega arith)
 hash_last s (suc n) at h = hash_step s n (hash_last s n) at h
 

@@ -1,5 +1,6 @@
 -- What a reading gives can be said: its comments and values are of one line, and the line of each header entry is read as that entry.
 -- Assumes nothing.
+use Rattle.std.specs.Prelude.{Option, Some, None}
 use Prim.Native.Nat.{ℕ, suc, ◌+◌, ◌-◌, ◌≤◌, ◌<◌}
 use native.Mathlib.Omega.{arith}
 use native.Mathlib.Nat.{le_refl}
@@ -15,12 +16,9 @@ use Rattle.lists.specs.Pick.{pick}
 use Rattle.lists.proofs.Laws.{by_pick, pick_both, drop_step, in_list, head_at}
 use Rattle.text.specs.Text.{cursor, on_place, is_text, span_from, span_at, text_at, prefix_from, stands_at, tag_at, break_at, tail_at}
 use Rattle.text.specs.declared.Cursor.{Cursor}
-use Rattle.text.specs.declared.Place.{Place}
-use Rattle.text.specs.declared.Place.TheVariants.{Past, Absent}
 use Rattle.text.proofs.Laws.{tag_back, no_past, past-at}
 use Rattle.moves.specs.Moves.{remark_from, kept_at, comment_line_at}
 use Rattle.moves.specs.declared.Remark.{Remark}
-use Rattle.moves.specs.declared.Remark.TheVariants.{Stands as Remarked, NoRemark}
 use Rattle.moves.proofs.Answers.{line_is}
 use Rattle.moves.proofs.Fits.{move-line-fits}
 use Rattle.plays.specs.Plays.{comments_at, entries_at, skipped_at, slot_at, past_main, main_at, plays_at}
@@ -51,14 +49,14 @@ unfolding span_at
 text-all s at = span-all is_text (drop at s) at
 
 -- a tail ends where the text of its line does
-pub tail_is : (s : List ℕ) (at : ℕ) (c : Cursor) → tail_at s at ≡ Past c → c.at ≡ text_at s at
+pub tail_is : (s : List ℕ) (at : ℕ) (c : Cursor) → tail_at s at ≡ Some c → c.at ≡ text_at s at
 unfolding tail_at
 tail_is s at c =
     let e = text_at s at in
-    let x : Place = Past (cursor e) in
-    let P : Place → Type 0 = λ r. r ≡ Past c → c.at ≡ e in
-    by_pick P (eqb (get_or s e 0) 13) (pick (eqb (get_or s (e + 1) 0) 10) x Absent) x
-    (λ _. by_pick P (eqb (get_or s (e + 1) 0) 10) x Absent (λ _ q. sym (past-at q)) (λ _ q. no_past c q)) (λ _ q. sym (past-at q))
+    let x : (Option Cursor) = Some (cursor e) in
+    let P : Option Cursor → Type 0 = λ r. r ≡ Some c → c.at ≡ e in
+    by_pick P (eqb (get_or s e 0) 13) (pick (eqb (get_or s (e + 1) 0) 10) x None) x
+    (λ _. by_pick P (eqb (get_or s (e + 1) 0) 10) x None (λ _ q. sym (past-at q)) (λ _ q. no_past c q)) (λ _ q. sym (past-at q))
 
 -- ---- comments
 
@@ -71,46 +69,47 @@ unfolding prefix_from
 and_first [] h = absurd (false≢true h)
 and_first (x ∷ l) h = eqb-true x 38 (pick_both (eqb x 38) true h).0
 
-and_at : (s : List ℕ) (at : ℕ) (c : Cursor) → tag_at (38 ∷ []) s at ≡ Past c → (get_or s at 0 ≡ 38) × (c.at ≡ at + 1)
+and_at : (s : List ℕ) (at : ℕ) (c : Cursor) → tag_at (38 ∷ []) s at ≡ Some c → (get_or s at 0 ≡ 38) × (c.at ≡ at + 1)
 unfolding stands_at
 and_at s at c e = let (h, k) = tag_back (38 ∷ []) s at c e in (head_at s at ∙ and_first (drop at s) h, k)
 
 -- what is said of a remark
-abbrev Said : List ℕ → Remark → Type 0
-Said s r = (from to end : Cursor) → r ≡ Remarked from to end → OneLine (text_of s from to)
+abbrev Said : List ℕ → Option Remark → Type 0
+Said s r = (from to end : Cursor) → r ≡ Some (record { from = from; to = to; next = end }) → OneLine (text_of s from to)
 
-no-remark : {A : Type 0} {from to end : Cursor} → NoRemark ≡ Remarked from to end → A
+no-remark : {A : Type 0} {from to end : Cursor} → ◌≡◌ {A = Option Remark} None (Some (record { from = from; to = to; next = end })) → A
 no-remark e = let z : ◌≡◌ {A = ℕ} 0 1 = cc in absurd (omega arith)
 
 remark_one : (s : List ℕ) (from : Cursor) (at : ℕ) → text_at s at ≡ text_at s from.at → Said s (remark_from from s at)
 unfolding remark_from
 remark_one s from at same = go (tail_at s at) refl
   where
-    go : (t : Place) → tail_at s at ≡ t → Said s (on_place t (λ e. on_place (break_at s e.at) (λ n. Remarked from e n) NoRemark) NoRemark)
-    go Absent q = λ f to end e. no-remark e
-    go (Past c) q = over (break_at s c.at)
+    go : (t : Option Cursor) → tail_at s at ≡ t → Said s (on_place t (λ e. on_place (break_at s e.at) (λ n. Some (record { from = from; to = e; next = n })) None) None)
+    go None q = λ f to end e. no-remark e
+    go (Some c) q = over (break_at s c.at)
       where
         is : c.at ≡ text_at s from.at
         is = tail_is s at c q ∙ same
 
-        over : (b : Place) → Said s (on_place b (λ n. Remarked from c n) NoRemark)
-        over Absent f to end e = no-remark e
-        over (Past n) f to end e =
-            let p : from ≡ f = cc in
-            let q : c ≡ to = cc in
+        over : (b : Option Cursor) → Said s (on_place b (λ n. Some (record { from = from; to = c; next = n })) None)
+        over None f to end e = no-remark e
+        over (Some n) f to end e =
+            let w : ◌≡◌ {A = Remark} (record { from = from; to = c; next = n }) (record { from = f; to = to; next = end }) = cc in
+            let p = ap (λ (r : Remark). r.from) w in
+            let q = ap (λ (r : Remark). r.to) w in
             rw (← p, ← q, is) (text-all s from.at)
 
 comment-one : (s : List ℕ) (at : ℕ) → Said s (comment_line_at s at)
 unfolding comment_line_at kept_at
 comment-one s at = go (tag_at (42 ∷ []) s at)
   where
-    kept : (t : Place) → tag_at (38 ∷ []) s at ≡ t → Said s (on_place t (λ c. remark_from (cursor at) s c.at) NoRemark)
-    kept Absent q = λ f to end e. no-remark e
-    kept (Past c) q = let (h, k) = and_at s at c q in remark_one s (cursor at) c.at (ap (text_at s) k ∙ sym (text-on s at h))
+    kept : (t : Option Cursor) → tag_at (38 ∷ []) s at ≡ t → Said s (on_place t (λ c. remark_from (cursor at) s c.at) None)
+    kept None q = λ f to end e. no-remark e
+    kept (Some c) q = let (h, k) = and_at s at c q in remark_one s (cursor at) c.at (ap (text_at s) k ∙ sym (text-on s at h))
 
-    go : (t : Place) → Said s (on_place t (λ c. remark_from c s c.at) (on_place (tag_at (38 ∷ []) s at) (λ c. remark_from (cursor at) s c.at) NoRemark))
-    go (Past c) = remark_one s c c.at refl
-    go Absent = kept (tag_at (38 ∷ []) s at) refl
+    go : (t : Option Cursor) → Said s (on_place t (λ c. remark_from c s c.at) (on_place (tag_at (38 ∷ []) s at) (λ c. remark_from (cursor at) s c.at) None))
+    go (Some c) = remark_one s c c.at refl
+    go None = kept (tag_at (38 ∷ []) s at) refl
 
 pub comments-one : (s : List ℕ) (at : ℕ) → All OneLine (comments_at s at).state
 comments-one s = comments-all s OneLine (λ at from to end q. comment-one s at from to end q)

@@ -1,6 +1,7 @@
 -- What was written reads back: `fill` of a text that loses nothing answers the block of the record, and of the plain text, which is such a text of
 -- what it says, the block of that, as version 1 and where no entry of the lines that are written has two variations.
 -- Assumes nothing.
+use Rattle.std.specs.Prelude.{None}
 use Prim.Native.Nat.{ℕ, ◌+◌, ◌*◌, ◌≤◌, ◌<◌}
 use native.Mathlib.Omega.{arith}
 use mathlib.Core.Path.{◌≡◌, refl, sym, ap, ◌∙◌, subst}
@@ -24,7 +25,6 @@ use Rattle.converter.specs.declared.Mode.{Mode}
 use Rattle.converter.specs.declared.Mode.TheVariants.{Plain, Whole, Shared}
 use Rattle.converter.specs.Said.{said_noted, said_line, said_lines, said_record}
 use Rattle.converter.specs.Show.{hands_obstacle}
-use Rattle.converter.specs.declared.Obstacle.TheVariants.{Clear}
 use Rattle.edit.specs.Edit.{plays_in}
 use Rattle.edit.proofs.Afresh.{back_nests, back_2}
 use Rattle.parser.proofs.Alls.{index_all}
@@ -201,7 +201,7 @@ all_attached : {mode : Mode} → LosesNothing mode → (r : Record) → Formed r
 all_attached whole r g single = kept_attached Whole r (kept_hung Whole r g) single
 all_attached shared r g single = kept_attached Shared r (kept_hung Shared r g) single
 
-module _ (r : Record) (g : Formed r) (s : Sayable r) (c : ColorsFollow r) (h : hands_obstacle r.position ≡ Clear) where
+module _ (r : Record) (g : Formed r) (s : Sayable r) (c : ColorsFollow r) (h : hands_obstacle r.position ≡ None) where
   -- it is fit to be read back where no variation starts at 0, and what the plain text says of it always is
   pub all_fit : All (λ l. 0 < l.start) (drop 1 r.lines) → RecordFits r
   all_fit z = subst RecordFits (shown_is r.lines z) (record_fitted r g s c h)

@@ -1,6 +1,7 @@
 -- What the plain text says loses nothing more: it is said the same in every mode that says origins as they are, since its marks, its times and
 -- its lines are already as that mode has them.
 -- Assumes nothing.
+use Rattle.std.specs.Prelude.{Option}
 use Prim.Native.Nat.{ℕ, ◌<◌}
 use mathlib.Core.Path.{◌≡◌, refl, ap, ap₂, ◌∙◌}
 use mathlib.Core.List.{List, [], ◌∷◌, map}
@@ -10,7 +11,6 @@ use Rattle.lists.specs.Pick.{pick}
 use Rattle.lists.specs.All.{All}
 use Rattle.jkf.specs.declared.Time.{Time}
 use Rattle.jkf.specs.declared.Time.TheVariants.{Untimed, Timed}
-use Rattle.jkf.specs.declared.Origin.{Origin}
 use Rattle.jkf.specs.declared.Entry.{Entry}
 use Rattle.jkf.specs.declared.Entry.TheVariants.{Slot, Moved, End}
 use Rattle.jkf.specs.Model.{Noted, Line, Record}
@@ -48,7 +48,7 @@ shown_again : (ls : List Line) → shown (map (said_line Plain) (shown ls)) ≡ 
 unfolding said_line
 shown_again ls = let z : All (λ l. 0 < l.start) (map (said_line Plain) (shown ls)) = all_map (said_line Plain) (shown-later ls) in shown-same z
 
-module _ (mode : Mode) (known : (o : Origin) → said_origin mode o ≡ o) where
+module _ (mode : Mode) (known : (o : Option (ℕ × ℕ)) → said_origin mode o ≡ o) where
   entry_again : (e : Entry) → said_entry mode (said_entry Plain e) ≡ said_entry Plain e
   unfolding said_entry said_move
   entry_again Slot = refl

@@ -1,5 +1,6 @@
 -- What stands before the moves reads back: the header, and a preset or a diagram with its hands and the side to move.
 -- Assumes nothing.
+use Rattle.std.specs.Prelude.{None}
 use Prim.Native.Nat.{ℕ, ◌+◌, ◌≤◌, ◌<◌}
 use native.Mathlib.Omega.{arith}
 use mathlib.Core.Path.{◌≡◌, refl, sym, ap, ap₂, ◌∙◌, subst}
@@ -15,10 +16,8 @@ use Rattle.lists.proofs.Laws.{by_pick}
 use Rattle.lists.proofs.Repeats.{many_more, many_stop}
 use Rattle.lists.proofs.Stand.{Stands, Came, Reads, Any, then, came, stands_past, stands_same}
 use Rattle.text.specs.Text.{cursor, prefix_from, tag_at, wide_colon, key_from, key_at}
-use Rattle.text.specs.declared.Place.TheVariants.{Absent}
 use Rattle.spell.specs.Tables.{sides}
 use Rattle.spell.specs.Spell.{first_of}
-use Rattle.spell.specs.declared.Spelled.TheVariants.{Not}
 use Rattle.spell.proofs.Written.{clash, clear, first_fails}
 use Rattle.jkf.specs.declared.Position.{Position}
 use Rattle.jkf.specs.Model.{Header}
@@ -32,7 +31,6 @@ use Rattle.kakinoki.specs.Boards.{no_cells, board_at, no_board, board}
 use Rattle.kakinoki.specs.Starts.{add_hands, merged, position_said, headers_said, start_read}
 use Rattle.kakinoki.specs.declared.Told.{Told}
 use Rattle.kakinoki.specs.declared.Info.TheVariants.{Nothing}
-use Rattle.kakinoki.specs.declared.Fault.TheVariants.{NoFault}
 use Rattle.kakinoki.proofs.Items.{item_goes}
 use Rattle.parser.proofs.Alls.{all_append, all-concat}
 use Rattle.parser.specs.Parse.{by_header, headers_of}
@@ -91,18 +89,18 @@ module _ (t : List ℕ) (b : Bare t) {s : List ℕ} {at : ℕ} (r : List ℕ) (s
   bare_line : information_at s at ≡ information Nothing empty_hand (cursor at)
   unfolding information_at preset_line_at turn_line_at hands_or_keyed_at hand_line_at keyed_at key_value_at value_at key_at
   bare_line =
-      let f : first_of sides s at ≡ Not = first_fails sides t b.side (10 ∷ r) st in
+      let f : first_of sides s at ≡ None = first_fails sides t b.side (10 ∷ r) st in
       let k : key_from (drop at s) ≡ t = ap key_from st.rest ∙ b.key r in
       let ne : eqb (length t) 0 ≡ false = ne_eqb (length t) 0 (λ e. let g = b.some in omega arith) in
       let l = stands_past t (10 ∷ r) s at st in
-      let z : tag_at wide_colon s (at + length t) ≡ Absent = byte_fails 239 (188 ∷ 154 ∷ []) l refl in
+      let z : tag_at wide_colon s (at + length t) ≡ None = byte_fails 239 (188 ∷ 154 ∷ []) l refl in
       rw (tag_fails preset_tag t b.preset (10 ∷ r) st, f, k, ne, z)
 
   bare_stops : information_item s at ≡ stop
   unfolding information_item
   bare_stops = rw (bare_hash, bare_line)
 
-  bare_fault : fault_at s at ≡ NoFault
+  bare_fault : fault_at s at ≡ None
   unfolding fault_at
   bare_fault = rw (bare_hash, bare_line)
 
@@ -126,7 +124,7 @@ files_bare = record { hash = refl; preset = refl; side = refl; some = omega arit
 number_stops : (r : List ℕ) → Stops (number_line ++ r)
 number_stops r s at st = bare_stops number_text number_bare r (stands_same (number-text r) st)
 
-number_fault : {s : List ℕ} {at : ℕ} (r : List ℕ) → Stands s at (number_line ++ r) → fault_at s at ≡ NoFault
+number_fault : {s : List ℕ} {at : ℕ} (r : List ℕ) → Stands s at (number_line ++ r) → fault_at s at ≡ None
 number_fault r st = bare_fault number_text number_bare r (stands_same (number-text r) st)
 
 files_stops : (r : List ℕ) → Stops (files_tag ++ (10 ∷ r))
@@ -219,7 +217,7 @@ module _ (hands : List ℕ) (few : (k : ℕ) → get_or hands k 0 ≤ 99) where
 
 pub record Starts (s : List ℕ) (hs : List Header) (p : Position) (r : List ℕ) : Type 0 where
   pub end : ℕ
-  pub fault : (start_read s).fault ≡ NoFault
+  pub fault : (start_read s).fault ≡ None
   pub position : (start_read s).position ≡ p
   pub next : (start_read s).next.at ≡ end
   pub headers : headers_of s ≡ hs
@@ -241,7 +239,7 @@ module _ (hs : List Header) (up : Ascending by_header hs) (fit : All HeaderSayab
       came (infos_came (says_append header_says (says_one (preset_item n h))) _ (number_stops r) st) λ e i l.
       let d : board_at s e ≡ no_board = no_diagram r l in
       came (infos_came silent _ (number_stops r) l) λ f j m.
-      let z : fault_at s f ≡ NoFault = number_fault r m in
+      let z : fault_at s f ≡ None = number_fault r m in
       record {
         end = f;
         fault = rw (i, d, j, z);
@@ -277,7 +275,7 @@ module _ (hs : List Header) (up : Ascending by_header hs) (fit : All HeaderSayab
         came (infos_came first_says _ (board_stops cells _) st) λ e i l.
         came (board_came cells cs c _ l) λ f j m.
         came (infos_came (second_says d) _ (number_stops r) m) λ g k o.
-        let z : fault_at s g ≡ NoFault = number_fault r o in
+        let z : fault_at s g ≡ None = number_fault r o in
         let pairs = pairs_are (written hs) (of_preset 16 ∷ of_hands 1 (counts_of hands 1) ∷ []) in
         let tells = pairs_tell (written hs) (of_preset 16 ∷ of_hands 1 (counts_of hands 1) ∷ []) untold in
         record {

@@ -1,5 +1,6 @@
 -- The text of a record reads back where nothing is lost: its header, its position and its lines of play, to the last byte.
 -- Assumes nothing.
+use Rattle.std.specs.Prelude.{None}
 use Prim.Native.Nat.{ℕ, ◌≤◌}
 use native.Mathlib.Omega.{arith}
 use mathlib.Core.Path.{◌≡◌, refl}
@@ -16,7 +17,6 @@ use Rattle.jkf.specs.Attaching.{play}
 use Rattle.block.specs.Encode.{concat}
 use Rattle.block.specs.Sound.{is_cell}
 use Rattle.kakinoki.specs.Starts.{start_read}
-use Rattle.kakinoki.specs.declared.Fault.TheVariants.{NoFault}
 use Rattle.sorted.specs.inner.Orders.{Ascending}
 use Rattle.plays.specs.Plays.{noted}
 use Rattle.parser.specs.Parse.{by_header, parse}
@@ -70,7 +70,7 @@ start_came hs up g (drawn {turn} {cells} {hands} d c cs n few) s r st =
 parse_came : {mode : Mode} → LosesNothing mode → (hs : List Header) (p : Position) (cs : List (List ℕ)) (es : List Noted) (ls : List Line)
     → Ascending by_header hs → All HeaderSayable hs → PositionFits p → All OneLine cs → EntriesFit 1 es → All LineFits ls → (length es ≡ 0 → ls ≡ []) → (s : List ℕ)
     → Stands s 0 ((headers_text hs ++ position_text p) ++ (number_line ++ ((remarks_text cs ++ entries_text 1 (map (said_noted mode) es)) ++ concat variation_text (map (said_line mode) ls))))
-    → (parse s ≡ record { headers = hs; position = p; plays = play 0 (noted Slot cs ∷ es) ∷ map as_play ls; taken = length s }) × ((start_read s).fault ≡ NoFault)
+    → (parse s ≡ record { headers = hs; position = p; plays = play 0 (noted Slot cs ∷ es) ∷ map as_play ls; taken = length s }) × ((start_read s).fault ≡ None)
 unfolding parse
 parse_came n hs p cs es ls up g f o h k alone s st =
     let b = start_came hs up g f s _ st in
@@ -80,11 +80,11 @@ parse_came n hs p cs es ls up g f o h k alone s st =
 lines_back : {mode : Mode} → LosesNothing mode → (hs : List Header) (p : Position) {ls : List Line} → Ascending by_header hs → All HeaderSayable hs → PositionFits p → LinesFit ls
     → (parse ((headers_text hs ++ position_text p) ++ lines_text (said_lines mode ls))
     ≡ record { headers = hs; position = p; plays = map as_play ls; taken = length ((headers_text hs ++ position_text p) ++ lines_text (said_lines mode ls)) })
-    × ((start_read ((headers_text hs ++ position_text p) ++ lines_text (said_lines mode ls))).fault ≡ NoFault)
+    × ((start_read ((headers_text hs ++ position_text p) ++ lines_text (said_lines mode ls))).fault ≡ None)
 unfolding lines_text main_text said_lines said_line said_noted said_entry
 lines_back n hs p up g f (fit {cs} {es} {ls} o h k alone) = rw (shown-same (all_so (λ l g. g.later) k)) (parse_came n hs p cs es ls up g f o h k alone _ (all_there _))
 
 pub parse_back : {mode : Mode} → LosesNothing mode → (r : Record) → RecordFits r
-    → (parse (text_in mode r) ≡ parsed_of r (length (text_in mode r))) × ((start_read (text_in mode r)).fault ≡ NoFault)
+    → (parse (text_in mode r) ≡ parsed_of r (length (text_in mode r))) × ((start_read (text_in mode r)).fault ≡ None)
 unfolding record_text said_record
 parse_back n r f = lines_back n r.headers r.position f.ascending f.headers f.position f.lines

@@ -1,5 +1,6 @@
 -- A time reads back: of a clock without an hour the form that is tried first fails.
 -- Assumes nothing.
+use Rattle.std.specs.Prelude.{Some, Ok, Err}
 use Prim.Native.Nat.{ℕ, ◌-◌, ◌≤◌}
 use mathlib.Core.Path.{◌≡◌, refl}
 use mathlib.Core.List.{List, [], ◌∷◌, ◌++◌, append_assoc}
@@ -9,20 +10,19 @@ use lib.Dec.{eqb}
 use Rattle.lists.proofs.Stand.{Stands, Came, Reads, Off, then, came}
 use Rattle.lent.specs.Numbers.{decimal, padded}
 use Rattle.text.specs.Text.{cursor, is_blank, is_digit, blanks_at}
-use Rattle.text.specs.declared.Number.TheVariants.{Value, NoDigit}
+use Rattle.text.specs.declared.FigureError.TheVariants.{Absent}
 use Rattle.spell.proofs.Counts.{tag_reads}
 use Rattle.jkf.specs.declared.Clock.{Clock}
 use Rattle.jkf.specs.declared.Clock.TheVariants.{Hms, Ms}
 use Rattle.jkf.specs.declared.Time.{Time}
 use Rattle.jkf.specs.declared.Time.TheVariants.{Untimed, Timed}
 use Rattle.moves.specs.Moves.{figure_at, hms_at, ms_at, clock_at, spaced_at, clocks_at, timing, time_at}
-use Rattle.moves.specs.declared.Clocked.TheVariants.{Shows}
 use Rattle.moves.specs.Fits.{ClockFits, hms_fits, ms_fits, TimeFits, untimed_fits, timed_fits}
 use Rattle.converter.specs.Entries.{clock_text, time_text}
 use Rattle.laws.proofs.Back.Leaves.{byte_fails, blanks_none, blanks_read, Digits, digits-read, decimal-digits, zeros_digits, digits_off, padded_blanks}
 
 -- digits and a colon; digits and no colon
-figure_came : (t : List ℕ) (n : ℕ) → Digits t n → n ≤ 255 → {s : List ℕ} {at : ℕ} (r : List ℕ) → Stands s at (t ++ (58 ∷ r)) → Came (figure_at s at) (λ e. Value n (cursor e)) s r
+figure_came : (t : List ℕ) (n : ℕ) → Digits t n → n ≤ 255 → {s : List ℕ} {at : ℕ} (r : List ℕ) → Stands s at (t ++ (58 ∷ r)) → Came (figure_at s at) (λ e. Ok (n, cursor e)) s r
 unfolding figure_at
 figure_came t n d v r st =
     then (digits-read 255 t n d v) st refl λ e₁ i₁ l₁.
@@ -30,7 +30,7 @@ figure_came t n d v r st =
     record { end = e₂; is = rw (i₁, i₂); left = l₂ }
 
 figure_fails : (t : List ℕ) (n : ℕ) → Digits t n → n ≤ 255 → {s : List ℕ} {at : ℕ} (r : List ℕ) → Stands s at (t ++ r) → Off is_digit r → eqb (get_or r 0 0) 58 ≡ false
-    → figure_at s at ≡ NoDigit
+    → figure_at s at ≡ Err Absent
 unfolding figure_at
 figure_fails t n d v r st o h =
     then (digits-read 255 t n d v) st o λ e₁ i₁ l₁.
@@ -53,7 +53,7 @@ pub record Closes (b : ℕ) : Type 0 where
   pub blank : is_blank b ≡ false
 
 pub clock_came : {fill : ℕ} → Filler fill → {after : ℕ} → Closes after → (c : Clock) → ClockFits c → {s : List ℕ} {at : ℕ} (r : List ℕ)
-    → Stands s at (clock_text fill after c ++ r) → Came (spaced_at s at) (λ e. Shows c (cursor e)) s (after ∷ r)
+    → Stands s at (clock_text fill after c ++ r) → Came (spaced_at s at) (λ e. Some (c, cursor e)) s (after ∷ r)
 unfolding spaced_at clock_at hms_at ms_at clock_text
 clock_came f a (Hms h m x) (hms_fits u v w) r st =
     first_figure f h _ (simp append_assoc at st) λ e₀ t i₀ d l₀.

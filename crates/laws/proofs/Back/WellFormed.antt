@@ -1,5 +1,6 @@
 -- The text of a record is well-formed UTF-8 if its keys, values and comments are.
 -- Assumes nothing.
+use Rattle.std.specs.Prelude.{Option, Some, None}
 use Prim.Native.Nat.{ℕ, zero, suc, ◌+◌, ◌*◌, ◌-◌, ◌/◌, ◌%◌}
 use mathlib.Core.Path.{◌≡◌, refl, subst}
 use mathlib.Core.List.{List, [], ◌∷◌, ◌++◌}
@@ -24,8 +25,6 @@ use Rattle.jkf.specs.declared.Time.{Time}
 use Rattle.jkf.specs.declared.Time.TheVariants.{Untimed, Timed}
 use Rattle.jkf.specs.declared.Target.{Target}
 use Rattle.jkf.specs.declared.Target.TheVariants.{Same, Square}
-use Rattle.jkf.specs.declared.Origin.{Origin}
-use Rattle.jkf.specs.declared.Origin.TheVariants.{Unknown, From}
 use Rattle.jkf.specs.declared.Entry.{Entry}
 use Rattle.jkf.specs.declared.Entry.TheVariants.{Slot, Moved, End}
 use Rattle.jkf.specs.declared.Position.{Position}
@@ -131,10 +130,10 @@ mark_chars : (p : ℕ) → Chars (promote_text p)
 unfolding promote_text
 mark_chars p = by_pick Chars (eqb p 2) promotes _ (λ _. word 10) (λ _. by_pick Chars (eqb p 1) declines [] (λ _. word 11) (λ _. empty))
 
-origin_chars : (o : Origin) → Chars (origin_text o)
+origin_chars : (o : Option (ℕ × ℕ)) → Chars (origin_text o)
 unfolding origin_text
-origin_chars Unknown = word 12
-origin_chars (From x y) = chars_append (chars_append (chars_append (byte 40 refl) (decimal_chars x)) (decimal_chars y)) (byte 41 refl)
+origin_chars None = word 12
+origin_chars (Some (x, y)) = chars_append (chars_append (chars_append (byte 40 refl) (decimal_chars x)) (decimal_chars y)) (byte 41 refl)
 
 play_chars : (e : Entry) → Chars (play_text e)
 unfolding play_text move_text special_text

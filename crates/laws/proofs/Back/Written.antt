@@ -1,6 +1,7 @@
 -- A writing that is done, in any mode, met none of the things that stand in its way: its text stands at the front of the buffer, and of a mode
 -- that loses nothing no line is left out.
 -- Assumes nothing.
+use Rattle.std.specs.Prelude.{Option, Some, None}
 use Prim.Native.Nat.{ℕ, ◌+◌, ◌<◌}
 use native.Mathlib.Omega.{arith}
 use mathlib.Core.Path.{◌≡◌, refl, sym, ap, ◌∙◌, subst}
@@ -21,8 +22,6 @@ use Rattle.block.specs.Decode.{decode}
 use Rattle.block.specs.Sound.{soundb}
 use Rattle.converter.specs.declared.Mode.{Mode}
 use Rattle.converter.specs.declared.Mode.TheVariants.{Plain, Whole, Shared}
-use Rattle.converter.specs.declared.Obstacle.{Obstacle}
-use Rattle.converter.specs.declared.Obstacle.TheVariants.{At, Clear}
 use Rattle.converter.specs.Said.{left_out, said_record}
 use Rattle.converter.specs.Show.{on_obstacle, hands_obstacle, line_obstacle, zero_start, start_obstacle, Showing, text, refused, show_lines, show_hands, show}
 use Rattle.converter.specs.Writing.{text_stored, shown_of, write_as_of}
@@ -33,16 +32,16 @@ use Rattle.laws.proofs.Back.Shown.{shown-same}
 
 -- ---- no variation starts at 0
 
-starts_clear : (k : ℕ) (ls : List Line) → zero_start k ls ≡ Clear → All (λ l. 0 < l.start) ls
+starts_clear : (k : ℕ) (ls : List Line) → zero_start k ls ≡ None → All (λ l. 0 < l.start) ls
 unfolding zero_start
 starts_clear k [] h = none
 starts_clear k (l ∷ ls) h = go (eqb l.start 0) refl h (starts_clear (k + 1) ls)
   where
-    go : (t : Bool) → eqb l.start 0 ≡ t → pick t (At k 0) (zero_start (k + 1) ls) ≡ Clear → (zero_start (k + 1) ls ≡ Clear → All (λ l. 0 < l.start) ls) → All (λ l. 0 < l.start) (l ∷ ls)
+    go : (t : Bool) → eqb l.start 0 ≡ t → pick t (Some (k, 0)) (zero_start (k + 1) ls) ≡ None → (zero_start (k + 1) ls ≡ None → All (λ l. 0 < l.start) ls) → All (λ l. 0 < l.start) (l ∷ ls)
     go true q h ih = let z : ◌≡◌ {A = ℕ} 0 1 = cc in absurd (omega arith)
     go false q h ih = let n = eqb-false l.start 0 q in next {x = l} (omega arith) (ih h)
 
-all_written : (mode : Mode) (r : Record) → start_obstacle mode r.lines ≡ Clear → AllWritten mode r
+all_written : (mode : Mode) (r : Record) → start_obstacle mode r.lines ≡ None → AllWritten mode r
 unfolding start_obstacle
 all_written Plain r h = tt
 all_written Whole r h = starts_clear 1 (drop 1 r.lines) h
@@ -52,8 +51,8 @@ all_written Shared r h = starts_clear 1 (drop 1 r.lines) h
 
 pub record Wrote (mode : Mode) (r : Record) (n l : ℕ) (after : List ℕ) : Type 0 where
   pub starts : AllWritten mode r
-  pub hands : hands_obstacle r.position ≡ Clear
-  pub lines : line_obstacle 0 (said_record mode r).lines ≡ Clear
+  pub hands : hands_obstacle r.position ≡ None
+  pub lines : line_obstacle 0 (said_record mode r).lines ≡ None
   pub front : take n after ≡ text_in mode r
   pub count : n ≡ length (text_in mode r)
   pub left : l ≡ left_out r.lines
@@ -63,11 +62,11 @@ module _ (o : List ℕ) (n l : ℕ) where
   IsDone s = (shown_of s o).answer ≡ Done n l
 
   -- what stands in the way refuses, so it was not met
-  passed : (x : Obstacle) (f : ℕ → ℕ → Answer) (s : Showing) → ((i j : ℕ) → 0 < (figures (f i j)).number) → IsDone (on_obstacle x (λ i j. refused (f i j)) s)
-      → (x ≡ Clear) × (on_obstacle x (λ i j. refused (f i j)) s ≡ s)
+  passed : (x : Option (ℕ × ℕ)) (f : ℕ → ℕ → Answer) (s : Showing) → ((i j : ℕ) → 0 < (figures (f i j)).number) → IsDone (on_obstacle x (λ i j. refused (f i j)) s)
+      → (x ≡ None) × (on_obstacle x (λ i j. refused (f i j)) s ≡ s)
   unfolding shown_of
-  passed (At i j) f s h e = not_done (f i j) n l (h i j) e
-  passed Clear f s h e = (refl, refl)
+  passed (Some (i, j)) f s h e = not_done (f i j) n l (h i j) e
+  passed None f s h e = (refl, refl)
 
   -- a text that fits
   stored_says : (t : List ℕ) (m : ℕ) → (text_stored t m o).answer ≡ Done n l → (take n (text_stored t m o).buffer ≡ t) × (n ≡ length t) × (l ≡ m)

@@ -1,5 +1,6 @@
 -- With 600 lent bytes or more no call on the board is short of room: so a reading stores what it fills, and an edit what it makes.
 -- Assumes nothing.
+use Rattle.std.specs.Prelude.{Option, Some, None}
 use Prim.Native.Nat.{ℕ, ◌≤◌}
 use native.Mathlib.Omega.{arith}
 use mathlib.Core.Path.{◌≡◌, refl, sym, ap, subst, ◌∙◌}
@@ -18,12 +19,11 @@ use Rattle.block.specs.Decode.{decode}
 use Rattle.block.specs.Sound.{soundb}
 use Rattle.parser.specs.Parse.{Parsed, parse, needed}
 use Rattle.parser.specs.Read.{on_early, filled_with, read_stored, early_of, fill_of}
-use Rattle.parser.specs.declared.Early.{Early}
-use Rattle.parser.specs.declared.Early.TheVariants.{Refused, Passed}
 use Rattle.edit.specs.Edit.{Edited, edited, refused, insert, remove}
 use Rattle.edit.specs.Outcomes.{edit_stored, edited_of, put_in_of, cut_of}
 use Rattle.laws.specs.CaseTexts.{short_move, text_of}
 use Rattle.laws.specs.Cases.{block_of, listing, Result, Gives, Case, reads, puts, cuts, is_from, is_no_line, counts, prints, Holds}
+use Rattle.jkf.specs.declared.Answer.{Answer}
 
 -- a test that fails does not pass
 no : {A : Type 0} → false ≡ true → A
@@ -45,9 +45,9 @@ read_is : (s o : List ℕ) → 600 ≤ length o → is_read s ≡ true → fill_
 unfolding fill_of
 read_is s o h t = go (early_of s) t
   where
-    go : (e : Early) → on_early e (λ a. false) (leb (needed (parse s)) 600) ≡ true → on_early e (λ a. refuse a o) (read_stored (parse s) o) ≡ filled_with (parse s) o
-    go (Refused a) t = no t
-    go Passed t = stored_is (parse s) o t h
+    go : (e : Option Answer) → on_early e (λ a. false) (leb (needed (parse s)) 600) ≡ true → on_early e (λ a. refuse a o) (read_stored (parse s) o) ≡ filled_with (parse s) o
+    go (Some a) t = no t
+    go None t = stored_is (parse s) o t h
 
 -- ---- edits
 

@@ -7,10 +7,10 @@ pub returns-in_default : goal.returns-in_default
 returns-in_default c = rw (← c.what.ensures, c.in_default.is, ← c.no_line.ensures)
 
 pub returns-in_default-line_end : goal.returns-in_default-line_end
-returns-in_default-line_end c = rw (← c.what.ensures, c.in-Is.is, ← c.blanks-start.ensures, ← c.time-timing.ensures, ← c.line_end.ensures, c.in_default-line_end.is, ← c.no_line-in_default-line_end.ensures)
+returns-in_default-line_end c = rw (← c.what.ensures, c.in-Some.is, ← c.blanks-start.ensures, ← c.time-timing.ensures, ← c.line_end.ensures, c.in_default-line_end.is, ← c.no_line-in_default-line_end.ensures)
 
 pub is_lost-requires : goal.is_lost-requires
 is_lost-requires c = ap (λ k. k.time) c.time-timing.ensures
 
 pub returns : goal.returns
-returns c = rw (← c.what.ensures, c.in-Is.is, ← c.blanks-start.ensures, ← c.is_lost.ensures, ← c.time-timing.ensures, ← c.line_end.ensures, c.in-Past.is, ← c.color.ensures, ← c.finish.ensures)
+returns c = rw (← c.what.ensures, c.in-Some.is, ← c.blanks-start.ensures, ← c.is_lost.ensures, ← c.time-timing.ensures, ← c.line_end.ensures, c.in-Some-line_end.is, ← c.color.ensures, ← c.finish.ensures)

@@ -8,4 +8,4 @@ pub returns-in_default : goal.returns-in_default
 returns-in_default c = let p = c.requires in rw (usual_played _ _ _ _ _ p.0 p.1 p.2, usual_lost _ _ _ _ p.0 p.1 p.2, ← c.line_end.ensures, c.in_default.is, ← c.no_line.ensures)
 
 pub returns : goal.returns
-returns c = let p = c.requires in rw (usual_played _ _ _ _ _ p.0 p.1 p.2, usual_lost _ _ _ _ p.0 p.1 p.2, ← c.line_end.ensures, c.in-Past.is, ← c.usual-taken.ensures, ← c.color.ensures, ← c.usual.ensures)
+returns c = let p = c.requires in rw (usual_played _ _ _ _ _ p.0 p.1 p.2, usual_lost _ _ _ _ p.0 p.1 p.2, ← c.line_end.ensures, c.in-Some.is, ← c.usual-taken.ensures, ← c.color.ensures, ← c.usual.ensures)

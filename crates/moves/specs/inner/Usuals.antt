@@ -1,19 +1,16 @@
 -- Moves and times in the form in which they are mostly written, `７六歩(77)` and `( m:ss/hh:mm:ss)`: what stands there.
 -- Assumes nothing: these are definitions.
-use Rattle.std.specs.Prelude.{ℕ, ◌+◌, ◌*◌, ◌-◌, ◌≤◌, ◌≡◌, List, ◌++◌, true, length, get_or, eqb}
+use Rattle.std.specs.Prelude.{ℕ, ◌+◌, ◌*◌, ◌-◌, ◌≤◌, ◌≡◌, List, ◌++◌, true, length, get_or, eqb, Some}
 use Rattle.lists.specs.Pick.{pick}
 use Rattle.text.specs.Text.{cursor, is_digit, stands_at}
 use Rattle.spell.specs.Spell.{first_of, number_spelled}
 use Rattle.spell.specs.inner.Codes.{three_at}
 use Rattle.spell.specs.Tables.{kinds, numerals}
-use Rattle.spell.specs.declared.Spelled.TheVariants.{As}
 use Rattle.jkf.specs.declared.Target.{Target}
 use Rattle.jkf.specs.declared.Target.TheVariants.{Same, Square}
-use Rattle.jkf.specs.declared.Origin.TheVariants.{From}
 use Rattle.jkf.specs.declared.Entry.{Entry}
 use Rattle.moves.specs.Moves.{mark, move_entry, move_to_at, promote_at}
 use Rattle.spell.specs.Words.{promotes}
-use Rattle.moves.specs.declared.Aim.TheVariants.{To}
 
 -- Two digits at a place, and their number.
 pub record Two (s : List ℕ) (at : ℕ) : Type 0 where
@@ -64,7 +61,7 @@ mark_of s at width = pick (eqb width 13) 0 (pick (stands_at promotes s (at + 6))
 -- The whole: the origin ends with the move.
 abbrev pub entry_of : List ℕ → ℕ → ℕ → Entry
 entry_of s at width =
-    move_entry (aim_of s at) (kind_of s at) (mark_of s at width) (From (get_or s (at + width - 3) 0 - 48) (get_or s (at + width - 2) 0 - 48))
+    move_entry (aim_of s at) (kind_of s at) (mark_of s at width) (Some (get_or s (at + width - 3) 0 - 48, get_or s (at + width - 2) 0 - 48))
 
 -- Two digits in brackets.
 pub record Bracketed (s : List ℕ) (at : ℕ) : Type 0 where
@@ -75,13 +72,13 @@ pub record Bracketed (s : List ℕ) (at : ℕ) : Type 0 where
 
 -- A target of six bytes, whose digit is one of the full-width ones.
 pub record UsualTarget (s : List ℕ) (at : ℕ) : Type 0 where
-  pub aim : move_to_at s at ≡ To (aim_of s at) (cursor (at + 6))
+  pub aim : move_to_at s at ≡ Some (aim_of s at, cursor (at + 6))
   pub digit : (get_or s at 0 ≡ 229 → ⊥) → 144 ≤ get_or s (at + 2) 0
 
 -- A kind, a mark and an origin after the six bytes of the target, to the end of the move.
 pub record UsualKind (s : List ℕ) (at width : ℕ) : Type 0 where
   pub past : ℕ
-  pub kind : first_of kinds s (at + 6) ≡ As (kind_of s at) (cursor past)
+  pub kind : first_of kinds s (at + 6) ≡ Some (kind_of s at, cursor past)
   pub promotion : promote_at s past ≡ mark (mark_of s at width) (cursor (at + (width - 4)))
   pub origin : Bracketed s (at + (width - 4))
 

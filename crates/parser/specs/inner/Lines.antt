@@ -1,6 +1,6 @@
 -- All lines of play of a text: counted, and what a filling of them answers.
 -- Assumes nothing: these are definitions.
-use Rattle.std.specs.Prelude.{ℕ, List, [], ◌∷◌, length}
+use Rattle.std.specs.Prelude.{ℕ, List, [], ◌∷◌, length, Result, Ok, Err}
 use Rattle.text.specs.Text.{cursor}
 use Rattle.jkf.specs.Attaching.{Hung, all, first, Play}
 use Rattle.jkf.specs.Model.{Line}
@@ -8,8 +8,7 @@ use Rattle.block.specs.Encode.{comments_of, comment_text}
 use Rattle.plays.specs.Plays.{slot_at, past_main, main_at, plays_at}
 use Rattle.plays.specs.inner.Entries.{play_entries}
 use Rattle.parser.specs.declared.Extents.{Extents}
-use Rattle.parser.specs.declared.Hanging.{Hanging}
-use Rattle.parser.specs.declared.Hanging.TheVariants.{AllHung, Loose}
+use Rattle.text.specs.declared.Cursor.{Cursor}
 
 -- Lines of play, counted.
 abbrev pub extents : List Play → ℕ → Extents
@@ -34,6 +33,6 @@ abbrev pub main_line : List ℕ → ℕ → Line
 main_line s at = record { start = 0; parent = 0; entries = (main_at s at).entries }
 
 -- Whether every variation hangs, and then the place past the last and how many times were lost.
-abbrev pub hanging : Hung → ℕ → ℕ → Hanging
-hanging (first k ply) at lost = Loose k ply
-hanging all at lost = AllHung (cursor at) lost
+abbrev pub hanging : Hung → ℕ → ℕ → Result (Cursor × ℕ) (ℕ × ℕ)
+hanging (first k ply) at lost = Err (k, ply)
+hanging all at lost = Ok (cursor at, lost)

@@ -9,4 +9,4 @@ returns-in_default c = rw (← c.skip_line.ensures, c.in_default.is)
 
 pub returns : goal.returns
 unfolding skip_at
-returns c = rw (← c.skip_line.ensures, c.in-Past.is)
+returns c = rw (← c.skip_line.ensures, c.in-Some.is)

@@ -3,13 +3,13 @@
 use Rattle.reader.specs.TextLines.{text_line_at}
 use Rattle.reader.proofs.text_line.Goals as goal
 
-pub returns-in-Numbered : goal.returns-in-Numbered
+pub returns-in-Some : goal.returns-in-Some
 unfolding text_line_at
-returns-in-Numbered c = rw (← c.move_line.ensures, c.in-Numbered.is)
+returns-in-Some c = rw (← c.move_line.ensures, c.in-Some.is)
 
-pub returns-in-Stands : goal.returns-in-Stands
+pub returns-in-Some-comment_line : goal.returns-in-Some-comment_line
 unfolding text_line_at
-returns-in-Stands c = rw (← c.move_line.ensures, c.in_default.is, ← c.comment_line.ensures, c.in-Stands.is)
+returns-in-Some-comment_line c = rw (← c.move_line.ensures, c.in_default.is, ← c.comment_line.ensures, c.in-Some-comment_line.is)
 
 pub returns : goal.returns
 unfolding text_line_at

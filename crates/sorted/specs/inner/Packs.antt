@@ -4,7 +4,7 @@ use Rattle.std.specs.Prelude.{ℕ, zero, suc, ◌+◌, ◌*◌, ◌<◌, ◌/◌
 use Rattle.lists.specs.All.{All}
 use Rattle.lists.specs.Pick.{pick}
 use Rattle.text.specs.Text.{key_at}
-use Rattle.sorted.specs.declared.Order.{Order}
+use Rattle.std.specs.declared.cmp.Ordering.{Ordering}
 use Rattle.sorted.specs.declared.MergeStep.{MergeStep}
 use Rattle.sorted.specs.Sorted.{on_order, by_bytes, enter_all}
 use Rattle.sorted.specs.inner.Orders.{Leads}
@@ -42,7 +42,7 @@ unfoldable pub lead_told : ℕ → ℕ
 lead_told l = pick (eqb (l % 256) 0) 0 6
 
 -- Packs by lead, and where these are equal by what the key has behind it: a lead is one byte more, before the others.
-abbrev pub by_pack : List ℕ → ℕ → ℕ → Order
+abbrev pub by_pack : List ℕ → ℕ → ℕ → Ordering
 by_pack s x y = by_bytes (pack_lead x ∷ key_at s (pack_place x + lead_told (pack_lead x))) (pack_lead y ∷ key_at s (pack_place y + lead_told (pack_lead y)))
 
 -- A place that a pack has room for, of a key of bytes.
@@ -60,6 +60,6 @@ pub record Packs (s ps after : List ℕ) (n : ℕ) : Type 0 where
   pub each : All (Packable s) ps
 
 -- The step of a merge that finds x and y, by how x stands to y.
-abbrev pub step_of : Order → ℕ → ℕ → MergeStep
+abbrev pub step_of : Ordering → ℕ → ℕ → MergeStep
 step_of o x y =
     on_order o (record { left = 1; right = 0; value = x }) (record { left = 1; right = 1; value = y }) (record { left = 0; right = 1; value = y })

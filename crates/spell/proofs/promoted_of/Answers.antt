@@ -9,17 +9,17 @@ use Rattle.spell.specs.Spell.{number_spelled}
 use Rattle.spell.specs.inner.Slots.{promoted_of}
 use Rattle.spell.proofs.Lookups.{promoted-number, promoted-low, promoted-high, promoted-some}
 use Rattle.spell.proofs.promoted_of.Goals as goal
-use Rattle.spell.proofs.promoted_of.Goals.{After-kind_of-k}
+use Rattle.spell.proofs.promoted_of.Goals.{After-kind_of}
 
 -- 成 and what was found are spelled so
-spelled-so : (c : After-kind_of-k) → promoted_of c.kind_of-k.result ≡ number_spelled kinds (promotes ++ (c.args.a ∷ c.args.b ∷ c.args.c ∷ []))
-spelled-so c = ap promoted_of c.kind_of-k.ensures ∙ promoted-number _ _ _ (omega arith) (omega arith) (omega arith)
+spelled-so : (c : After-kind_of) → promoted_of c.kind_of.result ≡ number_spelled kinds (promotes ++ (c.args.a ∷ c.args.b ∷ c.args.c ∷ []))
+spelled-so c = ap promoted_of c.kind_of.ensures ∙ promoted-number _ _ _ (omega arith) (omega arith) (omega arith)
 
-pub returns-then-k-lt2 : goal.returns-then-k-lt2
-returns-then-k-lt2 c = promoted-low _ c.if-k-lt2.true ∙ spelled-so (goal.at.returns-then-k-lt2 c).After-kind_of-k
+pub returns-in-2-to-4 : goal.returns-in-2-to-4
+returns-in-2-to-4 c = promoted-some c.kind_of.result (omega arith) (omega arith) ∙ spelled-so (goal.at.returns-in-2-to-4 c).After-kind_of
 
-pub returns-then-k-gt4 : goal.returns-then-k-gt4
-returns-then-k-gt4 c = promoted-high _ c.if-k-lt2.false c.if-k-gt4.true ∙ spelled-so (goal.at.returns-then-k-gt4 c).After-kind_of-k
+pub returns-in_default : goal.returns-in_default
+returns-in_default c = promoted-low c.kind_of.result (omega arith) ∙ spelled-so (goal.at.returns-in_default c).After-kind_of
 
-pub returns : goal.returns
-returns c = promoted-some _ c.if-k-lt2.false c.if-k-gt4.false ∙ spelled-so (goal.at.returns c).After-kind_of-k
+pub returns-in_default-2 : goal.returns-in_default-2
+returns-in_default-2 c = promoted-high c.kind_of.result (omega arith) (omega arith) ∙ spelled-so (goal.at.returns-in_default-2 c).After-kind_of

@@ -1,65 +1,44 @@
-use Prim.Native.Nat.{ℕ, ◌+◌, ◌-◌, ◌≤◌}
+use Prim.Native.Nat.{ℕ, ◌+◌}
 use native.Mathlib.Omega.{arith}
-use mathlib.Core.Path.{◌≡◌, refl, sym, ◌∙◌, ap}
-use mathlib.Core.List.{List}
-use lib.ListN.{length, drop, get_or, take}
+use mathlib.Core.Path.{◌≡◌, sym, ap, ◌∙◌}
+use mathlib.Core.List.{List, ◌∷◌}
+use lib.ListN.{drop, take, drop_of_length-le}
 use Rattle.lent.proofs.Writes.{as_text, nothing, fitting_nothing}
 use Rattle.lent.specs.Bytes.{fitting}
+use Rattle.spell.specs.Tables.{Spelling, spelling}
 use Rattle.spell.specs.Spell.{spelled}
-use Rattle.spell.proofs.Search.{left_start, left_within, spelled_none, spelled_here, spelled-more}
+use Rattle.spell.specs.inner.Rows.{spellings}
+use Rattle.spell.proofs.Search.{Fits, fits_at, left_at, spelled_here, spelled_past}
 use Rattle.spell.proofs.put_spelled.Goals as goal
-use Rattle.spell.proofs.put_spelled.Goals.{In-loop-i}
+use Rattle.spell.proofs.put_spelled.Goals.{After-row-item}
 
--- in a turn: the table, the place in it, and that the row ends in the table
-abbrev K : Type 0
-K = In-loop-i
+fit : (g : _) (c : After-row-item g) → Fits c.row-item.result
+fit g c = fits_at c.args.table.now c.loop-row.row-index c.row-item.result c.requires c.loop-row-test.true c.row-item.is
 
-within : (c : K) → (c.loop-i.i + 2 + get_or c.args.table.now c.loop-i.i 0 ≤ c.loop-i.i + c.args.w) × (c.loop-i.i + c.args.w ≤ length c.args.table.now)
-within c =
-    let p = c.requires in
-    left_within (c.loop-i.invariant.1 p.0 p.1) c.loop-i-test.true
+-- what is looked for, in the row and what comes after it
+left : (g : _) (c : After-row-item g) →
+    spelled (spellings c.args.table.now) c.args.n
+    ≡ spelled (spelling c.row-item.result.number (take c.row-item.result.length c.row-item.result.bytes) ∷ spellings (drop (c.loop-row.row-index + 1) c.args.table.now)) c.args.n
+left g c =
+    c.loop-row.invariant.1
+    ∙ ap (λ (es : List Spelling). spelled es c.args.n) (left_at c.args.table.now c.loop-row.row-index c.row-item.result c.loop-row-test.true c.row-item.is)
 
-pub loop-i-init : goal.loop-i-init
-loop-i-init c = (refl, λ es r. left_start _ r)
+pub shared_whole_as_front-put_bytes : goal.shared_whole_as_front-put_bytes
+shared_whole_as_front-put_bytes g c = ((fit g (goal.at.shared_whole_as_front-put_bytes g c).After-row-item).fits, omega arith)
 
-pub overflow_add-b : goal.overflow_add-b
-overflow_add-b c = omega (arith, within c)
+pub returns-then-row-n : goal.returns-then-row-n
+returns-then-row-n g c =
+    let e : take c.row-item.result.length c.row-item.result.bytes ≡ spelled (spellings c.args.table.now) c.args.n =
+    sym (left g (goal.at.returns-then-row-n g c).After-row-item ∙ spelled_here _ _ _ c.if-row-n.true) in
+    rw c.loop-row.invariant.0 at (as_text (ap (λ (t : List ℕ). fitting t c.loop-row.out) e) c.put_bytes.ensures)
 
-pub overflow_add-e : goal.overflow_add-e
-overflow_add-e c = omega (arith, within (goal.at.overflow_add-e c).In-loop-i)
-
-pub overflow_add-i : goal.overflow_add-i
-overflow_add-i c = omega (arith, within (goal.at.overflow_add-i c).In-loop-i)
-
-pub bounds-table-i-in-loop-i : goal.bounds-table-i-in-loop-i
-bounds-table-i-in-loop-i c = omega (arith, within (goal.at.bounds-table-i-in-loop-i c).In-loop-i)
-
-pub slice_bounds-put_bytes-start : goal.slice_bounds-put_bytes-start
-slice_bounds-put_bytes-start c = omega (arith, within (goal.at.slice_bounds-put_bytes-start c).In-loop-i)
-
-pub slice_bounds-put_bytes-end : goal.slice_bounds-put_bytes-end
-slice_bounds-put_bytes-end c = omega (arith, within (goal.at.slice_bounds-put_bytes-end c).In-loop-i)
-
-pub returns-then-table-i : goal.returns-then-table-i
-returns-then-table-i c =
-    let b : ℕ = c.loop-i.i + 2 in
-    let n : b + c.wide.result - b ≡ get_or c.args.table.now c.loop-i.i 0 = omega arith in
-    λ es r.
-    let e : take (b + c.wide.result - b) (drop b c.args.table.now) ≡ spelled es c.args.n =
-    ap (λ (m : ℕ). take m (drop b c.args.table.now)) n ∙ sym (spelled_here c.args.n (c.loop-i.invariant.1 es r) c.loop-i-test.true c.if-table-i.true) in
-    rw c.loop-i.invariant.0 at (as_text (ap (λ (t : List ℕ). fitting t c.loop-i.out) e) c.put_bytes.ensures)
-
-pub overflow_add-i-in-loop-i : goal.overflow_add-i-in-loop-i
-overflow_add-i-in-loop-i c = omega (arith, within (goal.at.overflow_add-i-in-loop-i c).In-loop-i)
-
-pub loop-i-smaller : goal.loop-i-smaller
-loop-i-smaller c = omega (arith, within (goal.at.loop-i-smaller c).In-loop-i)
-
-pub loop-i-preserved : goal.loop-i-preserved
-loop-i-preserved c =
-    (c.loop-i.invariant.0, λ es r. spelled-more c.args.n (c.loop-i.invariant.1 es r) c.loop-i-test.true c.if-table-i.false)
+pub loop-row-preserved : goal.loop-row-preserved
+loop-row-preserved g c =
+    (c.loop-row.invariant.0, left g (goal.at.loop-row-preserved g c).After-row-item ∙ spelled_past _ _ _ c.if-row-n.false)
 
 pub returns : goal.returns
-returns c =
-    let l = c.loop-i in
-    λ es r. as_text (sym (fitting_nothing _ (spelled_none c.args.n (l.invariant.1 es r) c.loop-i-test.false))) (rw l.invariant.0 (nothing _))
+unfolding spelled
+returns g c =
+    let l = c.loop-row in
+    let e : drop l.row-index c.args.table.now ≡ _ = drop_of_length-le c.args.table.now c.loop-row-test.false in
+    as_text (sym (fitting_nothing _ (l.invariant.1 ∙ rw e))) (rw l.invariant.0 (nothing _))

@@ -1,17 +1,10 @@
--- The number's spelling in the whole table is that in the rows that are left (`Left`).
+-- The number's spelling in the whole table is that in the rows that are left.
 -- Assumes nothing.
-use Prim.Native.Nat.{◌-◌}
 use mathlib.Core.Path.{◌≡◌}
-use mathlib.Core.List.{List}
-use lib.ListN.{length}
-use Rattle.spell.specs.Tables.{Spelling}
+use lib.ListN.{drop}
 use Rattle.spell.specs.Spell.{spelled}
-use Rattle.spell.specs.inner.Codes.{Rows}
-use Rattle.spell.proofs.Search.{Left}
+use Rattle.spell.specs.inner.Rows.{spellings}
 use Rattle.spell.proofs.put_spelled.Given as goal
 
-abbrev pub invariant-loop-i : goal.invariant-loop-i
-invariant-loop-i l = (l.out ≡ l.initial.out) × ((es : List Spelling) → Rows l.w es l.table → Left (λ (es : List Spelling). spelled es l.n) l.w l.table es l.i)
-
-abbrev pub decreases-loop-i : goal.decreases-loop-i
-decreases-loop-i l = length l.table - l.i
+abbrev pub invariant-loop-row : goal.invariant-loop-row
+invariant-loop-row g l = (l.out ≡ l.initial.out) × (spelled (spellings l.table) l.n ≡ spelled (spellings (drop l.row-index l.table)) l.n)

@@ -1,31 +1,9 @@
--- Characters of three bytes as numbers, and tables of such characters, by which they are found and written at once; and the rows of a table of
--- spellings.
+-- Characters of three bytes as numbers, and tables of such characters, by which they are found and written at once.
 -- Assumes nothing: these are definitions.
-use Rattle.std.specs.Prelude.{ℕ, ◌+◌, ◌/◌, ◌%◌, ◌<◌, ◌-◌, ◌≡◌, List, [], ◌∷◌, ◌++◌, Bool, true, false, length, get_or, replicate, eqb, leb, ltb}
+use Rattle.std.specs.Prelude.{ℕ, ◌+◌, ◌/◌, ◌%◌, ◌<◌, ◌≡◌, List, [], ◌∷◌, Bool, true, false, length, get_or, eqb, ltb}
 use Rattle.lists.specs.Pick.{pick}
 use Rattle.spell.specs.Tables.{Spelling}
 use Rattle.spell.specs.Spell.{code_of, code}
-
--- A row of w bytes: the spelling's length, its number and its bytes, and zeros to the end.
-abbrev pub row : ℕ → Spelling → List ℕ
-row w e = length e.bytes ∷ e.number ∷ (e.bytes ++ replicate (w - (length e.bytes + 2)) 0)
-
-abbrev pub rows : ℕ → List Spelling → List ℕ
-rows w [] = []
-rows w (e ∷ es) = row w e ++ rows w es
-
--- Every spelling has its place in a row of w bytes.
-abbrev pub narrow : ℕ → List Spelling → Bool
-narrow w [] = true
-narrow w (e ∷ es) = pick (leb (length e.bytes + 2) w) (narrow w es) false
-
--- The bytes are a table's rows.
-pub record Rows (w : ℕ) (es : List Spelling) (table : List ℕ) : Type 0 where
-  pub whole : table ≡ rows w es
-  pub fits : narrow w es ≡ true
-
-abbrev pub IsTable : ℕ → List ℕ → Type 0
-IsTable w table = (es : List Spelling) × Rows w es table
 
 -- Every number is a byte that is not 0.
 abbrev pub all_bytes : List ℕ → Bool

@@ -12,8 +12,8 @@ walk-requires c =
     let s = c.args.s.now in
     (c.requires, subst (λ (x : Start). x.next.at ≤ length s) (sym c.parse_without_moves-start.ensures.value) (moves-within s), length-replicate {A = ℕ} 65536 0)
 
-pub returns-in-At : goal.returns-in-At
-returns-in-At c = rw (← c.parse_without_moves-start.ensures.value, c.in-At.is)
+pub returns-in-Some : goal.returns-in-Some
+returns-in-Some c = rw (← c.parse_without_moves-start.ensures.value, c.in-Some.is)
 
-pub returns-in-NoFault : goal.returns-in-NoFault
-returns-in-NoFault c = rw (← c.parse_without_moves-start.ensures.value, c.in-NoFault.is) c.walk.ensures
+pub returns-in-None : goal.returns-in-None
+returns-in-None c = rw (← c.parse_without_moves-start.ensures.value, c.in-None.is) c.walk.ensures

@@ -10,7 +10,7 @@ use Rattle.lists.proofs.Laws.{class_in}
 use Rattle.text.proofs.Laws.{digit_bounds}
 use Rattle.text.proofs.Readings.{reading-more, reading_large, reading_done, reading-none}
 use Rattle.text.proofs.digits_on.Goals as goal
-use Rattle.text.proofs.digits_on.Goals.{After-peek-in-loop-d}
+use Rattle.text.proofs.digits_on.Goals.{After-peek-in-loop-d, then-tens-n-via-then-tens-n, then-tens-n-via-else-tens-n+then-largest-n}
 
 -- in a turn, once the byte was read again: what was read, that it is a digit, and that it stands in the text
 abbrev At : Type 0
@@ -45,13 +45,14 @@ pub overflow_cast-d : goal.overflow_cast-d
 overflow_cast-d c = omega (arith, bounds c)
 
 pub returns-then-tens-n : goal.returns-then-tens-n
-returns-then-tens-n c = sym (reading_large (inv (goal.at.returns-then-tens-n c).After-peek-in-loop-d) c.peek-in-loop-d.ensures (digit (goal.at.returns-then-tens-n c).After-peek-in-loop-d) (omega arith))
+returns-then-tens-n c =
+    let at = (goal.at.returns-then-tens-n c).After-peek-in-loop-d in
+    let b = bounds at in
+    let large = reading_large (inv at) c.peek-in-loop-d.ensures (digit at) in
+    elim c.then-tens-n.branch [ then-tens-n-via-then-tens-n w ↦ sym (large (omega arith)) | then-tens-n-via-else-tens-n+then-largest-n w ↦ sym (large (omega arith)) ]
 
 pub overflow_sub-largest : goal.overflow_sub-largest
 overflow_sub-largest c = omega (arith, bounds (goal.at.overflow_sub-largest c).After-peek-in-loop-d)
-
-pub returns-then-largest-n : goal.returns-then-largest-n
-returns-then-largest-n c = sym (reading_large (inv (goal.at.returns-then-largest-n c).After-peek-in-loop-d) c.peek-in-loop-d.ensures (digit (goal.at.returns-then-largest-n c).After-peek-in-loop-d) (omega (arith, bounds (goal.at.returns-then-largest-n c).After-peek-in-loop-d)))
 
 pub overflow_add-n : goal.overflow_add-n
 overflow_add-n c = omega (arith, bounds (goal.at.overflow_add-n c).After-peek-in-loop-d)

@@ -1,24 +1,32 @@
+use Prim.Native.Nat.{◌<◌}
 use native.Mathlib.Omega.{arith}
 use mathlib.Core.Path.{sym, ◌∙◌}
-use Rattle.text.proofs.Laws.{stands_done, stands_short, stands_off, stands_on}
+use lib.ListN.{length, drop}
+use Rattle.text.specs.Text.{stands_at}
+use Rattle.text.proofs.Laws.{stands_done, stands_longer, stands_off, stands_on}
 use Rattle.text.proofs.stands.Goals as goal
 
-pub returns-then-s-j : goal.returns-then-s-j
-returns-then-s-j c =
+pub returns-then-here-t : goal.returns-then-here-t
+returns-then-here-t c =
     let a = c.args in
-    sym (c.loop-i.invariant ∙ stands_short a.t.now a.s.now c.loop-i.i c.loop-i.j (omega arith) (omega arith))
+    let h : length (drop a.at a.s.now) < length a.t.now = rw (← c.rest-here.ensures) c.if-here-t.true in
+    sym (stands_longer a.t.now a.s.now a.at h)
 
-pub returns-then-s-j-2 : goal.returns-then-s-j-2
-returns-then-s-j-2 c =
-    let a = c.args in
-    sym (c.loop-i.invariant ∙ stands_off a.t.now a.s.now c.loop-i.i c.loop-i.j (omega arith) (omega arith) c.if-s-j-2.true)
+pub loop-i-init : goal.loop-i-init
+unfolding stands_at
+loop-i-init c = rw c.rest-here.ensures
+
+pub returns-then-here-i : goal.returns-then-here-i
+returns-then-here-i c =
+    let l = c.loop-i in
+    sym (l.invariant ∙ stands_off c.args.t.now c.rest-here.result.now l.i l.i (omega arith) (omega arith) c.if-here-i.true)
 
 pub loop-i-preserved : goal.loop-i-preserved
 loop-i-preserved c =
-    let a = c.args in
-    c.loop-i.invariant ∙ stands_on a.t.now a.s.now c.loop-i.i c.loop-i.j (omega arith) (omega arith) c.if-s-j-2.false
+    let l = c.loop-i in
+    l.invariant ∙ stands_on c.args.t.now c.rest-here.result.now l.i l.i (omega arith) (omega arith) c.if-here-i.false
 
 pub returns : goal.returns
 returns c =
-    let a = c.args in
-    sym (c.loop-i.invariant ∙ stands_done a.t.now a.s.now c.loop-i.i c.loop-i.j (omega arith))
+    let l = c.loop-i in
+    sym (l.invariant ∙ stands_done c.args.t.now c.rest-here.result.now l.i l.i (omega arith))

@@ -27,12 +27,12 @@ row_is c =
 row-says : (c : After-row_sound) → flag (entry_test c.args.b.now c.loop-k.k) ≡ c.row_sound.result
 row-says c =
     let l = c.loop-k in
-    entry-row c.args.b.now l.k l.at (l.invariant.2.sums ∙ zero-add _) (λ i. omega (arith, c.shared_slice_known-1.given i))
+    entry-row c.args.b.now l.k l.at (l.invariant.1.sums ∙ zero-add _) (λ i. omega (arith, c.shared_slice_known-1.given i))
     ∙ ap (λ (r : List ℕ). flag (row_test l.k l.at r)) (sym (row_is c))
     ∙ sym c.row_sound.ensures
 
 pub loop-k-init : goal.loop-k-init
-loop-k-init c = (omega arith, omega arith, passed_start _ _ 0 0 (omega arith))
+loop-k-init c = (omega arith, passed_start _ _ 0 0 (omega arith))
 
 pub overflow_mul-k : goal.overflow_mul-k
 overflow_mul-k c = omega (arith, c.moves-n.ensures)
@@ -47,9 +47,9 @@ loop-k-preserved c =
     let l = c.loop-k in
     let b = c.args.b.now in
     let n : c.get16-at.result ≡ comment_count b l.k = c.get16-at.ensures.0 ∙ ap (λ (r : List ℕ). le16 r 18) (row_is (goal.at.loop-k-preserved c).After-row_sound) ∙ le16-drop b (move_place b l.k) 18 in
-    (omega arith, omega (arith, c.get16-at.ensures.1), passed_more _ _ _ l.invariant.2 (row-says (goal.at.loop-k-preserved c).After-row_sound ∙ c.if-not-row_sound.false) (ap (λ (i : ℕ). l.at + i) n))
+    (omega (arith, c.get16-at.ensures.1), passed_more _ _ _ l.invariant.1 (row-says (goal.at.loop-k-preserved c).After-row_sound ∙ c.if-not-row_sound.false) (ap (λ (i : ℕ). l.at + i) n))
 
 pub returns : goal.returns
 returns c =
     let l = c.loop-k in
-    sym (passed_all _ _ (moves_in c.args.b.now) l.invariant.2 (omega (arith, c.moves-n.ensures)))
+    sym (passed_all _ _ (moves_in c.args.b.now) l.invariant.1 (omega (arith, c.moves-n.ensures)))

@@ -1,19 +1,15 @@
 -- A known origin may be any; one that is not known has two zeros (`Fitting`).
 -- Assumes nothing.
 use Rattle.block.proofs.Fitting.{origin_is}
-use borrow.Author.Tests.{eq-eqb, ne_eqb}
-use lib.ListN.{get_or}
+use borrow.Author.Rules.{rules}
 use mathlib.Core.Path.{sym, ◌∙◌}
 use Rattle.block.proofs.entries.origin_fits.Goals as goal
 
 pub returns-then-row-eq1 : goal.returns-then-row-eq1
-returns-then-row-eq1 c =
-    sym (origin_is c.args.row.now c.requires ∙ rw (eq-eqb _ _ c.if-row-eq1.true))
+returns-then-row-eq1 c = sym (origin_is c.args.row.now c.requires ∙ search rules)
 
-pub returns-then-row-ne0 : goal.returns-then-row-ne0
-returns-then-row-ne0 c =
-    sym (origin_is c.args.row.now c.requires ∙ rw (ne_eqb _ _ c.if-row-eq1.false, ne_eqb (get_or c.args.row.now 6 0) 0 c.if-row-ne0.true))
+pub returns-then-row-eq0 : goal.returns-then-row-eq0
+returns-then-row-eq0 c = sym (origin_is c.args.row.now c.requires ∙ search rules)
 
-pub returns : goal.returns
-returns c =
-    sym (origin_is c.args.row.now c.requires ∙ rw (ne_eqb _ _ c.if-row-eq1.false, eq-eqb (get_or c.args.row.now 6 0) 0 c.if-row-ne0.false))
+pub returns-else-row-eq0 : goal.returns-else-row-eq0
+returns-else-row-eq0 c = sym (origin_is c.args.row.now c.requires ∙ search rules)

@@ -4,8 +4,8 @@ use native.Mathlib.Omega.{arith}
 use mathlib.Core.Path.{refl}
 use Rattle.block.proofs.entry_bytes.origin_field.Goals as goal
 
-pub returns-in-Unknown : goal.returns-in-Unknown
-returns-in-Unknown c = rw c.in-Unknown.is (refl, omega arith, refl)
+pub returns-in-None : goal.returns-in-None
+returns-in-None c = rw c.in-None.is (refl, omega arith, refl)
 
-pub returns-in-From : goal.returns-in-From
-returns-in-From c = rw c.in-From.is (refl, omega arith, refl)
+pub returns-in-Some : goal.returns-in-Some
+returns-in-Some c = rw c.in-Some.is (refl, omega arith, refl)

@@ -17,4 +17,4 @@ returns-in-Moved c = as_text (ap entry_head (sym c.in-Moved.is)) c.put_move_head
 
 pub returns-in-End : goal.returns-in-End
 unfolding entry_head
-returns-in-End c = as_text (ap₂ (λ (n k : ℕ). 2 ∷ n ∷ 0 ∷ 0 ∷ 0 ∷ 0 ∷ 0 ∷ 0 ∷ k ∷ []) c.number_of.ensures c.time_mark.ensures.0 ∙ sym (ap entry_head c.in-End.is)) (wrote_all (omega arith) c.put_bytes-in-End.ensures)
+returns-in-End c = as_text (ap₂ (λ (n k : ℕ). 2 ∷ n ∷ 0 ∷ 0 ∷ 0 ∷ 0 ∷ 0 ∷ 0 ∷ k ∷ []) c.from.ensures c.time_mark.ensures.0 ∙ sym (ap entry_head c.in-End.is)) (wrote_all (omega arith) c.put_bytes-in-End.ensures)

@@ -5,25 +5,13 @@ use mathlib.Core.List.{[], ◌∷◌, ◌++◌}
 use Rattle.lent.specs.Bytes.{bytes16}
 use Rattle.block.proofs.Joining.{then-all}
 use Rattle.block.proofs.Entering.{head-length, time-length, parts-made}
-use Rattle.lent.proofs.Writes.{as_text, wrote_length, rest_length, then, low_byte}
+use Rattle.lent.proofs.Writes.{as_text, wrote_length, rest_length, then}
 use Rattle.block.proofs.entry_bytes.put_parts.Goals as goal
 
 pub put_time-requires : goal.put_time-requires
 put_time-requires c =
     let w = c.put_head-a.ensures in
     omega (arith, head-length c.args.e, w.count, wrote_length w, rest_length c.put_head-a.new.out c.put_head-a.result)
-
-pub overflow_cast-first : goal.overflow_cast-first
-overflow_cast-first c = low_byte _
-
-pub overflow_cast-first-2 : goal.overflow_cast-first-2
-overflow_cast-first-2 c = low_byte _
-
-pub overflow_cast-count : goal.overflow_cast-count
-overflow_cast-count c = low_byte _
-
-pub overflow_cast-count-2 : goal.overflow_cast-count-2
-overflow_cast-count-2 c = low_byte _
 
 pub returns : goal.returns
 returns c =
@@ -32,4 +20,4 @@ returns c =
     let v = c.put_time.ensures in
     let h = head-length a.e in
     let t = time-length c.time_of.result in
-    as_text (parts-made a.e c.time_of.result a.first a.count c.time_of.ensures) (then-all ((0 ∷ []) ++ bytes16 a.first ++ bytes16 a.count) (then w v) (omega (arith, w.count, v.count)) c.put_bytes.ensures)
+    as_text (parts-made a.e c.time_of.result a.first a.count c.time_of.ensures) (then-all ((0 ∷ []) ++ bytes16 a.first ++ bytes16 a.count) (then w v) (omega (arith, w.count, v.count)) (rw (c.bytes16-first.ensures, c.bytes16-count.ensures) at c.put_bytes.ensures))

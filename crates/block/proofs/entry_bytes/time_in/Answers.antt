@@ -8,6 +8,6 @@ pub returns-then-marks-eq1 : goal.returns-then-marks-eq1
 unfolding time_in
 returns-then-marks-eq1 c = rw (← c.peek-marks.ensures, eq-eqb _ _ c.if-marks-eq1.true, c.clock_of-now.ensures, c.clock_of-total.ensures, c.peek.ensures, c.peek-then-marks-eq1.ensures, c.peek-then-marks-eq1-2.ensures, c.peek-then-marks-eq1-3.ensures, c.peek-then-marks-eq1-4.ensures, c.peek-then-marks-eq1-5.ensures)
 
-pub returns : goal.returns
+pub returns-else-marks-eq1 : goal.returns-else-marks-eq1
 unfolding time_in
-returns c = rw (← c.peek-marks.ensures, ne_eqb _ _ c.if-marks-eq1.false)
+returns-else-marks-eq1 c = rw (← c.peek-marks.ensures, ne_eqb _ _ c.if-marks-eq1.false)

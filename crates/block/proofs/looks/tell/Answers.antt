@@ -6,5 +6,5 @@ use Rattle.block.proofs.looks.tell.Goals as goal
 
 pub returns : goal.returns
 returns c =
-    let e = c.figures_of-f.ensures in
+    let e = c.from-f.ensures in
     record { number = ap (λ (f : Figures). f.number) e; first = ap (λ (f : Figures). f.first) e; second = ap (λ (f : Figures). f.second) e }

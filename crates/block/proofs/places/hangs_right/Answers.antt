@@ -5,8 +5,7 @@ use native.Mathlib.Omega.{arith}
 use mathlib.Core.Path.{◌≡◌, sym, ap, ap₂, ◌∙◌}
 use mathlib.Core.Bool.{Bool}
 use mathlib.Core.List.{List}
-use lib.Dec.{eqb}
-use borrow.Author.Tests.{eq-eqb, ne_eqb}
+use borrow.Author.Tests.{eq-eqb}
 use Rattle.lists.specs.Test.{flag}
 use Rattle.jkf.specs.Trees.{has_ply, hang_test, HangAs}
 use Rattle.jkf.specs.inner.Climbing.{climb, follows, hangs_right}
@@ -34,19 +33,6 @@ module _ (b : List ℕ) (k : ℕ) where
       → follows (version_in b) (start_of b) (parent_of b) k (climb (parent_of b) (parent_of b k) k (k - 1)) ≡ r
   after e f h = sym (h ∙ ap (λ (x : ℕ). follows (version_in b) (start_of b) (parent_of b) k x) (f ∙ ap (λ (x : ℕ). climb (parent_of b) x k (k - 1)) e))
 
-pub returns-then-start-eq0 : goal.returns-then-start-eq0
-returns-then-start-eq0 c =
-    let b = c.args.b.now in
-    let k = c.if-k-eq0.true in
-    rw (eq-eqb _ _ k, eq-eqb (start_of b 0) 0 (ap (start_of b) (sym k) ∙ sym c.start_of-start.ensures.0 ∙ c.if-start-eq0.true))
-    (ap (λ (n : ℕ). eqb n 0) (c.parent_of-p.ensures.0 ∙ ap (parent_of b) k))
-
-pub returns-else-start-eq0 : goal.returns-else-start-eq0
-returns-else-start-eq0 c =
-    let b = c.args.b.now in
-    let k = c.if-k-eq0.true in
-    rw (eq-eqb _ _ k, ne_eqb (start_of b 0) 0 (λ e. c.if-start-eq0.false (c.start_of-start.ensures.0 ∙ ap (start_of b) k ∙ e))) (ne_eqb _ _ c.if-start-eq0.false)
-
 pub returns-then-k-p : goal.returns-then-k-p
 returns-then-k-p c =
     let b = c.args.b.now in
@@ -65,7 +51,7 @@ pub returns-then-p-k : goal.returns-then-p-k
 returns-then-p-k c =
     let b = c.args.b.now in
     let p = c.parent_of-p.ensures.0 in
-    later b c.args.k c.if-k-eq0.false c.requires.1
+    eq-eqb _ _ c.if-p-k.true ∙ later b c.args.k c.if-k-eq0.false c.requires.1
     (right_next (version_in b) (start_of b) (entry_count b) (parent_of b) c.args.k (omega (arith, c.if-k-p.false, p))
     (has b c.args.k p c.start_of-start.ensures.0 c.has_ply.ensures ∙ c.if-not-has_ply.false)
     (omega (arith, c.if-p-k.true, p)))
@@ -79,8 +65,8 @@ pub follows-requires : goal.follows-requires
 follows-requires c =
     (c.requires.0, c.climb.ensures.1, c.parent_of-p.ensures.0)
 
-pub returns : goal.returns
-returns c =
+pub returns-else-p-k : goal.returns-else-p-k
+returns-else-p-k c =
     let b = c.args.b.now in
     let p = c.parent_of-p.ensures.0 in
     let n = c.if-p-k.false in

@@ -1,12 +1,14 @@
+-- Each byte is read from its place.
+-- Assumes nothing.
+use Prim.Native.Nat.{◌+◌}
+use mathlib.Core.Path.{◌≡◌, refl}
+use lib.ListN.{get_or}
 use borrow.Author.Rules.{rules}
-use Rattle.block.proofs.ByteArrays.{held_none, held_more, held_all}
+use Rattle.block.proofs.ByteArrays.{bytes_as, given}
 use Rattle.block.proofs.position_bytes.cells_in.Goals as goal
 
-pub loop-i-init : goal.loop-i-init
-loop-i-init c = held_none _ _ 81 4 (search rules)
-
-pub loop-i-preserved : goal.loop-i-preserved
-loop-i-preserved c = held_more _ c.loop-i.invariant c.loop-i-test.true c.peek.ensures
-
 pub returns : goal.returns
-returns c = held_all c.loop-i.invariant c.loop-i-test.false
+returns c =
+    let s = c.args.s.now in
+    bytes_as s c.from_fn.result 4 81 c.from_fn.ensures.items.long
+    (given (λ p. p.0.now ≡ s) (λ i. get_or s (4 + i) 0) (λ p q i y w k. (search rules, search rules)) c.from_fn.result 81 refl c.from_fn.ensures.items.each)

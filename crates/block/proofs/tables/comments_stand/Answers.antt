@@ -8,10 +8,10 @@ use Rattle.block.proofs.Spans.{comment_stands}
 use Rattle.block.proofs.tables.comments_stand.Goals as goal
 
 pub loop-k-init : goal.loop-k-init
-loop-k-init c = (omega arith, omega arith, passed_start _ _ _ _ c.requires.0)
+loop-k-init c = (omega arith, passed_start _ _ _ _ c.requires.0)
 
 pub comment_stands-requires : goal.comment_stands-requires
-comment_stands-requires c = (c.comment_place-rows.ensures.0, omega (arith, c.comments-n.ensures, c.comment_place-rows.ensures, c.requires.3), c.loop-k.invariant.2.sums, omega (arith, c.comments-n.ensures), omega arith)
+comment_stands-requires c = (c.comment_place-rows.ensures.0, omega (arith, c.comments-n.ensures, c.comment_place-rows.ensures, c.requires.3), c.loop-k.invariant.1.sums, omega (arith, c.comments-n.ensures), omega arith)
 
 pub returns-then-not-comment_stands : goal.returns-then-not-comment_stands
 returns-then-not-comment_stands c =
@@ -36,9 +36,9 @@ loop-k-preserved c =
     let b = c.args.b.now in
     let z : c.comment_place-rows.result + 4 * l.k + 2 ≡ comment_place b l.k + 2 = omega (arith, c.comment_place-rows.ensures.0) in
     let e : c.pair-at.result ≡ comment_length b l.k = c.pair-at.ensures.0 ∙ ap (le16 b) z in
-    (omega arith, omega arith, passed_more _ _ _ l.invariant.2 (sym c.comment_stands.ensures ∙ c.if-not-comment_stands.false) (omega arith))
+    (omega arith, passed_more _ _ _ l.invariant.1 (sym c.comment_stands.ensures ∙ c.if-not-comment_stands.false) (omega arith))
 
 pub returns : goal.returns
 returns c =
     let l = c.loop-k in
-    sym (passed_all _ _ (comments_in c.args.b.now) l.invariant.2 (omega (arith, c.comments-n.ensures)))
+    sym (passed_all _ _ (comments_in c.args.b.now) l.invariant.1 (omega (arith, c.comments-n.ensures)))

@@ -1,6 +1,6 @@
 -- The comments passed all stand, and their texts end at `at` (`Passing`).
 -- Assumes nothing.
-use Prim.Native.Nat.{◌+◌, ◌*◌, ◌-◌, ◌≤◌}
+use Prim.Native.Nat.{◌+◌, ◌*◌, ◌≤◌}
 use Rattle.block.specs.Decode.{headers_in, comment_length}
 use Rattle.block.specs.Sound.{header_bytes}
 use Rattle.block.proofs.TablePasses.{Passed}
@@ -9,7 +9,4 @@ use Rattle.block.proofs.tables.comments_stand.Given as goal
 
 abbrev pub invariant-loop-k : goal.invariant-loop-k
 invariant-loop-k l =
-    (l.k ≤ l.n) × (l.at ≤ 8600000000 + 65535 * l.k) × Passed (comment_stands l.b l.t) (comment_length l.b) (header_bytes l.b (headers_in l.b)) l.k l.at
-
-abbrev pub decreases-loop-k : goal.decreases-loop-k
-decreases-loop-k l = l.n - l.k
+    (l.at ≤ 8600000000 + 65535 * l.k) × Passed (comment_stands l.b l.t) (comment_length l.b) (header_bytes l.b (headers_in l.b)) l.k l.at

@@ -8,11 +8,11 @@ use Rattle.block.proofs.tables.headers_stand.Goals as goal
 
 pub loop-k-init : goal.loop-k-init
 loop-k-init c =
-    (omega arith, omega arith, passed_start _ _ 0 0 (omega arith))
+    (omega arith, passed_start _ _ 0 0 (omega arith))
 
 pub header_stands-requires : goal.header_stands-requires
 header_stands-requires c =
-    (omega (arith, c.headers-n.ensures), omega (arith, c.headers-n.ensures), c.loop-k.invariant.2.sums ∙ zero-add _, omega arith, omega arith)
+    (omega (arith, c.headers-n.ensures), omega (arith, c.headers-n.ensures), c.loop-k.invariant.1.sums ∙ zero-add _, omega arith, omega arith)
 
 pub returns-then-not-header_stands : goal.returns-then-not-header_stands
 returns-then-not-header_stands c =
@@ -54,9 +54,9 @@ pair-requires-in-loop-k c =
 pub loop-k-preserved : goal.loop-k-preserved
 loop-k-preserved c =
     let l = c.loop-k in
-    (omega arith, omega arith, passed_more _ _ _ l.invariant.2 (sym c.header_stands.ensures ∙ c.if-not-header_stands.false) (omega arith))
+    (omega arith, passed_more _ _ _ l.invariant.1 (sym c.header_stands.ensures ∙ c.if-not-header_stands.false) (omega arith))
 
 pub returns : goal.returns
 returns c =
     let l = c.loop-k in
-    sym (passed_all _ _ (headers_in c.args.b.now) l.invariant.2 (omega (arith, c.headers-n.ensures)))
+    sym (passed_all _ _ (headers_in c.args.b.now) l.invariant.1 (omega (arith, c.headers-n.ensures)))

@@ -1,23 +1,25 @@
-use native.Mathlib.Omega.{arith}
-use mathlib.Core.Path.{sym, ◌∙◌}
-use Rattle.text.proofs.Laws.{lengths_differ}
-use Rattle.block.proofs.Orders.{same_end, same_off, same-on}
+-- The equality of the library is that of the definition.
+-- Assumes nothing.
+use Prim.Native.Nat.{ℕ}
+use mathlib.Core.Path.{◌≡◌, refl, ◌∙◌}
+use mathlib.Core.List.{List, [], ◌∷◌}
+use Rattle.std.specs.Prelude.{nat_eq}
+use Rattle.std.specs.Cmp.Lexicographic.{pointwise}
+use mathlib.Core.Bool.{Bool, true, false, ◌&&◌}
+use Rattle.lists.specs.Pick.{pick}
+use Rattle.text.specs.Text.{same}
 use Rattle.block.proofs.texts.is_same.Goals as goal
 
-pub returns-then-a-b : goal.returns-then-a-b
-returns-then-a-b c = sym (lengths_differ c.args.a.now c.args.b.now c.if-a-b.true)
+both : (s t : Bool) → (s && t) ≡ pick s t false
+both true t = refl
+both false t = refl
 
-pub returns-then-a-i : goal.returns-then-a-i
-returns-then-a-i c =
-    let a = c.args in
-    sym (c.loop-i.invariant ∙ same_off a.a.now a.b.now c.loop-i.i (omega arith) (omega arith) c.if-a-i.true)
-
-pub loop-i-preserved : goal.loop-i-preserved
-loop-i-preserved c =
-    let a = c.args in
-    c.loop-i.invariant ∙ same-on a.a.now a.b.now c.loop-i.i (omega arith) (omega arith) c.if-a-i.false
+same_bytes : (a b : List ℕ) → pointwise nat_eq a b ≡ same a b
+unfolding same
+same_bytes [] [] = refl
+same_bytes [] (y ∷ b) = refl
+same_bytes (x ∷ a) [] = refl
+same_bytes (x ∷ a) (y ∷ b) = rw (same_bytes a b) (both (nat_eq x y) (same a b))
 
 pub returns : goal.returns
-returns c =
-    let a = c.args in
-    sym (c.loop-i.invariant ∙ same_end a.a.now a.b.now c.loop-i.i (omega arith) (omega arith))
+returns c = c.eq.ensures ∙ same_bytes c.args.a.now c.args.b.now

@@ -9,7 +9,7 @@ use Rattle.block.proofs.Cuts.{row_in}
 use Rattle.converter.specs.Entries.{can_write}
 use Rattle.converter.specs.Said.{said_entry, said_noted}
 use Rattle.converter.specs.inner.Lines.{noted_said}
-use Rattle.converter.proofs.Blocked.{entry_first, entry_more, entry-none}
+use Rattle.converter.proofs.Blocked.{entry_more, entry-none}
 use Rattle.converter.proofs.checks.entry_obstacle.Goals as goal
 use Rattle.converter.proofs.checks.entry_obstacle.Goals.{After-rest}
 
@@ -18,15 +18,6 @@ row_is : (c : After-rest) → c.rest.result.now ≡ drop (move_place c.args.b.no
 row_is c =
     let k = c.args.first + c.loop-i.i in
     c.rest.ensures ∙ ap (drop (20 * k)) c.row_of-rows.ensures ∙ row_in c.args.b.now k
-
-pub loop-i-init : goal.loop-i-init
-loop-i-init c = (omega arith, entry_first c.args.line (noted_said c.args.mode c.args.b.now) c.args.first c.args.count 0)
-
-pub overflow_add-first : goal.overflow_add-first
-overflow_add-first c = omega (arith, c.requires)
-
-pub overflow_mul-first : goal.overflow_mul-first
-overflow_mul-first c = omega (arith, c.requires)
 
 pub returns-then-not-row_fits : goal.returns-then-not-row_fits
 unfolding said_noted

@@ -9,6 +9,3 @@ use Rattle.converter.proofs.checks.entry_obstacle.Given as goal
 
 abbrev pub invariant-loop-i : goal.invariant-loop-i
 invariant-loop-i l = (l.i ≤ l.count) × (entry_obstacle l.line 0 (run (noted_said l.mode l.b) l.first l.count) ≡ entry_obstacle l.line l.i (run (noted_said l.mode l.b) (l.first + l.i) (l.count - l.i)))
-
-abbrev pub decreases-loop-i : goal.decreases-loop-i
-decreases-loop-i l = l.count - l.i

@@ -1,13 +1,10 @@
 use Prim.Native.Nat.{◌≤◌, ◌<◌}
 use native.Mathlib.Omega.{arith}
-use mathlib.Core.Path.{refl, sym, ◌∙◌}
+use mathlib.Core.Path.{sym, ◌∙◌}
 use lib.ListN.{get_or}
 use borrow.Author.Tests.{lt-ltb, le-ltb}
 use Rattle.converter.proofs.Blocked.{hand-more, hand-none}
 use Rattle.converter.proofs.checks.hand_obstacle.Goals as goal
-
-pub loop-i-init : goal.loop-i-init
-loop-i-init c = (omega arith, refl)
 
 pub returns-then-peek-gt99 : goal.returns-then-peek-gt99
 returns-then-peek-gt99 c =

@@ -7,6 +7,3 @@ use Rattle.converter.proofs.checks.hand_obstacle.Given as goal
 
 abbrev pub invariant-loop-i : goal.invariant-loop-i
 invariant-loop-i l = (l.i ≤ 14) × (hand_obstacle l.hands 0 14 ≡ hand_obstacle l.hands l.i (14 - l.i))
-
-abbrev pub decreases-loop-i : goal.decreases-loop-i
-decreases-loop-i l = 14 - l.i

@@ -9,7 +9,4 @@ use Rattle.converter.specs.inner.Lines.{line_said}
 use Rattle.converter.proofs.checks.lines_obstacle.Given as goal
 
 abbrev pub invariant-loop-k : goal.invariant-loop-k
-invariant-loop-k l = (l.k ≤ l.lines) × (line_obstacle 0 (said_lines l.mode (decode l.b).lines) ≡ line_obstacle l.k (run (line_said l.mode l.b) l.k (l.lines - l.k)))
-
-abbrev pub decreases-loop-k : goal.decreases-loop-k
-decreases-loop-k l = l.lines - l.k
+invariant-loop-k l = (l.k ≤ l.s.lines) × (line_obstacle 0 (said_lines l.mode (decode l.s.block.bytes.now).lines) ≡ line_obstacle l.k (run (line_said l.mode l.s.block.bytes.now) l.k (l.s.lines - l.k)))

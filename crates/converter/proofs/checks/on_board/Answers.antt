@@ -9,10 +9,10 @@ pub returns-then-row-eq1 : goal.returns-then-row-eq1
 unfolding target_in
 returns-then-row-eq1 c = sym (rw (eq-eqb _ _ c.if-row-eq1.true))
 
-pub returns-then-not-within : goal.returns-then-not-within
+pub returns-then-within : goal.returns-then-within
 unfolding target_in
-returns-then-not-within c = sym (rw (ne_eqb _ _ c.if-row-eq1.false, ← c.within.ensures, c.if-not-within.true))
+returns-then-within c = rw (ne_eqb _ _ c.if-row-eq1.false, ← c.within.ensures, c.if-within.true, ← c.within-then-within.ensures)
 
-pub returns : goal.returns
+pub returns-else-within : goal.returns-else-within
 unfolding target_in
-returns c = rw (ne_eqb _ _ c.if-row-eq1.false, ← c.within.ensures, c.if-not-within.false, ← c.within-2.ensures)
+returns-else-within c = sym (rw (ne_eqb _ _ c.if-row-eq1.false, ← c.within.ensures, c.if-within.false))

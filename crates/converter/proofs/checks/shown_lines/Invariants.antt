@@ -8,7 +8,4 @@ use Rattle.converter.specs.Said.{shown}
 use Rattle.converter.proofs.checks.shown_lines.Given as goal
 
 abbrev pub invariant-loop-k : goal.invariant-loop-k
-invariant-loop-k l = (1 ≤ l.k) × (l.k ≤ l.count) × (shown (run (line_in l.b) 1 (l.count - 1)) ≡ run (line_in l.b) 1 (l.k - 1) ++ shown (run (line_in l.b) l.k (l.count - l.k)))
-
-abbrev pub decreases-loop-k : goal.decreases-loop-k
-decreases-loop-k l = l.count - l.k
+invariant-loop-k l = (1 ≤ l.k) × (l.k ≤ l.count) × (shown (run (line_in l.b.bytes.now) 1 (l.count - 1)) ≡ run (line_in l.b.bytes.now) 1 (l.k - 1) ++ shown (run (line_in l.b.bytes.now) l.k (l.count - l.k)))

@@ -1,5 +1,6 @@
 -- The plain text is asked for none; of the others the first line that is not shown.
 -- Assumes nothing.
+use mathlib.Core.Logic.{inl, inr}
 use Rattle.converter.specs.Show.{start_obstacle}
 use Rattle.converter.proofs.checks.start_obstacle.Goals as goal
 
@@ -9,8 +10,4 @@ returns-in-Plain c = rw c.in-Plain.is
 
 pub returns-in-Whole : goal.returns-in-Whole
 unfolding start_obstacle
-returns-in-Whole c = rw c.in-Whole.is c.lost_line.ensures
-
-pub returns-in-Shared : goal.returns-in-Shared
-unfolding start_obstacle
-returns-in-Shared c = rw c.in-Shared.is c.lost_line-in-Shared.ensures
+returns-in-Whole c = elim c.in-Whole.is [ inl e ↦ rw e c.lost_line.ensures | inr e ↦ rw e c.lost_line.ensures ]

@@ -1,5 +1,5 @@
 -- The line of headings, line 0 and the lines on it, each with all that hangs from it, are written one after another: together they are all the lines
--- that are shown, since every line hangs on line 0 or on one after it. Which lines are shown, the caller says.
+-- that are shown, since every line hangs on line 0 or on one after it. Which lines are shown, the block's type says.
 -- Assumes nothing.
 use mathlib.Core.Path.{ap, ◌∙◌}
 use Prim.Native.Nat.{ℕ, ◌-◌}
@@ -14,6 +14,7 @@ use Rattle.converter.specs.inner.Lines.{line_said}
 use Rattle.converter.proofs.Branches.{before-all}
 use Rattle.converter.proofs.Playing.{lines-text}
 use Rattle.lent.proofs.Room.{room_after, room_as, room-front}
+use Rattle.block.proofs.Sounding.{keeps}
 use Rattle.converter.proofs.kif.put_moves.Goals as goal
 
 pub slice_bounds-put_main-count : goal.slice_bounds-put_main-count
@@ -25,12 +26,11 @@ slice_bounds-put_main-start c = slice_bounds-put_main-count c
 pub put_main-requires : goal.put_main-requires
 put_main-requires c =
     let a = c.args in
-    let b = a.b.now in
-    let p = c.requires in
+    let b = a.s.block.bytes.now in
     let t = main_text (line_said a.mode b 0) in
-    let v = concat variation_text (run (line_said a.mode b) 1 (a.lines - 1)) in
-    let h = room-front (number_line ++ t) v (room_as (lines-text a.mode b p.0) p.1) in
-    (p.0.sound, room_after t (wrote_all {t = number_line} (room-front number_line t h) c.put_bytes-n.ensures) h)
+    let v = concat variation_text (run (line_said a.mode b) 1 (a.s.lines - 1)) in
+    let h = room-front (number_line ++ t) v (room_as (lines-text a.mode b a.s.counted) c.requires) in
+    room_after t (wrote_all {t = number_line} (room-front number_line t h) c.put_bytes-n.ensures) h
 
 pub overflow_add-m : goal.overflow_add-m
 overflow_add-m c = sum_fits (then c.put_bytes-n.ensures c.put_main.ensures) c.well_formed.0.0
@@ -44,26 +44,24 @@ slice_bounds-put_under-start c = slice_bounds-put_under-count c
 pub put_under-requires : goal.put_under-requires
 put_under-requires c =
     let a = c.args in
-    let b = a.b.now in
-    let p = c.requires in
+    let b = a.s.block.bytes.now in
     let t = main_text (line_said a.mode b 0) in
-    let v = concat variation_text (run (line_said a.mode b) 1 (a.lines - 1)) in
-    let r = room_as (lines-text a.mode b p.0) p.1 in
+    let v = concat variation_text (run (line_said a.mode b) 1 (a.s.lines - 1)) in
+    let r = room_as (lines-text a.mode b a.s.counted) c.requires in
     let h = room-front number_line t (room-front (number_line ++ t) v r) in
     let w = then (wrote_all {t = number_line} h c.put_bytes-n.ensures) c.put_main.ensures in
-    let g = sound_branched b p.0.sound in
-    (p.0.sound, omega arith, omega (arith, p.0.some, p.0.most), λ z. omega (arith, (g.each 1 (omega arith) (omega (arith, p.0.most))).before), room_after v w r)
+    let g = sound_branched b (keeps a.s.block) in
+    (omega arith, omega (arith, a.s.counted.some, a.s.counted.most), λ z. omega (arith, (g.each 1 (omega arith) (omega (arith, a.s.counted.most))).before), room_after v w r)
 
 pub returns : goal.returns
 returns c =
     let a = c.args in
-    let b = a.b.now in
-    let p = c.requires in
+    let b = a.s.block.bytes.now in
     let t = main_text (line_said a.mode b 0) in
-    let v = concat variation_text (run (line_said a.mode b) 1 (a.lines - 1)) in
-    let e = lines-text a.mode b p.0 in
-    let h = room-front number_line t (room-front (number_line ++ t) v (room_as e p.1)) in
-    let all = ap (λ (m : ℕ). concat variation_text (run (line_said a.mode b) 1 m)) (c.put_under.ensures.lines_value ∙ before-all (line_in b) (a.lines - 1) 1) in
+    let v = concat variation_text (run (line_said a.mode b) 1 (a.s.lines - 1)) in
+    let e = lines-text a.mode b a.s.counted in
+    let h = room-front number_line t (room-front (number_line ++ t) v (room_as e c.requires)) in
+    let all = ap (λ (m : ℕ). concat variation_text (run (line_said a.mode b) 1 m)) (c.put_under.ensures.lines_value ∙ before-all (line_in b) (a.s.lines - 1) 1) in
     as_text e (then (then (wrote_all {t = number_line} h c.put_bytes-n.ensures) c.put_main.ensures) (as_text all c.put_under.ensures.wrote))
 
 pub overflow_add-result : goal.overflow_add-result

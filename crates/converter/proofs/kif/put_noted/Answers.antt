@@ -14,25 +14,26 @@ use Rattle.converter.specs.Said.{said_entry}
 use Rattle.converter.proofs.Playing.{row_number, noted-text, noted_bare}
 use Rattle.lent.proofs.Room.{room_after, room_as, room-front}
 use Rattle.block.proofs.Within.{moves-small, comments-within, comments-small}
+use Rattle.block.proofs.Sounding.{keeps}
 use Rattle.converter.proofs.kif.put_noted.Goals as goal
 use Rattle.converter.proofs.kif.put_noted.Goals.{After-rest-row}
 
-row_is : (c : After-rest-row) → c.rest-row.result.now ≡ drop (move_place c.args.b.now c.args.k) c.args.b.now
+row_is : (c : After-rest-row) → c.rest-row.result.now ≡ drop (move_place c.args.b.bytes.now c.args.k) c.args.b.bytes.now
 row_is c =
-    c.rest-row.ensures ∙ ap (drop (20 * c.args.k)) c.requires.3 ∙ row_in c.args.b.now c.args.k
+    c.rest-row.ensures ∙ ap (drop (20 * c.args.k)) c.requires.2 ∙ row_in c.args.b.bytes.now c.args.k
 
 pub overflow_mul-k : goal.overflow_mul-k
-overflow_mul-k c = omega (arith, moves-small c.args.b.now c.requires.0)
+overflow_mul-k c = omega (arith, moves-small c.args.b.bytes.now (keeps c.args.b))
 
 pub put_row-n-requires : goal.put_row-n-requires
 put_row-n-requires c =
-    let b = c.args.b.now in
-    let h = room_as (noted-text c.args.mode b c.args.ply c.args.k ((row_is (goal.at.put_row-n-requires c).After-rest-row)) refl refl) c.requires.2 in
+    let b = c.args.b.bytes.now in
+    let h = room_as (noted-text c.args.mode b c.args.ply c.args.k ((row_is (goal.at.put_row-n-requires c).After-rest-row)) refl refl) c.requires.1 in
     room-front (entry_line c.args.ply (said_entry c.args.mode (entry_in c.rest-row.result.now))) (remarks_text (noted_in b c.args.k).comments) h
 
 pub returns-then-count-eq0 : goal.returns-then-count-eq0
 returns-then-count-eq0 c =
-    let b = c.args.b.now in
+    let b = c.args.b.bytes.now in
     let r = row_is (goal.at.returns-then-count-eq0 c).After-rest-row in
     as_text (noted_bare c.args.mode b c.args.ply c.args.k r (row_number b c.args.k 18 r c.get16-count.ensures.0) c.if-count-eq0.true) c.put_row-n.ensures
 
@@ -44,18 +45,18 @@ slice_bounds-put_remarks-start c = slice_bounds-put_remarks-count c
 
 pub put_remarks-requires : goal.put_remarks-requires
 put_remarks-requires c =
-    let b = c.args.b.now in
+    let b = c.args.b.bytes.now in
     let k = c.args.k in
     let r = row_is (goal.at.put_remarks-requires c).After-rest-row in
     let e = row_number b k 16 r c.get16.ensures.0 in
     let f = row_number b k 18 r c.get16-count.ensures.0 in (
-      omega (arith, comments-within b c.requires.0 k c.requires.1, comments-small b c.requires.0),
-      room_after (remarks_text (run (comment_of b) c.get16.result c.get16-count.result)) c.put_row-n.ensures (room_as (noted-text c.args.mode b c.args.ply k r e f) c.requires.2),
+      omega (arith, comments-within b (keeps c.args.b) k c.requires.0, comments-small b (keeps c.args.b)),
+      room_after (remarks_text (run (comment_of b) c.get16.result c.get16-count.result)) c.put_row-n.ensures (room_as (noted-text c.args.mode b c.args.ply k r e f) c.requires.1),
     )
 
 pub returns : goal.returns
 returns c =
-    let b = c.args.b.now in
+    let b = c.args.b.bytes.now in
     let k = c.args.k in
     let r = row_is (goal.at.returns c).After-rest-row in
     let e = row_number b k 16 r c.get16.ensures.0 in

@@ -10,14 +10,14 @@ use Rattle.converter.proofs.kif.put_origin.Goals as goal
 pub put_from-requires : goal.put_from-requires
 unfolding origin_text
 put_from-requires c =
-    room_of origin_text c.in-From.is c.requires
+    room_of origin_text c.in-Some.is c.requires
 
-pub returns-in-Unknown : goal.returns-in-Unknown
+pub returns-in-None : goal.returns-in-None
 unfolding origin_text
-returns-in-Unknown c =
-    bytes_of (ap origin_text (sym c.in-Unknown.is)) c.requires c.put_bytes.ensures
+returns-in-None c =
+    bytes_of (ap origin_text (sym c.in-None.is)) c.requires c.put_bytes.ensures
 
-pub returns-in-From : goal.returns-in-From
+pub returns-in-Some : goal.returns-in-Some
 unfolding origin_text
-returns-in-From c =
-    as_text (ap origin_text (sym c.in-From.is)) c.put_from.ensures
+returns-in-Some c =
+    as_text (ap origin_text (sym c.in-Some.is)) c.put_from.ensures

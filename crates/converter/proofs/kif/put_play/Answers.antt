@@ -25,4 +25,4 @@ returns-in-Moved c =
 pub returns-in-End : goal.returns-in-End
 unfolding play_text special_text
 returns-in-End c =
-    bytes_of (ap (spelled written_specials) c.number_of.ensures ∙ ap play_text (sym c.in-End.is)) c.requires c.put_special.ensures
+    bytes_of (ap (spelled written_specials) c.from.ensures ∙ ap play_text (sym c.in-End.is)) c.requires c.put_special.ensures

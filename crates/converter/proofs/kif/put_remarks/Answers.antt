@@ -1,9 +1,8 @@
 use Prim.Native.Nat.{◌+◌, zero-le}
 use native.Mathlib.Omega.{arith}
-use mathlib.Core.Path.{◌≡◌, sym}
+use mathlib.Core.Path.{sym}
 use lib.ListN.{length}
-use borrow.Author.Rules.{rules}
-use Rattle.lent.proofs.Writes.{as_text, nothing, wrote_length, rest_length}
+use Rattle.lent.proofs.Writes.{as_text, nothing}
 use Rattle.block.specs.Decode.{comment_of}
 use Rattle.converter.specs.Entries.{remark_text}
 use Rattle.converter.proofs.Runs.{remarks_none, remarks_front, remarks_step}
@@ -15,15 +14,6 @@ loop-i-init c =
     let a = c.args in
     (zero-le, as_text (sym (remarks_none (comment_of a.b.now) a.first)) (nothing _))
 
-pub slice_bounds-put_remark-count : goal.slice_bounds-put_remark-count
-slice_bounds-put_remark-count c =
-    omega (arith, wrote_length c.loop-i.invariant.1)
-
-pub slice_bounds-put_remark-start : goal.slice_bounds-put_remark-start
-slice_bounds-put_remark-start c =
-    let h = wrote_length c.loop-i.invariant.1 in
-    search rules
-
 pub put_remark-at-requires : goal.put_remark-at-requires
 put_remark-at-requires c =
     let a = c.args in
@@ -31,18 +21,8 @@ put_remark-at-requires c =
     let h = remarks_front (comment_of a.b.now) a.first l.i a.count (omega arith) in
     rw c.comment_of.ensures (room_left (length (remark_text (comment_of a.b.now (a.first + l.i)))) l.invariant.1 (omega (arith, l.invariant.1.count, c.requires.1)))
 
-pub overflow_add-at : goal.overflow_add-at
-overflow_add-at c =
-    let l = c.loop-i in
-    omega (arith, wrote_length l.invariant.1, rest_length l.out l.at)
-
 pub loop-i-preserved : goal.loop-i-preserved
 loop-i-preserved c =
     let a = c.args in
     let l = c.loop-i in
     (omega arith, remarks_step (comment_of a.b.now) a.first l.i l.invariant.1 c.comment_of.ensures c.put_remark-at.ensures)
-
-pub returns : goal.returns
-returns c =
-    let e : c.loop-i.i ≡ c.args.count = omega arith in
-    rw e at c.loop-i.invariant.1

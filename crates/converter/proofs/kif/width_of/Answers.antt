@@ -18,4 +18,4 @@ returns-in-Moved c = (c.move_width.ensures.0 ∙ ap width_of (sym c.in-Moved.is)
 pub returns-in-End : goal.returns-in-End
 unfolding width_of
 returns-in-End c =
-    (c.special_width.ensures.0 ∙ ap (λ n. special_width (special_of n)) c.number_of.ensures ∙ ap special_width (special_back c.in-End.s) ∙ ap width_of (sym c.in-End.is), omega arith)
+    (c.special_width.ensures.0 ∙ ap (λ n. special_width (special_of n)) c.from.ensures ∙ ap special_width (special_back c.in-End.s) ∙ ap width_of (sym c.in-End.is), omega arith)

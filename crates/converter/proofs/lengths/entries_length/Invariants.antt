@@ -1,6 +1,6 @@
 -- The loop's invariant: the number is how long the entries passed are, at most 4295032904 each.
 -- Assumes nothing.
-use Prim.Native.Nat.{◌*◌, ◌-◌, ◌≤◌}
+use Prim.Native.Nat.{◌*◌, ◌≤◌}
 use mathlib.Core.Path.{◌≡◌}
 use lib.ListN.{length}
 use Rattle.block.specs.Decode.{run}
@@ -9,7 +9,4 @@ use Rattle.converter.specs.inner.Lines.{noted_said}
 use Rattle.converter.proofs.lengths.entries_length.Given as goal
 
 abbrev pub invariant-loop-i : goal.invariant-loop-i
-invariant-loop-i l = (l.i ≤ l.count) × (l.n ≡ length (entries_text l.ply (run (noted_said l.mode l.b) l.first l.i))) × (l.n ≤ 4295032904 * l.i)
-
-abbrev pub decreases-loop-i : goal.decreases-loop-i
-decreases-loop-i l = l.count - l.i
+invariant-loop-i l = (l.i ≤ l.count) × (l.n ≡ length (entries_text l.ply (run (noted_said l.mode l.b.bytes.now) l.first l.i))) × (l.n ≤ 4295032904 * l.i)

@@ -1,20 +1,20 @@
--- The five tests part the kinds by how long they are spelled.
+-- The arms part the kinds by how long they are spelled.
 -- Assumes nothing.
 use native.Mathlib.Omega.{arith}
 use Rattle.converter.proofs.Lengthy.{kind-none, kind-plain, kind-long, kind-high, kind-past}
 use Rattle.converter.proofs.lengths.kind_length.Goals as goal
 
-pub returns-then-kind-lt1 : goal.returns-then-kind-lt1
-returns-then-kind-lt1 c = (kind-none c.args.kind c.if-kind-lt1.true, omega arith)
+pub returns-in-1-to-9 : goal.returns-in-1-to-9
+returns-in-1-to-9 c = grind (arith, kind-plain c.args.kind, kind-high c.args.kind)
 
-pub returns-then-kind-lt10 : goal.returns-then-kind-lt10
-returns-then-kind-lt10 c = (kind-plain c.args.kind c.if-kind-lt1.false c.if-kind-lt10.true, omega arith)
+pub returns-in-1-to-9-2 : goal.returns-in-1-to-9-2
+returns-in-1-to-9-2 c = grind (arith, kind-plain c.args.kind, kind-high c.args.kind)
 
-pub returns-then-kind-lt13 : goal.returns-then-kind-lt13
-returns-then-kind-lt13 c = (kind-long c.args.kind c.if-kind-lt10.false c.if-kind-lt13.true, omega arith)
+pub returns-in-10-to-12 : goal.returns-in-10-to-12
+returns-in-10-to-12 c = grind (arith, kind-long c.args.kind)
 
-pub returns-then-kind-lt15 : goal.returns-then-kind-lt15
-returns-then-kind-lt15 c = (kind-high c.args.kind c.if-kind-lt13.false c.if-kind-lt15.true, omega arith)
+pub returns-in_default : goal.returns-in_default
+returns-in_default c = grind (arith, kind-none c.args.kind, kind-past c.args.kind)
 
-pub returns-else-kind-lt15 : goal.returns-else-kind-lt15
-returns-else-kind-lt15 c = (kind-past c.args.kind c.if-kind-lt15.false, omega arith)
+pub returns-in_default-2 : goal.returns-in_default-2
+returns-in_default-2 c = grind (arith, kind-none c.args.kind, kind-past c.args.kind)

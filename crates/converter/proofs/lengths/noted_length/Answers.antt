@@ -12,35 +12,36 @@ use Rattle.converter.specs.Entries.{entry_line, remarks_text}
 use Rattle.converter.specs.Said.{said_entry}
 use Rattle.converter.proofs.Playing.{row_number, noted-text, noted_bare}
 use Rattle.block.proofs.Within.{moves-small, comments-within, comments-small}
+use Rattle.block.proofs.Sounding.{keeps}
 use Rattle.converter.proofs.lengths.noted_length.Goals as goal
 use Rattle.converter.proofs.lengths.noted_length.Goals.{After-rest-row}
 
-row_is : (c : After-rest-row) → c.rest-row.result.now ≡ drop (move_place c.args.b.now c.args.k) c.args.b.now
+row_is : (c : After-rest-row) → c.rest-row.result.now ≡ drop (move_place c.args.b.bytes.now c.args.k) c.args.b.bytes.now
 row_is c =
-    c.rest-row.ensures ∙ ap (drop (20 * c.args.k)) c.requires.3 ∙ row_in c.args.b.now c.args.k
+    c.rest-row.ensures ∙ ap (drop (20 * c.args.k)) c.requires.2 ∙ row_in c.args.b.bytes.now c.args.k
 
 pub overflow_mul-k : goal.overflow_mul-k
-overflow_mul-k c = omega (arith, moves-small c.args.b.now c.requires.0)
+overflow_mul-k c = omega (arith, moves-small c.args.b.bytes.now (keeps c.args.b))
 
 pub returns-then-count-eq0 : goal.returns-then-count-eq0
 returns-then-count-eq0 c =
-    let b = c.args.b.now in
+    let b = c.args.b.bytes.now in
     let r = row_is (goal.at.returns-then-count-eq0 c).After-rest-row in
     let e = noted_bare c.args.mode b c.args.ply c.args.k r (row_number b c.args.k 18 r c.get16-count.ensures.0) c.if-count-eq0.true in
     (c.row_length-n.ensures.0 ∙ ap length e, omega arith)
 
 pub remarks_length-requires : goal.remarks_length-requires
 remarks_length-requires c =
-    let b = c.args.b.now in
+    let b = c.args.b.bytes.now in
     let k = c.args.k in
     let r = row_is (goal.at.remarks_length-requires c).After-rest-row in
     let e = row_number b k 16 r c.get16.ensures.0 in
     let f = row_number b k 18 r c.get16-count.ensures.0 in
-    omega (arith, comments-within b c.requires.0 k c.requires.1, comments-small b c.requires.0)
+    omega (arith, comments-within b (keeps c.args.b) k c.requires.0, comments-small b (keeps c.args.b))
 
 pub returns : goal.returns
 returns c =
-    let b = c.args.b.now in
+    let b = c.args.b.bytes.now in
     let k = c.args.k in
     let ply = c.args.ply in
     let r = row_is (goal.at.returns c).After-rest-row in

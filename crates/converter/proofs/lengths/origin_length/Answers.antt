@@ -6,15 +6,15 @@ use Rattle.converter.proofs.Lengthy.{unknown_length, from-length}
 use Rattle.converter.proofs.lengths.origin_length.Goals as goal
 
 pub overflow_add-result : goal.overflow_add-result
-overflow_add-result c = omega (arith, digits_three c.in-From.x (omega arith))
+overflow_add-result c = omega (arith, digits_three c.in-Some.x (omega arith))
 
-pub overflow_add-result-in-From : goal.overflow_add-result-in-From
-overflow_add-result-in-From c =
-    omega (arith, digits_three c.in-From.x (omega arith), digits_three c.in-From.y (omega arith))
+pub overflow_add-result-in-Some : goal.overflow_add-result-in-Some
+overflow_add-result-in-Some c =
+    omega (arith, digits_three c.in-Some.x (omega arith), digits_three c.in-Some.y (omega arith))
 
-pub returns-in-Unknown : goal.returns-in-Unknown
-returns-in-Unknown c = (unknown_length c.in-Unknown.is, omega arith)
+pub returns-in-None : goal.returns-in-None
+returns-in-None c = (unknown_length c.in-None.is, omega arith)
 
-pub returns-in-From : goal.returns-in-From
-returns-in-From c =
-    omega (arith, from-length c.in-From.is, digits_three c.in-From.x (omega arith), digits_three c.in-From.y (omega arith))
+pub returns-in-Some : goal.returns-in-Some
+returns-in-Some c =
+    omega (arith, from-length c.in-Some.is, digits_three c.in-Some.x (omega arith), digits_three c.in-Some.y (omega arith))

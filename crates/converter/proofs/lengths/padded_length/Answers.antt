@@ -5,10 +5,11 @@ use Rattle.lent.proofs.Digits.{digits_six}
 use Rattle.converter.proofs.Lengthy.{padded-wide, padded-long}
 use Rattle.converter.proofs.lengths.padded_length.Goals as goal
 
-pub returns-then-n-width : goal.returns-then-n-width
-returns-then-n-width c =
-    (padded-wide c.args.width c.args.v (omega arith), omega arith)
-
-pub returns-else-n-width : goal.returns-else-n-width
-returns-else-n-width c =
-    (padded-long c.args.width c.args.v c.decimal_len-n.result c.decimal_len-n.ensures (omega arith), omega (arith, digits_six c.args.v (omega arith)))
+pub returns : goal.returns
+returns c =
+    let w = c.args.width in
+    let v = c.args.v in
+    let n = c.decimal_len.result in (
+      λ fill. grind (arith, padded-wide w v, padded-long w v n c.decimal_len.ensures),
+      omega (arith, digits_six v (omega arith)),
+    )

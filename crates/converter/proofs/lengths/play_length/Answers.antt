@@ -11,4 +11,4 @@ pub returns-in-Moved : goal.returns-in-Moved
 returns-in-Moved c = omega (arith, play-length c.in-Moved.is)
 
 pub returns-in-End : goal.returns-in-End
-returns-in-End c = omega (arith, end-length c.number_of.result c.in-End.is c.number_of.ensures)
+returns-in-End c = omega (arith, end-length c.from.result c.in-End.is c.from.ensures)

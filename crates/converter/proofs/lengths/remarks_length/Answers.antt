@@ -1,9 +1,9 @@
 use Prim.Native.Nat.{◌+◌}
 use native.Mathlib.Omega.{arith}
-use mathlib.Core.Path.{◌≡◌, ap, ◌∙◌}
+use mathlib.Core.Path.{ap, ◌∙◌}
 use lib.ListN.{length}
-use Rattle.block.specs.Decode.{run, comment_place, comment_of}
-use Rattle.converter.specs.Entries.{remark_text, remarks_text}
+use Rattle.block.specs.Decode.{comment_place, comment_of}
+use Rattle.converter.specs.Entries.{remark_text}
 use Rattle.converter.proofs.Counted.{remark_within, remarks_zero, remarks_next}
 use Rattle.converter.proofs.lengths.remarks_length.Goals as goal
 
@@ -26,9 +26,3 @@ loop-i-preserved c =
     let r = c.remark_length-n.ensures ∙ ap (λ t. length (remark_text t)) c.comment_of.ensures in
     let m = remark_within b k (omega (arith, c.shared_slice_known-1.given (comment_place b k + 2), c.shared_slice_known-1.given (comment_place b k + 2 + 1))) in
     (omega arith, remarks_next (comment_of b) f l.i l.n c.remark_length-n.result l.invariant.1 r, omega arith)
-
-pub returns : goal.returns
-returns c =
-    let l = c.loop-i in
-    let z : l.i ≡ c.args.count = omega arith in
-    (l.invariant.1 ∙ ap (λ i. length (remarks_text (run (comment_of c.args.b.now) c.args.first i))) z, omega arith)

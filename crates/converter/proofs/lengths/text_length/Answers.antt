@@ -10,4 +10,4 @@ use Rattle.converter.proofs.lengths.text_length.Goals as goal
 pub returns : goal.returns
 returns c =
     let e = ap (λ p. length (position_text p)) c.position_of.ensures in
-    omega (arith, record_parts c.args.mode c.args.b.now c.args.lines c.requires)
+    omega (arith, record_parts c.args.mode c.args.s.block.bytes.now c.args.s.lines c.args.s.counted)

@@ -7,8 +7,9 @@ use Rattle.converter.proofs.lengths.time_length.Goals as goal
 pub returns-in-Untimed : goal.returns-in-Untimed
 returns-in-Untimed c = (untimed_length c.args.width c.in-Untimed.is, omega arith)
 
-pub returns-then-width-lt13 : goal.returns-then-width-lt13
-returns-then-width-lt13 c = omega (arith, timed_length c.args.width c.in-Timed.is, c.clock_length.ensures.0 32 47, c.clock_length-in-Timed.ensures.0 48 41)
-
-pub returns-else-width-lt13 : goal.returns-else-width-lt13
-returns-else-width-lt13 c = omega (arith, timed_length c.args.width c.in-Timed.is, c.clock_length.ensures.0 32 47, c.clock_length-in-Timed.ensures.0 48 41)
+pub returns-in-Timed : goal.returns-in-Timed
+returns-in-Timed c =
+    let e = timed_length c.args.width c.in-Timed.is in
+    let now = c.clock_length.ensures.0 32 47 in
+    let total = c.clock_length-in-Timed.ensures.0 48 41 in
+    (omega arith, omega arith)

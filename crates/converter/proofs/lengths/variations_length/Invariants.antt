@@ -11,7 +11,4 @@ use Rattle.converter.specs.inner.Lines.{line_said}
 use Rattle.converter.proofs.lengths.variations_length.Given as goal
 
 abbrev pub invariant-loop-k : goal.invariant-loop-k
-invariant-loop-k l = (1 ≤ l.k) × (l.k ≤ l.lines) × (l.n ≡ length (concat variation_text (run (line_said l.mode l.b) 1 (l.k - 1)))) × (l.n ≤ 19 * l.k + 4295032904 * entries_before l.b l.k)
-
-abbrev pub decreases-loop-k : goal.decreases-loop-k
-decreases-loop-k l = l.lines - l.k
+invariant-loop-k l = (1 ≤ l.k) × (l.k ≤ l.s.lines) × (l.n ≡ length (concat variation_text (run (line_said l.mode l.s.block.bytes.now) 1 (l.k - 1)))) × (l.n ≤ 19 * l.k + 4295032904 * entries_before l.s.block.bytes.now l.k)

@@ -1,5 +1,6 @@
 -- Each arm is that of `said_mark`.
 -- Assumes nothing.
+use mathlib.Core.Logic.{inl, inr}
 use Rattle.converter.specs.Said.{said_mark}
 use borrow.Author.Tests.{ne_eqb}
 use Rattle.converter.proofs.said.said_mark.Goals as goal
@@ -14,8 +15,4 @@ returns-else-promote-eq1 c = rw (c.in-Plain.is, ne_eqb _ _ c.if-promote-eq1.fals
 
 pub returns-in-Whole : goal.returns-in-Whole
 unfolding said_mark
-returns-in-Whole c = rw c.in-Whole.is
-
-pub returns-in-Shared : goal.returns-in-Shared
-unfolding said_mark
-returns-in-Shared c = rw c.in-Shared.is
+returns-in-Whole c = elim c.in-Whole.is [ inl e ↦ rw e | inr e ↦ rw e ]

@@ -1,11 +1,8 @@
 -- The invariant: places hold the leading keys of the entries passed. An entry's key is not that of one before it, since keys ascend.
 -- Assumes nothing.
-use Prim.Native.Nat.{◌≤◌, ◌-◌}
+use Prim.Native.Nat.{◌≤◌}
 use Rattle.converter.proofs.Heading.{PlacedTo}
 use Rattle.converter.proofs.starts.leading_places.Given as goal
 
 abbrev pub invariant-loop-k : goal.invariant-loop-k
-invariant-loop-k l = (l.k ≤ l.count) × PlacedTo l.b l.places l.k
-
-abbrev pub decreases-loop-k : goal.decreases-loop-k
-decreases-loop-k l = l.count - l.k
+invariant-loop-k l = (l.k ≤ l.count) × PlacedTo l.b.bytes.now l.places l.k

@@ -10,8 +10,8 @@ use Rattle.converter.proofs.starts.put_headers.Goals as goal
 pub put_leading-n-requires : goal.put_leading-n-requires
 unfolding headers_text
 put_leading-n-requires c =
-    let hs = stored_headers c.args.b.now in
-    (c.leading_places-places.ensures, room-front (leads c.args.b.now 12) (lines_of 0 hs) c.requires.1)
+    let hs = stored_headers c.args.b.bytes.now in
+    (c.leading_places-places.ensures, room-front (leads c.args.b.bytes.now 12) (lines_of 0 hs) c.requires)
 
 pub slice_bounds-put_others-count : goal.slice_bounds-put_others-count
 slice_bounds-put_others-count c = within c.put_leading-n.ensures
@@ -22,8 +22,8 @@ slice_bounds-put_others-start c = slice_bounds-put_others-count c
 pub put_others-requires : goal.put_others-requires
 unfolding headers_text
 put_others-requires c =
-    let b = c.args.b.now in
-    room_after (lines_of 0 (stored_headers b)) c.put_leading-n.ensures c.requires.1
+    let b = c.args.b.bytes.now in
+    room_after (lines_of 0 (stored_headers b)) c.put_leading-n.ensures c.requires
 
 pub returns : goal.returns
 unfolding headers_text

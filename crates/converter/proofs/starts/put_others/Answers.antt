@@ -1,7 +1,7 @@
 use Prim.Native.Nat.{ℕ}
 use native.Mathlib.Omega.{arith}
 use mathlib.Core.Path.{◌≡◌, sym, ap, ◌∙◌}
-use Rattle.lent.proofs.Writes.{then, nothing, as_text, within, sum_fits}
+use Rattle.lent.proofs.Writes.{then, nothing, as_text}
 use Rattle.block.specs.Decode.{run, header_in, headers_in, key_of}
 use Rattle.converter.specs.Headers.{leading_number, lines_of, header_line}
 use Rattle.converter.proofs.Heading.{number_in, line-in, lines_none, lines_more, lines_same, lines-room, wrote_as}
@@ -17,21 +17,12 @@ number c = number_in c.args.b.now c.loop-k.k c.texts_of-texts.ensures c.key_in-k
 pub loop-k-init : goal.loop-k-init
 loop-k-init c = (omega arith, as_text (sym (lines_none _ 0)) (nothing _))
 
-pub slice_bounds-put_header-count : goal.slice_bounds-put_header-count
-slice_bounds-put_header-count c = within c.loop-k.invariant.1
-
-pub slice_bounds-put_header-start : goal.slice_bounds-put_header-start
-slice_bounds-put_header-start c = slice_bounds-put_header-count c
-
 pub put_header-at-requires : goal.put_header-at-requires
 put_header-at-requires c =
     let l = c.loop-k in
     let b = c.args.b.now in
     let r = lines-room b 0 l.k (number (goal.at.put_header-at-requires c).After-leading_number ∙ c.if-leading_number-eq0.true) (omega arith) c.requires in
     room_as (line-in b l.k c.texts_of-texts.ensures c.key_in-key.ensures c.value_in.ensures) (room_after (header_line (header_in b l.k)) l.invariant.1 r)
-
-pub overflow_add-at : goal.overflow_add-at
-overflow_add-at c = sum_fits (then c.loop-k.invariant.1 c.put_header-at.ensures) c.well_formed.0.0
 
 pub loop-k-preserved : goal.loop-k-preserved
 loop-k-preserved c =

@@ -1,6 +1,6 @@
 use native.Mathlib.Omega.{arith}
 use mathlib.Core.Path.{◌≡◌, ap}
-use Rattle.lent.proofs.Writes.{as_text, within, sum_fits, then}
+use Rattle.lent.proofs.Writes.{as_text}
 use Rattle.converter.specs.Diagrams.{board_row, board_rows}
 use Rattle.converter.proofs.Ranged.{up_to, wrote_none, wrote_more, room-more}
 use Rattle.converter.proofs.starts.put_rows.Goals as goal
@@ -8,20 +8,11 @@ use Rattle.converter.proofs.starts.put_rows.Goals as goal
 pub loop-rank-init : goal.loop-rank-init
 loop-rank-init c = (omega arith, wrote_none _ _)
 
-pub slice_bounds-put_row-count : goal.slice_bounds-put_row-count
-slice_bounds-put_row-count c = within c.loop-rank.invariant.1
-
-pub slice_bounds-put_row-start : goal.slice_bounds-put_row-start
-slice_bounds-put_row-start c = slice_bounds-put_row-count c
-
 pub put_row-at-requires : goal.put_row-at-requires
 unfolding board_rows
 put_row-at-requires c =
     let l = c.loop-rank in
     (c.loop-rank-test.true, room-more (board_row c.args.cells.now) l.rank 9 l.invariant.1 c.loop-rank-test.true c.requires)
-
-pub overflow_add-at : goal.overflow_add-at
-overflow_add-at c = sum_fits (then c.loop-rank.invariant.1 c.put_row-at.ensures) c.well_formed.0.0
 
 pub loop-rank-preserved : goal.loop-rank-preserved
 loop-rank-preserved c = (omega arith, wrote_more _ c.loop-rank.rank c.loop-rank.invariant.1 c.put_row-at.ensures)

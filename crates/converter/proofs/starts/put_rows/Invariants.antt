@@ -1,6 +1,6 @@
--- The loop's invariant: the rows below `rank` have been written. The measure is what is left of 9.
+-- The loop's invariant: the rows below `rank` have been written.
 -- Assumes nothing.
-use Prim.Native.Nat.{◌-◌, ◌≤◌}
+use Prim.Native.Nat.{◌≤◌}
 use Rattle.lent.specs.Bytes.{Wrote}
 use Rattle.converter.specs.Diagrams.{board_row}
 use Rattle.converter.proofs.Ranged.{up_to}
@@ -8,6 +8,3 @@ use Rattle.converter.proofs.starts.put_rows.Given as goal
 
 abbrev pub invariant-loop-rank : goal.invariant-loop-rank
 invariant-loop-rank l = (l.rank ≤ 9) × Wrote (up_to (board_row l.cells) l.rank) l.initial.out l.out l.at
-
-abbrev pub decreases-loop-rank : goal.decreases-loop-rank
-decreases-loop-rank l = 9 - l.rank

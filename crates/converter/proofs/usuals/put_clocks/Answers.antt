@@ -7,6 +7,6 @@ use Rattle.converter.proofs.usuals.put_clocks.Goals.{then-m-lt10, else-m-lt10}
 
 pub returns : goal.returns
 returns c =
-    let row = c.args.row.now in
-    bytes_of (clocks-text row c.requires.0
-    (elim c.if-m-lt10.branch [ then-m-lt10 w ↦ blank_none w.if-m-lt10.true w.blank-is | else-m-lt10 w ↦ blank-some w.if-m-lt10.false w.blank-is ])) c.requires.1 c.put_bytes.ensures
+    let row = c.args.e.row.now in
+    bytes_of (clocks-text row c.args.e.usual
+    (elim c.if-m-lt10.branch [ then-m-lt10 w ↦ blank_none w.if-m-lt10.true w.blank-is | else-m-lt10 w ↦ blank-some w.if-m-lt10.false w.blank-is ])) c.requires c.put_bytes.ensures

@@ -7,7 +7,7 @@ use Rattle.converter.proofs.Usually.{short-text}
 use Rattle.converter.proofs.usuals.put_name.Goals as goal
 
 pub put_long_name-requires : goal.put_long_name-requires
-put_long_name-requires c = (c.requires.0, sym c.is_long.ensures ∙ c.if-is_long.true, c.requires.1)
+put_long_name-requires c = (sym c.is_long.ensures ∙ c.if-is_long.true, c.requires)
 
 pub overflow_cast-k : goal.overflow_cast-k
 overflow_cast-k c = low_byte _
@@ -20,4 +20,4 @@ overflow_cast-k-3 c = low_byte _
 
 pub returns : goal.returns
 returns c =
-    bytes_of (short-text c.args.row.now c.requires.0 c.kind_code-k.result (sym c.is_long.ensures ∙ c.if-is_long.false) c.kind_code-k.ensures) c.requires.1 c.put_bytes.ensures
+    bytes_of (short-text c.args.e.row.now c.args.e.usual c.kind_code-k.result (sym c.is_long.ensures ∙ c.if-is_long.false) c.kind_code-k.ensures) c.requires c.put_bytes.ensures

@@ -6,10 +6,10 @@ use mathlib.Core.Path.{◌∙◌}
 use Rattle.lent.proofs.Room.{bytes_of}
 use Rattle.converter.proofs.Usually.{file-same, file_square, rank_same, rank_square, start-text}
 use Rattle.converter.proofs.usuals.put_start.Goals as goal
-use Rattle.converter.proofs.usuals.put_start.Goals.{then-row-eq23, else-row-eq23, then-row-eq23-2, else-row-eq23-2}
+use Rattle.converter.proofs.usuals.put_start.Goals.{then-e-eq23, else-e-eq23, then-e-eq23-2, else-e-eq23-2}
 
 pub overflow_add-file : goal.overflow_add-file
-overflow_add-file c = omega (arith, (c.requires.0.target c.if-row-eq23.false).file)
+overflow_add-file c = omega (arith, (c.args.e.usual.target c.if-e-eq23.false).file)
 
 pub overflow_cast-file-2 : goal.overflow_cast-file-2
 overflow_cast-file-2 c = low_byte _
@@ -31,8 +31,8 @@ overflow_cast-rank-3 c = low_byte _
 
 pub returns : goal.returns
 returns c =
-    let row = c.args.row.now in
-    let u = c.requires.0 in
-    bytes_of (start-text row u c.if-row-eq23.file c.if-row-eq23-2.rank c.requires.1 c.spaced.ensures c.spaced-2.ensures
-    (elim c.if-row-eq23.branch [ then-row-eq23 w ↦ file-same row u w.if-row-eq23.true w.file-is | else-row-eq23 w ↦ file_square row u w.if-row-eq23.false w.file-is ])
-    (elim c.if-row-eq23-2.branch [ then-row-eq23-2 w ↦ rank_same row u w.if-row-eq23-2.true w.rank-is | else-row-eq23-2 w ↦ rank_square row u w.if-row-eq23-2.false (w.rank-is ∙ w.numeral_code-rank.ensures) ])) c.requires.2 c.put_bytes.ensures
+    let row = c.args.e.row.now in
+    let u = c.args.e.usual in
+    bytes_of (start-text row u c.if-e-eq23.file c.if-e-eq23-2.rank c.requires.0 c.spaced.ensures c.spaced-2.ensures
+    (elim c.if-e-eq23.branch [ then-e-eq23 w ↦ file-same row u w.if-e-eq23.true w.file-is | else-e-eq23 w ↦ file_square row u w.if-e-eq23.false w.file-is ])
+    (elim c.if-e-eq23-2.branch [ then-e-eq23-2 w ↦ rank_same row u w.if-e-eq23-2.true w.rank-is | else-e-eq23-2 w ↦ rank_square row u w.if-e-eq23-2.false (w.rank-is ∙ w.numeral_code-rank.ensures) ])) c.requires.1 c.put_bytes.ensures

@@ -8,7 +8,7 @@ use Rattle.converter.proofs.usuals.put_usual.Goals as goal
 
 pub put_start-a-requires : goal.put_start-a-requires
 put_start-a-requires c =
-    (c.requires.0, c.requires.1, (usual_room c.args.row.now c.requires.0 c.args.ply c.requires.2).0)
+    (c.requires.0, (usual_room c.args.e.row.now c.args.e.usual c.args.ply c.requires.1).0)
 
 pub slice_bounds-put_name-count : goal.slice_bounds-put_name-count
 slice_bounds-put_name-count c = within c.put_start-a.ensures
@@ -18,8 +18,8 @@ slice_bounds-put_name-start c = slice_bounds-put_name-count c
 
 pub put_name-requires : goal.put_name-requires
 put_name-requires c =
-    let row = c.args.row.now in
-    (c.requires.0, room_after (name_text row) c.put_start-a.ensures (usual_room row c.requires.0 c.args.ply c.requires.2).1)
+    let row = c.args.e.row.now in
+    room_after (name_text row) c.put_start-a.ensures (usual_room row c.args.e.usual c.args.ply c.requires.1).1
 
 pub overflow_add-b : goal.overflow_add-b
 overflow_add-b c = sum_fits (then c.put_start-a.ensures c.put_name.ensures) c.well_formed.0.0
@@ -32,8 +32,8 @@ slice_bounds-put_clocks-start c = slice_bounds-put_clocks-count c
 
 pub put_clocks-requires : goal.put_clocks-requires
 put_clocks-requires c =
-    let row = c.args.row.now in
-    (c.requires.0, room_after (clocks_text row) (then c.put_start-a.ensures c.put_name.ensures) c.requires.2)
+    let row = c.args.e.row.now in
+    room_after (clocks_text row) (then c.put_start-a.ensures c.put_name.ensures) c.requires.1
 
 pub returns : goal.returns
 returns c =

@@ -8,7 +8,4 @@ use Rattle.edit.specs.Edit.{carries}
 use Rattle.edit.proofs.checks.carries.Given as goal
 
 abbrev pub invariant-loop-i : goal.invariant-loop-i
-invariant-loop-i l = (l.i ≤ l.lines) × (carries l.k l.j (drop 1 (decode l.b).lines) ≡ carries l.k l.j (run (line_in l.b) l.i (l.lines - l.i)))
-
-abbrev pub decreases-loop-i : goal.decreases-loop-i
-decreases-loop-i l = l.lines - l.i
+invariant-loop-i l = (l.i ≤ l.lines) × (carries l.k l.j (drop 1 (decode l.b.bytes.now).lines) ≡ carries l.k l.j (run (line_in l.b.bytes.now) l.i (l.lines - l.i)))

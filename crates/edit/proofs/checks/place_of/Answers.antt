@@ -1,11 +1,8 @@
 use native.Mathlib.Omega.{arith}
-use mathlib.Core.Path.{sym, ◌∙◌}
+use mathlib.Core.Path.{◌≡◌, sym, ◌∙◌}
 use Rattle.edit.proofs.Leading.{above_passes}
 use Rattle.edit.proofs.Seeking.{play_in, place_is, passes_on, passes_stop, passes_none}
 use Rattle.edit.proofs.checks.place_of.Goals as goal
-
-pub overflow_add-n : goal.overflow_add-n
-overflow_add-n c = omega (arith, c.requires, c.lines_in-lines.ensures.0, c.lines_in-lines.ensures.1)
 
 pub loop-n-init : goal.loop-n-init
 loop-n-init c =
@@ -13,9 +10,6 @@ loop-n-init c =
     let e = c.lines_in-lines.ensures.0 in
     let p = c.requires in
     (omega arith, omega arith, place_is a.b.now c.lines_in-lines.result e a.k a.j (omega arith))
-
-pub overflow_cast-n : goal.overflow_cast-n
-overflow_cast-n c = omega (arith, c.lines_in-lines.ensures.1)
 
 pub returns-then-start_of-j : goal.returns-then-start_of-j
 returns-then-start_of-j c =
@@ -36,4 +30,5 @@ returns c =
     let l = c.loop-n in
     let a = c.args in
     let w = passes_none (above_passes a.j) (play_in a.b.now) c.lines_in-lines.result l.n c.loop-n-test.false in
-    (sym (l.invariant.2 ∙ w), l.invariant.0, omega (arith, c.lines_in-lines.ensures.0))
+    let e : l.n ≡ c.lines_in-lines.result = omega arith in
+    (sym (l.invariant.2 ∙ w ∙ e), omega arith, omega (arith, c.lines_in-lines.ensures.0))

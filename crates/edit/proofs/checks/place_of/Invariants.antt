@@ -9,6 +9,3 @@ use Rattle.edit.proofs.checks.place_of.Given as goal
 
 abbrev pub invariant-loop-n : goal.invariant-loop-n
 invariant-loop-n l = (l.k < l.n) × (l.n ≤ l.lines) × (place_of (plays_in (decode l.b).lines) l.k l.j ≡ l.n + above l.j (run (play_in l.b) l.n (l.lines - l.n)))
-
-abbrev pub decreases-loop-n : goal.decreases-loop-n
-decreases-loop-n l = l.lines - l.n

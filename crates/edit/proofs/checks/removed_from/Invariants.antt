@@ -8,7 +8,4 @@ use Rattle.edit.specs.Edit.{removed_from}
 use Rattle.edit.proofs.checks.removed_from.Given as goal
 
 abbrev pub invariant-loop-i : goal.invariant-loop-i
-invariant-loop-i l = (l.k < l.i) × (l.i ≤ l.lines) × (l.k + removed_from (version_in l.b) (decode l.b).lines l.k ≡ l.i + not_before l.k (run (line_in l.b) l.i (l.lines - l.i)))
-
-abbrev pub decreases-loop-i : goal.decreases-loop-i
-decreases-loop-i l = l.lines - l.i
+invariant-loop-i l = (l.k < l.i) × (l.i ≤ l.lines) × (l.k + removed_from (version_in l.b.bytes.now) (decode l.b.bytes.now).lines l.k ≡ l.i + not_before l.k (run (line_in l.b.bytes.now) l.i (l.lines - l.i)))

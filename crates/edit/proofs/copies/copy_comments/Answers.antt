@@ -1,10 +1,7 @@
 use Rattle.block.specs.Decode.{comment_of}
 use Rattle.filling.proofs.Growing.{comment-size}
-use Rattle.edit.proofs.Copied.{run-start, run_step, run_done}
+use Rattle.edit.proofs.Copied.{run_step, run_done}
 use Rattle.edit.proofs.copies.copy_comments.Goals as goal
-
-pub loop-i-init : goal.loop-i-init
-loop-i-init c = let a = c.args in run-start (comment_of a.b.now) a.first a.count
 
 pub loop-i-preserved : goal.loop-i-preserved
 loop-i-preserved c = let a = c.args in let l = c.loop-i in run_step (comment_of a.b.now) a.first a.count l.invariant c.comment_of.result.now c.comment_of.ensures c.loop-i-test.true (comment-size c.comment_of.result.now l.v l.out) c.put_comment-v.ensures.value c.put_comment-v.ensures.out_after

@@ -1,6 +1,5 @@
 -- Each turn puts one comment more.
 -- Assumes nothing.
-use Prim.Native.Nat.{◌-◌}
 use Rattle.block.specs.Decode.{run, comment_of}
 use Rattle.filling.specs.Filling.{put_comment}
 use Rattle.filling.proofs.Growing.{Doing}
@@ -9,6 +8,3 @@ use Rattle.edit.proofs.copies.copy_comments.Given as goal
 
 abbrev pub invariant-loop-i : goal.invariant-loop-i
 invariant-loop-i l = Doing put_comment (run (comment_of l.b) l.first l.count) (rest (comment_of l.b) l.first l.count l.i) l.initial.v l.v l.initial.out l.out
-
-abbrev pub decreases-loop-i : goal.decreases-loop-i
-decreases-loop-i l = l.count - l.i

@@ -1,6 +1,5 @@
 -- Each turn puts one entry more with its comments.
 -- Assumes nothing.
-use Prim.Native.Nat.{◌-◌}
 use Rattle.block.specs.Decode.{run, noted_in}
 use Rattle.filling.specs.Filling.{put_noted}
 use Rattle.filling.proofs.Growing.{Doing}
@@ -8,7 +7,4 @@ use Rattle.edit.proofs.Rests.{rest}
 use Rattle.edit.proofs.copies.copy_entries.Given as goal
 
 abbrev pub invariant-loop-i : goal.invariant-loop-i
-invariant-loop-i l = Doing put_noted (run (noted_in l.b) l.k l.count) (rest (noted_in l.b) l.k l.count l.i) l.initial.v l.v l.initial.out l.out
-
-abbrev pub decreases-loop-i : goal.decreases-loop-i
-decreases-loop-i l = l.count - l.i
+invariant-loop-i l = Doing put_noted (run (noted_in l.b.bytes.now) l.k l.count) (rest (noted_in l.b.bytes.now) l.k l.count l.i) l.initial.v l.v l.initial.out l.out

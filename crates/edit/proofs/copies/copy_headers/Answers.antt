@@ -1,24 +1,11 @@
 use Prim.Native.Nat.{ℕ}
-use native.Mathlib.Omega.{arith}
 use mathlib.Core.Path.{◌≡◌, subst}
 use Rattle.block.specs.Decode.{run, header_in}
 use Rattle.filling.specs.Filling.{header}
 use Rattle.filling.specs.inner.Parts.{put_headers}
 use Rattle.filling.proofs.Growing.{header-size}
-use Rattle.edit.proofs.Copied.{run-start, run_step, run_done, header_copied}
+use Rattle.edit.proofs.Copied.{run_step, run_done, header_copied}
 use Rattle.edit.proofs.copies.copy_headers.Goals as goal
-
-pub loop-k-init : goal.loop-k-init
-loop-k-init c = run-start (header_in c.args.b.now) 0 c.headers_in-count.result
-
-pub overflow_cast-i : goal.overflow_cast-i
-overflow_cast-i c = omega (arith, c.loop-k-test.true, c.headers_in-count.ensures)
-
-pub overflow_add-k : goal.overflow_add-k
-overflow_add-k c = omega (arith, c.loop-k-test.true, c.headers_in-count.ensures)
-
-pub loop-k-smaller : goal.loop-k-smaller
-loop-k-smaller c = omega (arith, c.loop-k-test.true)
 
 pub loop-k-preserved : goal.loop-k-preserved
 loop-k-preserved c = let b = c.args.b.now in let l = c.loop-k in run_step (header_in b) 0 c.headers_in-count.result l.invariant (header c.key_of.result.now c.value_of.result.now) (header_copied b l.k c.key_of.ensures c.value_of.ensures) c.loop-k-test.true (header-size (header c.key_of.result.now c.value_of.result.now) l.v l.out) c.put_header-v.ensures.value c.put_header-v.ensures.out_after

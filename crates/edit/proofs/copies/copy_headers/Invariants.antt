@@ -1,6 +1,5 @@
 -- Each turn puts one header entry more.
 -- Assumes nothing.
-use Prim.Native.Nat.{◌-◌}
 use Rattle.block.specs.Decode.{run, header_in}
 use Rattle.filling.specs.Filling.{put_header}
 use Rattle.filling.proofs.Growing.{Doing}
@@ -9,6 +8,3 @@ use Rattle.edit.proofs.copies.copy_headers.Given as goal
 
 abbrev pub invariant-loop-k : goal.invariant-loop-k
 invariant-loop-k l = Doing put_header (run (header_in l.b) 0 l.count) (rest (header_in l.b) 0 l.count l.k) l.initial.v l.v l.initial.out l.out
-
-abbrev pub decreases-loop-k : goal.decreases-loop-k
-decreases-loop-k l = l.count - l.k

@@ -1,7 +1,7 @@
 -- Each turn puts one line more.
 -- Assumes nothing.
 -- the lines that are put
-use Prim.Native.Nat.{ℕ, ◌-◌}
+use Prim.Native.Nat.{ℕ}
 use mathlib.Core.List.{List}
 use Rattle.jkf.specs.Model.{Line}
 use Rattle.block.specs.Decode.{run}
@@ -16,7 +16,4 @@ abbrev pub copied : Splice → List ℕ → ℕ → Line
 copied x b = moved (shifted x.p x.q x.added) b
 
 abbrev pub invariant-loop-k : goal.invariant-loop-k
-invariant-loop-k l = Doing put_whole (run (copied l.x l.b) l.i l.count) (rest (copied l.x l.b) l.i l.count l.k) l.initial.v l.v l.initial.out l.out
-
-abbrev pub decreases-loop-k : goal.decreases-loop-k
-decreases-loop-k l = l.count - l.k
+invariant-loop-k l = Doing put_whole (run (copied l.x l.b.bytes.now) l.i l.count) (rest (copied l.x l.b.bytes.now) l.i l.count l.k) l.initial.v l.v l.initial.out l.out

@@ -6,15 +6,15 @@ use Rattle.edit.proofs.Hung.{one-put, none-put}
 use Rattle.edit.proofs.lines.put_added.Goals as goal
 
 pub put_variation-requires : goal.put_variation-requires
-put_variation-requires c = let h = rw c.in-Variation.is at c.requires in h.0
+put_variation-requires c = let h = rw c.in-Some.is at c.requires in h.0
 
-pub returns-in-Nothing : goal.returns-in-Nothing
-returns-in-Nothing c =
+pub returns-in-None : goal.returns-in-None
+returns-in-None c =
     let w = none-put c.args.w c.args.out.now in
-    rw c.in-Nothing.is (record { value = w.0; out_after = w.1 })
+    rw c.in-None.is (record { value = w.0; out_after = w.1 })
 
-pub returns-in-Variation : goal.returns-in-Variation
-returns-in-Variation c =
+pub returns-in-Some : goal.returns-in-Some
+returns-in-Some c =
     let a = c.args in
-    let one = one-put (line_on c.in-Variation.k (variation_of a.t.now)) a.w a.out.now in
-    rw c.in-Variation.is (record { value = c.put_variation.ensures.value ∙ sym one.0; out_after = c.put_variation.ensures.out_after ∙ sym one.1 })
+    let one = one-put (line_on c.in-Some.x.line (variation_of a.t.now)) a.w a.out.now in
+    rw c.in-Some.is (record { value = c.put_variation.ensures.value ∙ sym one.0; out_after = c.put_variation.ensures.out_after ∙ sym one.1 })

@@ -1,13 +1,13 @@
--- The tests are those of the definition.
+-- The tests are the definition's.
 -- Assumes nothing.
-use mathlib.Core.Path.{sym, ◌∙◌}
+use borrow.Author.Rules.{rules}
 use Rattle.filling.specs.Filling.{has_entry}
 use Rattle.filling.proofs.puts.has_entry.Goals as goal
 
-pub returns-then-not-has_room : goal.returns-then-not-has_room
+pub returns-then-has_room : goal.returns-then-has_room
 unfolding has_entry
-returns-then-not-has_room c = rw (sym c.has_room.ensures ∙ c.if-not-has_room.true)
+returns-then-has_room c = search rules
 
-pub returns : goal.returns
+pub returns-else-has_room : goal.returns-else-has_room
 unfolding has_entry
-returns c = rw (sym c.has_room.ensures ∙ c.if-not-has_room.false) c.has_room-2.ensures
+returns-else-has_room c = search rules

@@ -16,7 +16,7 @@ entered-requires c = (entry-room _ _ (sym c.has_entry.ensures ∙ c.if-not-has_e
 pub returns-then-count-eq0 : goal.returns-then-count-eq0
 returns-then-count-eq0 c =
     let w = (let a = c.args in
-    entry_done a.e a.first a.w a.out.now (sym c.has_entry.ensures ∙ c.if-not-has_entry.false) (sym c.if-count-eq0.true ∙ c.less-count.ensures) refl
+    entry_done a.e a.first a.w a.out.now (sym c.has_entry.ensures ∙ c.if-not-has_entry.false) (sym c.if-count-eq0.true ∙ c.saturating_sub-count.ensures) refl
     c.put_entry_row.ensures c.entered.ensures) in
     record { value = w.0; out_after = w.1 }
 
@@ -26,6 +26,6 @@ entered-requires-2 c = (entry-room _ _ (sym c.has_entry.ensures ∙ c.if-not-has
 pub returns : goal.returns
 returns c =
     let w = (let a = c.args in
-    entry_done a.e a.first a.w a.out.now (sym c.has_entry.ensures ∙ c.if-not-has_entry.false) c.less-count.ensures (rw (ne_eqb _ 0 c.if-count-eq0.false) refl)
+    entry_done a.e a.first a.w a.out.now (sym c.has_entry.ensures ∙ c.if-not-has_entry.false) c.saturating_sub-count.ensures (rw (ne_eqb _ 0 c.if-count-eq0.false) refl)
     c.put_entry_row-2.ensures c.entered-2.ensures) in
     record { value = w.0; out_after = w.1 }

@@ -11,5 +11,5 @@ returns-then-not-has_room c =
 
 pub returns : goal.returns
 returns c =
-    let w = (let a = c.args in line_done a.start a.parent a.first a.w a.out.now (sym c.has_room.ensures ∙ c.if-not-has_room.false) c.less-count.ensures c.put_line_row-lines.ensures) in
+    let w = (let a = c.args in line_done a.start a.parent a.first a.w a.out.now (sym c.has_room.ensures ∙ c.if-not-has_room.false) c.saturating_sub-count.ensures c.put_line_row-lines.ensures) in
     record { value = w.0; out_after = w.1 }

@@ -14,9 +14,6 @@ returns-then-start-s c =
     let e : suc (l.j - 1) ≡ l.j = omega (arith, c.loop-j-test.true) in
     sym (l.invariant ∙ ap (near st a.s) (sym e) ∙ near_hit st a.s (l.j - 1) (omega (arith, c.start.ensures, c.if-start-s.true)))
 
-pub loop-j-smaller : goal.loop-j-smaller
-loop-j-smaller c = omega (arith, c.loop-j-test.true)
-
 pub loop-j-preserved : goal.loop-j-preserved
 loop-j-preserved c =
     let a = c.args in

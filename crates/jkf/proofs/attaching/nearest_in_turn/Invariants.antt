@@ -7,6 +7,3 @@ use Rattle.jkf.proofs.attaching.nearest_in_turn.Given as goal
 
 abbrev pub invariant-loop-j : goal.invariant-loop-j
 invariant-loop-j l = near (start_at l.lines) l.s l.k ≡ near (start_at l.lines) l.s l.j
-
-abbrev pub decreases-loop-j : goal.decreases-loop-j
-decreases-loop-j l = l.j

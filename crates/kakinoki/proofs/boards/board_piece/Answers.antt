@@ -9,8 +9,8 @@ returns-in_default-tag c = rw (← c.tag.ensures, c.in_default.is, ← c.tag-in_
 
 pub returns-in_default : goal.returns-in_default
 unfolding cell_at
-returns-in_default c = rw (← c.tag.ensures, c.in_default.is, ← c.tag-in_default.ensures, c.in-Past-tag.is, ← c.kind.ensures)
+returns-in_default c = rw (← c.tag.ensures, c.in_default.is, ← c.tag-in_default.ensures, c.in-Some-tag.is, ← c.kind.ensures)
 
 pub returns : goal.returns
 unfolding cell_at
-returns c = rw (← c.tag.ensures, c.in-Past.is)
+returns c = rw (← c.tag.ensures, c.in-Some.is)

@@ -10,12 +10,12 @@ returns-in_default c = rw (← c.tag.ensures, c.in_default.is, ← c.no_board.en
 
 pub returns-then-not-row : goal.returns-then-not-row
 unfolding row_at
-returns-then-not-row c = rw (← c.tag.ensures, c.in-Past.is, ← c.board_cells-row.ensures, not-true c.board_cells-row.result.there c.if-not-row.true, ← c.no_board-then-not-row.ensures)
+returns-then-not-row c = rw (← c.tag.ensures, c.in-Some.is, ← c.board_cells-row.ensures, not-true c.board_cells-row.result.there c.if-not-row.true, ← c.no_board-then-not-row.ensures)
 
 pub returns-in_default-row_end : goal.returns-in_default-row_end
 unfolding row_at
-returns-in_default-row_end c = rw (← c.tag.ensures, c.in-Past.is, ← c.board_cells-row.ensures, not-false c.board_cells-row.result.there c.if-not-row.false, ← c.row_end.ensures, c.in_default-row_end.is, ← c.no_board-in_default-row_end.ensures)
+returns-in_default-row_end c = rw (← c.tag.ensures, c.in-Some.is, ← c.board_cells-row.ensures, not-false c.board_cells-row.result.there c.if-not-row.false, ← c.row_end.ensures, c.in_default-row_end.is, ← c.no_board-in_default-row_end.ensures)
 
 pub returns : goal.returns
 unfolding row_at
-returns c = rw (← c.tag.ensures, c.in-Past.is, ← c.board_cells-row.ensures, not-false c.board_cells-row.result.there c.if-not-row.false, ← c.row_end.ensures, c.in-Past-row_end.is)
+returns c = rw (← c.tag.ensures, c.in-Some.is, ← c.board_cells-row.ensures, not-false c.board_cells-row.result.there c.if-not-row.false, ← c.row_end.ensures, c.in-Some-row_end.is)

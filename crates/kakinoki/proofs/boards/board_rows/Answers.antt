@@ -1,4 +1,3 @@
-use native.Mathlib.Omega.{arith}
 use mathlib.Core.Path.{sym, ◌∙◌}
 use borrow.Author.Tests.{not-true, not-false}
 use Rattle.kakinoki.proofs.Cells.{rows_more, rows_none, rows_done}
@@ -6,12 +5,6 @@ use Rattle.kakinoki.proofs.boards.board_rows.Goals as goal
 
 pub returns-then-not-row : goal.returns-then-not-row
 returns-then-not-row c = c.no_board.ensures ∙ sym (c.loop-rank.invariant ∙ rows_none _ _ _ _ _ c.loop-rank-test.true c.board_row-row.ensures (not-true _ c.if-not-row.true))
-
-pub overflow_add-rank : goal.overflow_add-rank
-overflow_add-rank c = omega (arith, c.loop-rank-test.true)
-
-pub loop-rank-smaller : goal.loop-rank-smaller
-loop-rank-smaller c = omega (arith, c.loop-rank-test.true)
 
 pub loop-rank-preserved : goal.loop-rank-preserved
 loop-rank-preserved c = c.loop-rank.invariant ∙ rows_more _ _ _ _ _ c.loop-rank-test.true c.board_row-row.ensures (not-false _ c.if-not-row.false)

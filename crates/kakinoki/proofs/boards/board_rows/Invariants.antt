@@ -6,7 +6,4 @@ use Rattle.kakinoki.specs.Boards.{rows_from}
 use Rattle.kakinoki.proofs.boards.board_rows.Given as goal
 
 abbrev pub invariant-loop-rank : goal.invariant-loop-rank
-invariant-loop-rank l = rows_from l.s l.initial.rank (9 - l.initial.rank) l.initial.next.at l.initial.cells ≡ rows_from l.s l.rank (9 - l.rank) l.next.at l.cells
-
-abbrev pub decreases-loop-rank : goal.decreases-loop-rank
-decreases-loop-rank l = 9 - l.rank
+invariant-loop-rank l = rows_from l.s 0 9 l.initial.next.at l.initial.cells ≡ rows_from l.s l.rank (9 - l.rank) l.next.at l.cells

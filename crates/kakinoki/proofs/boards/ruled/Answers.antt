@@ -3,10 +3,10 @@
 use Rattle.kakinoki.specs.Boards.{ruled_at}
 use Rattle.kakinoki.proofs.boards.ruled.Goals as goal
 
-pub returns-in_default : goal.returns-in_default
+pub returns-in_err-end : goal.returns-in_err-end
 unfolding ruled_at
-returns-in_default c = rw (← c.tag.ensures, c.in_default.is)
+returns-in_err-end c = rw (← c.tag.ensures, c.in_err-end.was) c.from_residual.ensures
 
 pub returns : goal.returns
 unfolding ruled_at
-returns c = rw (← c.tag.ensures, c.in-Past.is, ← c.line_ending.ensures)
+returns c = rw (← c.tag.ensures, c.in_ok-end.was, ← c.line_ending.ensures)

@@ -9,8 +9,8 @@ returns-in_default c = rw (← c.side.ensures, c.in_default.is)
 
 pub returns-in_default-tag : goal.returns-in_default-tag
 unfolding hand_line_at
-returns-in_default-tag c = rw (← c.side.ensures, c.in-As.is, ← c.tag.ensures, c.in_default-tag.is)
+returns-in_default-tag c = rw (← c.side.ensures, c.in-Some.is, ← c.tag.ensures, c.in_default-tag.is)
 
 pub returns : goal.returns
 unfolding hand_line_at
-returns c = rw (← c.side.ensures, c.in-As.is, ← c.tag.ensures, c.in-Past.is, ← c.held.ensures)
+returns c = rw (← c.side.ensures, c.in-Some.is, ← c.tag.ensures, c.in-Some-tag.is, ← c.held.ensures)

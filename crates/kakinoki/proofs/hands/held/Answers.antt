@@ -9,4 +9,4 @@ returns-in_default c = rw (← c.hand-hand.ensures, ← c.padded_end.ensures, c.
 
 pub returns : goal.returns
 unfolding held_at
-returns c = rw (← c.hand-hand.ensures, ← c.padded_end.ensures, c.in-Past.is)
+returns c = rw (← c.hand-hand.ensures, ← c.padded_end.ensures, c.in-Some.is)

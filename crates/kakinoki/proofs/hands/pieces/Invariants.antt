@@ -5,8 +5,8 @@ use lib.ListN.{length}
 use Rattle.kakinoki.proofs.Pieces.{Holding}
 use Rattle.kakinoki.proofs.hands.pieces.Given as goal
 
-abbrev pub invariant-loop-kind : goal.invariant-loop-kind
-invariant-loop-kind l = Holding l.s l.initial.next.at l.next.at l.counts
+abbrev pub invariant-loop-held : goal.invariant-loop-held
+invariant-loop-held l = Holding l.s l.initial.next.at l.next.at l.counts
 
-abbrev pub decreases-loop-kind : goal.decreases-loop-kind
-decreases-loop-kind l = length l.s - l.next.at
+abbrev pub decreases-loop-held : goal.decreases-loop-held
+decreases-loop-held l = length l.s - l.next.at

@@ -2,8 +2,8 @@
 -- Assumes nothing.
 use Rattle.kakinoki.proofs.infos.ends_line.Goals as goal
 
-pub returns-in_default : goal.returns-in_default
-returns-in_default c = rw (← c.padded_end.ensures, c.in_default.is)
+pub returns-in_err-end : goal.returns-in_err-end
+returns-in_err-end c = rw (← c.padded_end.ensures, c.in_err-end.was) c.from_residual.ensures
 
 pub returns : goal.returns
-returns c = rw (← c.padded_end.ensures, c.in-Past.is)
+returns c = rw (← c.padded_end.ensures, c.in_ok-end.was)

@@ -3,10 +3,10 @@
 use Rattle.kakinoki.specs.Informations.{hash_line_at}
 use Rattle.kakinoki.proofs.infos.hash_line.Goals as goal
 
-pub returns-in_default : goal.returns-in_default
+pub returns-in_err-past : goal.returns-in_err-past
 unfolding hash_line_at
-returns-in_default c = rw (← c.tag.ensures, c.in_default.is)
+returns-in_err-past c = rw (← c.tag.ensures, c.in_err-past.was) c.from_residual.ensures
 
 pub returns : goal.returns
 unfolding hash_line_at
-returns c = rw (← c.tag.ensures, c.in-Past.is, ← c.line_end.ensures)
+returns c = rw (← c.tag.ensures, c.in_ok-past.was, ← c.line_end.ensures)

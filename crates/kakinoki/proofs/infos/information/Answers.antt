@@ -9,8 +9,8 @@ returns-in_default-turn_line c = rw (← c.preset_line.ensures, c.in_default.is,
 
 pub returns-in_default : goal.returns-in_default
 unfolding information_at
-returns-in_default c = rw (← c.preset_line.ensures, c.in_default.is, ← c.turn_line.ensures, c.in-As-turn_line.is, ← c.handless.ensures)
+returns-in_default c = rw (← c.preset_line.ensures, c.in_default.is, ← c.turn_line.ensures, c.in-Some-turn_line.is, ← c.handless.ensures)
 
 pub returns : goal.returns
 unfolding information_at
-returns c = rw (← c.preset_line.ensures, c.in-As.is, ← c.handless-2.ensures)
+returns c = rw (← c.preset_line.ensures, c.in-Some.is, ← c.handless-2.ensures)

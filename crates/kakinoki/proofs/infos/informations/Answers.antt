@@ -1,8 +1,9 @@
+use Rattle.std.specs.Prelude.{ℕ}
+use Rattle.std.specs.Prelude.{Option}
 use native.Mathlib.Omega.{arith}
 use mathlib.Core.Path.{◌≡◌, sym, ap, ◌∙◌}
 use mathlib.Core.Bool.{true}
 use Rattle.kakinoki.specs.Informations.{is_line}
-use Rattle.kakinoki.specs.declared.Fault.{Fault}
 use Rattle.kakinoki.proofs.Blocks.{made, saying_none, saying_few, saying_past, saying_within, saying_more, saying_kept, saying_all}
 use Rattle.kakinoki.proofs.infos.informations.Goals as goal
 use Rattle.kakinoki.proofs.infos.informations.Goals.{After-next-1}
@@ -17,7 +18,7 @@ loop-said-init c = saying_none _ _ _
 pub returns-then-not-is_line : goal.returns-then-not-is_line
 returns-then-not-is_line c =
     let none = sym c.is_line.ensures ∙ c.if-not-is_line.true in
-    record { value = ap (λ (f : Fault). made c.loop-said.told c.loop-said.headers f c.loop-said.next) c.fault.ensures ∙ saying_all c.loop-said.invariant c.hash_lines-line.ensures c.information-said.ensures none; places_after = saying_kept c.loop-said.invariant c.hash_lines-line.ensures c.information-said.ensures none }
+    record { value = ap (λ (f : Option ℕ). made c.loop-said.told c.loop-said.headers f c.loop-said.next) c.fault.ensures ∙ saying_all c.loop-said.invariant c.hash_lines-line.ensures c.information-said.ensures none; places_after = saying_kept c.loop-said.invariant c.hash_lines-line.ensures c.information-said.ensures none }
 
 pub keep-headers-requires : goal.keep-headers-requires
 keep-headers-requires c = omega (arith, saying_few c.loop-said.invariant)

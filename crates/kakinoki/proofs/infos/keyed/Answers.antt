@@ -9,4 +9,4 @@ returns-in_default c = rw (← c.key_value.ensures, c.in_default.is, ← c.handl
 
 pub returns : goal.returns
 unfolding keyed_at
-returns c = rw (← c.key_value.ensures, c.in-Pair.is, ← c.handless-2.ensures)
+returns c = rw (← c.key_value.ensures, c.in-Some.is, ← c.handless-2.ensures)

@@ -3,14 +3,14 @@
 use Rattle.kakinoki.specs.Informations.{turn_line_at}
 use Rattle.kakinoki.proofs.infos.turn_line.Goals as goal
 
-pub returns-in_default : goal.returns-in_default
+pub returns-in_err-n : goal.returns-in_err-n
 unfolding turn_line_at
-returns-in_default c = rw (← c.side.ensures, c.in_default.is)
+returns-in_err-n c = rw (← c.side.ensures, c.in_err-n.was) c.from_residual.ensures
 
-pub returns-in_default-tag : goal.returns-in_default-tag
+pub returns-in_err-end : goal.returns-in_err-end
 unfolding turn_line_at
-returns-in_default-tag c = rw (← c.side.ensures, c.in-As.is, ← c.tag.ensures, c.in_default-tag.is)
+returns-in_err-end c = rw (← c.side.ensures, c.in_ok-n.was, ← c.tag.ensures, c.in_err-end.was) c.from_residual-in_err-end.ensures
 
 pub returns : goal.returns
 unfolding turn_line_at
-returns c = rw (← c.side.ensures, c.in-As.is, ← c.tag.ensures, c.in-Past.is, ← c.ends_line.ensures)
+returns c = rw (← c.side.ensures, c.in_ok-n.was, ← c.tag.ensures, c.in_ok-end.was, ← c.ends_line.ensures)

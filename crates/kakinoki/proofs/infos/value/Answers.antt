@@ -3,18 +3,18 @@
 use Rattle.kakinoki.specs.Informations.{value_at}
 use Rattle.kakinoki.proofs.infos.value.Goals as goal
 
-pub returns-in_default : goal.returns-in_default
+pub returns-in_err-from : goal.returns-in_err-from
 unfolding value_at
-returns-in_default c = rw (← c.tag.ensures, c.in_default.is)
+returns-in_err-from c = rw (← c.tag.ensures, c.in_err-from.was) c.from_residual.ensures
 
-pub returns-in_default-tail : goal.returns-in_default-tail
+pub returns-in_err-to : goal.returns-in_err-to
 unfolding value_at
-returns-in_default-tail c = rw (← c.tag.ensures, c.in-Past.is, ← c.tail.ensures, c.in_default-tail.is)
+returns-in_err-to c = rw (← c.tag.ensures, c.in_ok-from.was, ← c.tail.ensures, c.in_err-to.was) c.from_residual-in_err-to.ensures
 
-pub returns-in_default-line_ending : goal.returns-in_default-line_ending
+pub returns-in_err-next : goal.returns-in_err-next
 unfolding value_at
-returns-in_default-line_ending c = rw (← c.tag.ensures, c.in-Past.is, ← c.tail.ensures, c.in-Past-tail.is, ← c.line_ending.ensures, c.in_default-line_ending.is)
+returns-in_err-next c = rw (← c.tag.ensures, c.in_ok-from.was, ← c.tail.ensures, c.in_ok-to.was, ← c.line_ending.ensures, c.in_err-next.was) c.from_residual-in_err-next.ensures
 
 pub returns : goal.returns
 unfolding value_at
-returns c = rw (← c.tag.ensures, c.in-Past.is, ← c.tail.ensures, c.in-Past-tail.is, ← c.line_ending.ensures, c.in-Past-line_ending.is)
+returns c = rw (← c.tag.ensures, c.in_ok-from.was, ← c.tail.ensures, c.in_ok-to.was, ← c.line_ending.ensures, c.in_ok-next.was)

@@ -1,10 +1,7 @@
 -- Each entry passed has at most one mark and one hour, so that both counts stay at or below the entries passed.
 -- Assumes nothing.
-use Rattle.std.proofs.Common.{◌-◌, ◌≤◌}
+use Rattle.std.proofs.Common.{◌≤◌}
 use Rattle.kifu.proofs.losses.count_lost.Given as goal
 
 abbrev pub invariant-loop-k : goal.invariant-loop-k
-invariant-loop-k l = (l.k ≤ l.entries) × (l.marks ≤ l.k) × (l.hours ≤ l.k)
-
-abbrev pub decreases-loop-k : goal.decreases-loop-k
-decreases-loop-k l = l.entries - l.k
+invariant-loop-k l = (l.marks ≤ l.k) × (l.hours ≤ l.k)

@@ -1,10 +1,7 @@
--- No more times are lost than lines were passed, and no more lines than the text has bytes.
+-- No more times are lost than lines were passed.
 -- Assumes nothing.
-use Rattle.std.proofs.Common.{◌-◌, ◌≤◌, length}
+use Rattle.std.proofs.Common.{◌≤◌}
 use Rattle.kifu.proofs.times.run_from.Given as goal
 
 abbrev pub invariant-loop-k : goal.invariant-loop-k
-invariant-loop-k l = (l.k ≤ length l.s) × (l.lost ≤ l.k)
-
-abbrev pub decreases-loop-k : goal.decreases-loop-k
-decreases-loop-k l = length l.s - l.k
+invariant-loop-k l = l.lost ≤ l._k

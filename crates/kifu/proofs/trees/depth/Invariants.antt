@@ -1,10 +1,7 @@
--- No more than 12 steps are made.
+-- A line's number has 16 bits.
 -- Assumes nothing.
-use Rattle.std.proofs.Common.{◌-◌, ◌<◌, ◌≤◌}
+use Rattle.std.proofs.Common.{◌<◌}
 use Rattle.kifu.proofs.trees.depth.Given as goal
 
 abbrev pub invariant-loop-d : goal.invariant-loop-d
-invariant-loop-d l = (l.d ≤ 12) × (l.line < 65536)
-
-abbrev pub decreases-loop-d : goal.decreases-loop-d
-decreases-loop-d l = 12 - l.d
+invariant-loop-d l = l.line < 65536

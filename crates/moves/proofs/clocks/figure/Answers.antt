@@ -1,20 +1,18 @@
--- The answers of the steps, handed on: a number too large as what it is.
+-- The answers of the steps, handed on: why there is no number is why there is no figure (`error_kept`).
 -- Assumes nothing.
+use Rattle.text.proofs.Answers.{error_of}
 use Rattle.moves.specs.Moves.{figure_at}
+use Rattle.moves.proofs.Figures.{error_kept}
 use Rattle.moves.proofs.clocks.figure.Goals as goal
+
+pub returns-in_err-n : goal.returns-in_err-n
+unfolding figure_at
+returns-in_err-n c = rw (error_of c.from_residual.ensures.1, ← c.digits.ensures) (error_kept _ c.in_err-n.was)
 
 pub returns-in_default : goal.returns-in_default
 unfolding figure_at
-returns-in_default c = rw (← c.digits.ensures, c.in-Value.is, ← c.tag.ensures, c.in_default.is)
+returns-in_default c = rw (← c.digits.ensures, c.in_ok-n.was, ← c.tag.ensures, c.in_default.is)
 
-pub returns-in-NoDigit : goal.returns-in-NoDigit
+pub returns : goal.returns
 unfolding figure_at
-returns-in-NoDigit c = rw (← c.digits.ensures, c.in-NoDigit.is)
-
-pub returns-in-TooLarge : goal.returns-in-TooLarge
-unfolding figure_at
-returns-in-TooLarge c = rw (← c.digits.ensures, c.in-TooLarge.is)
-
-pub returns-in-Past : goal.returns-in-Past
-unfolding figure_at
-returns-in-Past c = rw (← c.digits.ensures, c.in-Value.is, ← c.tag.ensures, c.in-Past.is)
+returns c = rw (← c.digits.ensures, c.in_ok-n.was, ← c.tag.ensures, c.in-Some.is)

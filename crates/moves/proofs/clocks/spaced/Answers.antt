@@ -3,10 +3,10 @@
 use Rattle.moves.specs.Moves.{spaced_at}
 use Rattle.moves.proofs.clocks.spaced.Goals as goal
 
-pub returns-in_default : goal.returns-in_default
+pub returns-in_err-k : goal.returns-in_err-k
 unfolding spaced_at
-returns-in_default c = rw (← c.blanks.ensures, ← c.clock.ensures, c.in_default.is)
+returns-in_err-k c = rw (← c.blanks.ensures, ← c.clock.ensures, c.in_err-k.was) c.from_residual.ensures
 
 pub returns : goal.returns
 unfolding spaced_at
-returns c = rw (← c.blanks.ensures, ← c.clock.ensures, c.in-Shows.is, ← c.blanks-2.ensures)
+returns c = rw (← c.blanks.ensures, ← c.clock.ensures, c.in_ok-k.was, ← c.blanks-2.ensures)

@@ -9,4 +9,4 @@ returns-in_default c = rw (← c.tag.ensures, c.in_default.is)
 
 pub returns : goal.returns
 unfolding time_at
-returns c = rw (← c.tag.ensures, c.in-Past.is, ← c.two_clocks.ensures)
+returns c = rw (← c.tag.ensures, c.in-Some.is, ← c.two_clocks.ensures)

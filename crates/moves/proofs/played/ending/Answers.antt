@@ -2,8 +2,8 @@
 -- Assumes nothing.
 use Rattle.moves.proofs.played.ending.Goals as goal
 
-pub returns-in_default : goal.returns-in_default
-returns-in_default c = rw (← c.special.ensures, c.in_default.is)
+pub returns-in_err-n : goal.returns-in_err-n
+returns-in_err-n c = rw (← c.special.ensures, c.in_err-n.was) c.from_residual.ensures
 
 pub returns : goal.returns
-returns c = rw (← c.special.ensures, c.in-As.is, ← c.special_of.ensures)
+returns c = rw (← c.special.ensures, c.in_ok-n.was, ← c.from.ensures)

@@ -9,4 +9,4 @@ returns-in_default c = rw (← c.tag.ensures, c.in_default.is, ← c.origin.ensu
 
 pub returns : goal.returns
 unfolding move_from_at
-returns c = rw (← c.tag.ensures, c.in-Past.is)
+returns c = rw (← c.tag.ensures, c.in-Some.is)

@@ -3,14 +3,14 @@
 use Rattle.moves.specs.Moves.{square_at}
 use Rattle.moves.proofs.played.square.Goals as goal
 
-pub returns-in_default : goal.returns-in_default
+pub returns-in_err-x : goal.returns-in_err-x
 unfolding square_at
-returns-in_default c = rw (← c.file.ensures, c.in_default.is)
+returns-in_err-x c = rw (← c.file.ensures, c.in_err-x.was) c.from_residual.ensures
 
-pub returns-in_default-numeral : goal.returns-in_default-numeral
+pub returns-in_err-y : goal.returns-in_err-y
 unfolding square_at
-returns-in_default-numeral c = rw (← c.file.ensures, c.in-As.is, ← c.numeral.ensures, c.in_default-numeral.is)
+returns-in_err-y c = rw (← c.file.ensures, c.in_ok-x.was, ← c.numeral.ensures, c.in_err-y.was) c.from_residual-in_err-y.ensures
 
 pub returns : goal.returns
 unfolding square_at
-returns c = rw (← c.file.ensures, c.in-As.is, ← c.numeral.ensures, c.in-As-numeral.is)
+returns c = rw (← c.file.ensures, c.in_ok-x.was, ← c.numeral.ensures, c.in_ok-y.was)

@@ -8,4 +8,4 @@ pub returns-in_default : goal.returns-in_default
 returns-in_default c = c.ending.ensures ∙ sym (what-ending _ _ (sym c.move_to.ensures ∙ c.in_default.is))
 
 pub returns : goal.returns
-returns c = c.piece.ensures ∙ sym (what-move _ _ _ _ (sym c.move_to.ensures ∙ c.in-To.is))
+returns c = c.piece.ensures ∙ sym (what-move _ _ _ _ (sym c.move_to.ensures ∙ c.in-Some.is))

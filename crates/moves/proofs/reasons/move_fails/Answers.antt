@@ -9,4 +9,4 @@ returns-in_default c = rw (← c.move_to.ensures, c.in_default.is, ← c.move_to
 
 pub returns : goal.returns
 unfolding move_fail
-returns c = rw (← c.move_to.ensures, c.in-To.is, ← c.piece_fails.ensures)
+returns c = rw (← c.move_to.ensures, c.in-Some.is, ← c.piece_fails.ensures)

@@ -3,14 +3,14 @@
 use Rattle.moves.specs.Failing.{numbered_fail}
 use Rattle.moves.proofs.reasons.numbered_fails.Goals as goal
 
-pub returns-in-NoDigit : goal.returns-in-NoDigit
+pub returns-in-Err-Absent : goal.returns-in-Err-Absent
 unfolding numbered_fail
-returns-in-NoDigit c = rw (← c.blanks-from.ensures, ← c.digits.ensures, c.in-NoDigit.is)
+returns-in-Err-Absent c = rw (← c.blanks-from.ensures, ← c.digits.ensures, c.in-Err-Absent.is, c.in-Err-Absent.field-0-is)
 
-pub returns-in-TooLarge : goal.returns-in-TooLarge
+pub returns-in-Err-TooLarge : goal.returns-in-Err-TooLarge
 unfolding numbered_fail
-returns-in-TooLarge c = rw (← c.blanks-from.ensures, ← c.digits.ensures, c.in-TooLarge.is)
+returns-in-Err-TooLarge c = rw (← c.blanks-from.ensures, ← c.digits.ensures, c.in-Err-TooLarge.is, c.in-Err-TooLarge.field-0-is)
 
-pub returns-in-Value : goal.returns-in-Value
+pub returns-in-Ok : goal.returns-in-Ok
 unfolding numbered_fail
-returns-in-Value c = rw (← c.blanks-from.ensures, ← c.digits.ensures, c.in-Value.is, ← c.blanks.ensures, ← c.played_fails.ensures)
+returns-in-Ok c = rw (← c.blanks-from.ensures, ← c.digits.ensures, c.in-Ok.is, ← c.blanks.ensures, ← c.played_fails.ensures)

@@ -9,4 +9,4 @@ returns-in_default c = rw (← c.kind.ensures, c.in_default.is)
 
 pub returns : goal.returns
 unfolding piece_fail
-returns c = rw (← c.kind.ensures, c.in-As.is, ← c.promote.ensures, ← c.move_from_fails.ensures)
+returns c = rw (← c.kind.ensures, c.in-Some.is, ← c.promote.ensures, ← c.move_from_fails.ensures)

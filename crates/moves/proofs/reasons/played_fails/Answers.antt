@@ -9,4 +9,4 @@ returns-in_default c = rw (← c.what.ensures, c.in_default.is, ← c.what_fails
 
 pub returns : goal.returns
 unfolding played_fail
-returns c = rw (← c.what.ensures, c.in-Is.is, ← c.line_end_fails.ensures)
+returns c = rw (← c.what.ensures, c.in-Some.is, ← c.line_end_fails.ensures)

@@ -9,4 +9,4 @@ returns-in_default c = rw (← c.tag.ensures, c.in_default.is, ← c.kept.ensure
 
 pub returns : goal.returns
 unfolding comment_line_at
-returns c = rw (← c.tag.ensures, c.in-Past.is) c.remark_from.ensures
+returns c = rw (← c.tag.ensures, c.in-Some.is) c.remark_from.ensures

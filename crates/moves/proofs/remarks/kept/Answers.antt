@@ -3,10 +3,10 @@
 use Rattle.moves.specs.Moves.{kept_at}
 use Rattle.moves.proofs.remarks.kept.Goals as goal
 
-pub returns-in_default : goal.returns-in_default
+pub returns-in_err-past : goal.returns-in_err-past
 unfolding kept_at
-returns-in_default c = rw (← c.tag.ensures, c.in_default.is)
+returns-in_err-past c = rw (← c.tag.ensures, c.in_err-past.was) c.from_residual.ensures
 
 pub returns : goal.returns
 unfolding kept_at
-returns c = rw (← c.tag.ensures, c.in-Past.is, ← c.remark_from.ensures)
+returns c = rw (← c.tag.ensures, c.in_ok-past.was, ← c.remark_from.ensures)

@@ -17,4 +17,4 @@ returns-in_default c =
 
 pub returns : goal.returns
 returns c =
-    record { lined = main_lined c.args.s.now c.args.c.at c.args.w c.args.out.now c.requires c.skipped.result c.fill_comments-slot.result c.put_entry-u.result c.skipped.ensures c.fill_comments-slot.ensures.walk_value c.fill_comments-slot.ensures.out_after c.fill_comments-slot.ensures.at_value c.put_entry-u.ensures.value c.put_entry-u.ensures.out_after c.fill_moves-line.result c.fill_moves-line.ensures.walk_value c.fill_moves-line.ensures.out_after c.fill_moves-line.ensures.at_value (sym c.in-Put.is ∙ c.hang_line.ensures.value) c.hang_line.ensures.out_after; at_value = past-main c.args.s.now c.args.c.at c.args.w c.args.out.now c.requires c.skipped.result c.fill_comments-slot.result c.put_entry-u.result c.skipped.ensures c.fill_comments-slot.ensures.walk_value c.fill_comments-slot.ensures.out_after c.fill_comments-slot.ensures.at_value c.put_entry-u.ensures.value c.put_entry-u.ensures.out_after c.fill_moves-line.result c.fill_moves-line.ensures.walk_value c.fill_moves-line.ensures.out_after c.fill_moves-line.ensures.at_value c.past-next.result c.past-next.ensures; lost_value = c.fill_moves-line.ensures.lost_value ∙ ap (lost_from c.args.s.now) (c.fill_comments-slot.ensures.at_value ∙ ap (λ (i : ℕ). (comments_at c.args.s.now i).at) c.skipped.ensures) }
+    record { lined = main_lined c.args.s.now c.args.c.at c.args.w c.args.out.now c.requires c.skipped.result c.fill_comments-slot.result c.put_entry-u.result c.skipped.ensures c.fill_comments-slot.ensures.walk_value c.fill_comments-slot.ensures.out_after c.fill_comments-slot.ensures.at_value c.put_entry-u.ensures.value c.put_entry-u.ensures.out_after c.fill_moves-line.result c.fill_moves-line.ensures.walk_value c.fill_moves-line.ensures.out_after c.fill_moves-line.ensures.at_value (sym c.in-Some.is ∙ c.hang_line.ensures.value) c.hang_line.ensures.out_after; at_value = past-main c.args.s.now c.args.c.at c.args.w c.args.out.now c.requires c.skipped.result c.fill_comments-slot.result c.put_entry-u.result c.skipped.ensures c.fill_comments-slot.ensures.walk_value c.fill_comments-slot.ensures.out_after c.fill_comments-slot.ensures.at_value c.put_entry-u.ensures.value c.put_entry-u.ensures.out_after c.fill_moves-line.result c.fill_moves-line.ensures.walk_value c.fill_moves-line.ensures.out_after c.fill_moves-line.ensures.at_value c.past-next.result c.past-next.ensures; lost_value = c.fill_moves-line.ensures.lost_value ∙ ap (lost_from c.args.s.now) (c.fill_comments-slot.ensures.at_value ∙ ap (λ (i : ℕ). (comments_at c.args.s.now i).at) c.skipped.ensures) }

@@ -10,8 +10,8 @@ use Rattle.parser.proofs.headers.header_length.Goals.{After-struct_known-1}
 abbrev At : Type 0
 At = After-struct_known-1
 
-line : (c : At) → Paired c.args.s.now c.args.at c.in-Pair.field-0 c.in-Pair.to
-line c = paired c.args.s.now c.args.at c.in-Pair.field-0 c.in-Pair.to c.in-Pair.field-2 (sym c.key_value.ensures ∙ c.in-Pair.is)
+line : (c : At) → Paired c.args.s.now c.args.at c.in-Some.pair.from c.in-Some.pair.to
+line c = paired c.args.s.now c.args.at c.in-Some.pair.from c.in-Some.pair.to c.in-Some.pair.next (sym c.key_value.ensures ∙ c.in-Some.is)
 
 pub returns-in_default : goal.returns-in_default
 returns-in_default c =
@@ -24,4 +24,4 @@ pub overflow_sub-result-2 : goal.overflow_sub-result-2
 overflow_sub-result-2 c = omega (arith, (line c).colon, (line c).onward)
 
 pub returns : goal.returns
-returns c = sym (entry-long c.args.s.now c.args.at c.in-Pair.field-0 c.in-Pair.to (line c))
+returns c = sym (entry-long c.args.s.now c.args.at c.in-Some.pair.from c.in-Some.pair.to (line c))

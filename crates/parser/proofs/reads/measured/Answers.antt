@@ -4,12 +4,12 @@ use mathlib.Core.Path.{sym, ◌∙◌}
 use Rattle.parser.proofs.Completing.{measured-refused, measured-begun}
 use Rattle.parser.proofs.reads.measured.Goals as goal
 
-pub returns-in-Refused : goal.returns-in-Refused
-returns-in-Refused c =
+pub returns-in-Err : goal.returns-in-Err
+returns-in-Err c =
     let a = c.args in
-    measured-refused a.sizes a.taken (sym c.in-Refused.is ∙ c.admit.ensures)
+    measured-refused a.sizes a.taken (sym c.in-Err.is ∙ c.admit.ensures)
 
-pub returns-in-Begun : goal.returns-in-Begun
-returns-in-Begun c =
+pub returns-in-Ok : goal.returns-in-Ok
+returns-in-Ok c =
     let a = c.args in
-    measured-begun a.sizes a.taken (sym c.in-Begun.is ∙ c.admit.ensures)
+    measured-begun a.sizes a.taken (sym c.in-Ok.is ∙ c.admit.ensures)

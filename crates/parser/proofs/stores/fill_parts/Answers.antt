@@ -15,11 +15,11 @@ fill_headers-v-requires c = subst (HeaderLines c.args.s.now) (sym c.requires.pre
 pub fill_lines-requires : goal.fill_lines-requires
 fill_lines-requires c = lines_there c.args.s.now c.args.c c.args.headers.now c.requires.prepared c.args.w c.args.total c.args.out.now c.requires.opened c.fill_headers-v.result _ c.fill_headers-v.ensures.value c.fill_headers-v.ensures.out_after
 
-pub returns-in-AllHung : goal.returns-in-AllHung
-returns-in-AllHung c =
-    let w = (all_stored c.args.s.now c.args.c c.args.headers.now c.requires.prepared c.args.w c.args.total c.args.out.now c.requires.opened c.fill_headers-v.result _ c.fill_headers-v.ensures.value c.fill_headers-v.ensures.out_after c.fill_lines.result c.in-AllHung.end c.in-AllHung.lost c.fill_lines.ensures.value c.fill_lines.ensures.out_after c.in-AllHung.is) in
+pub returns-in-Ok : goal.returns-in-Ok
+returns-in-Ok c =
+    let w = (all_stored c.args.s.now c.args.c c.args.headers.now c.requires.prepared c.args.w c.args.total c.args.out.now c.requires.opened c.fill_headers-v.result _ c.fill_headers-v.ensures.value c.fill_headers-v.ensures.out_after c.fill_lines.result c.in-Ok.end c.in-Ok.lost c.fill_lines.ensures.value c.fill_lines.ensures.out_after c.in-Ok.is) in
     record { answer_value = w.0; out_after = w.1.0; lost_value = w.1.1 }
 
-pub returns-in-Loose : goal.returns-in-Loose
-returns-in-Loose c = let e : length c.fill_lines.new.out ≡ length c.args.out.now = search rules in
-    let x = none_stored c.args.s.now c.args.c c.args.headers.now c.requires.prepared c.args.w c.args.total c.args.out.now c.requires.opened c.fill_headers-v.result _ c.fill_headers-v.ensures.value c.fill_headers-v.ensures.out_after c.fill_lines.result c.in-Loose.variation c.in-Loose.ply c.fill_lines.ensures.value c.in-Loose.is (c.clear.ensures ∙ ap (λ (k : ℕ). replicate k 0) e) in record { answer_value = c.refused.ensures.0 ∙ x.0; out_after = x.1.0; lost_value = c.refused.ensures.1 ∙ x.1.1 }
+pub returns-in-Err : goal.returns-in-Err
+returns-in-Err c = let e : length c.fill_lines.new.out ≡ length c.args.out.now = search rules in
+    let x = none_stored c.args.s.now c.args.c c.args.headers.now c.requires.prepared c.args.w c.args.total c.args.out.now c.requires.opened c.fill_headers-v.result _ c.fill_headers-v.ensures.value c.fill_headers-v.ensures.out_after c.fill_lines.result c.in-Err.variation c.in-Err.ply c.fill_lines.ensures.value c.in-Err.is (c.clear.ensures ∙ ap (λ (k : ℕ). replicate k 0) e) in record { answer_value = c.refused.ensures.0 ∙ x.0; out_after = x.1.0; lost_value = c.refused.ensures.1 ∙ x.1.1 }

@@ -8,14 +8,14 @@ pub fill_parts-requires : goal.fill_parts-requires
 fill_parts-requires c =
     let f = c.requires.ready in
     let m = c.args.v.moves in
-    record { prepared = prepared_so c.args.s.now m c.args.headers.now f; opened = opened_so c.args.s.now m c.args.headers.now f c.args.out.now c.requires.sizes c.open.ensures.out_after (sym c.in-Begun.is ∙ c.open.ensures.value) }
+    record { prepared = prepared_so c.args.s.now m c.args.headers.now f; opened = opened_so c.args.s.now m c.args.headers.now f c.args.out.now c.requires.sizes c.open.ensures.out_after (sym c.in-Ok.is ∙ c.open.ensures.value) }
 
-pub returns-in-Begun : goal.returns-in-Begun
-returns-in-Begun c =
-    let w = (stored_so c.args.s.now c.args.v.moves c.args.headers.now c.requires.ready c.args.out.now c.requires.sizes c.open.ensures.out_after (sym c.in-Begun.is ∙ c.open.ensures.value) c.fill_parts.ensures.answer_value c.fill_parts.ensures.out_after c.fill_parts.ensures.lost_value) in
+pub returns-in-Ok : goal.returns-in-Ok
+returns-in-Ok c =
+    let w = (stored_so c.args.s.now c.args.v.moves c.args.headers.now c.requires.ready c.args.out.now c.requires.sizes c.open.ensures.out_after (sym c.in-Ok.is ∙ c.open.ensures.value) c.fill_parts.ensures.answer_value c.fill_parts.ensures.out_after c.fill_parts.ensures.lost_value) in
     record { answer_value = w.0; out_after = w.1.0; lost_value = w.1.1 }
 
-pub returns-in-Refused : goal.returns-in-Refused
-returns-in-Refused c =
-    let x = refused_so c.args.s.now c.args.v.moves c.args.headers.now c.requires.ready c.args.out.now c.requires.sizes c.open.ensures.out_after (sym c.in-Refused.is ∙ c.open.ensures.value) in
+pub returns-in-Err : goal.returns-in-Err
+returns-in-Err c =
+    let x = refused_so c.args.s.now c.args.v.moves c.args.headers.now c.requires.ready c.args.out.now c.requires.sizes c.open.ensures.out_after (sym c.in-Err.is ∙ c.open.ensures.value) in
     record { answer_value = c.refused.ensures.0 ∙ x.0; out_after = x.1.0; lost_value = c.refused.ensures.1 ∙ x.1.1 }

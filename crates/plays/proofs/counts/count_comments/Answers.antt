@@ -19,19 +19,19 @@ pub returns-in_default : goal.returns-in_default
 returns-in_default c = let l = c.loop-next in remarking_done c.args.s.now l.next.at l.invariant l.next refl (sym c.comment_line.ensures ∙ c.in_default.is)
 
 pub overflow_add-count : goal.overflow_add-count
-overflow_add-count c = let l = c.loop-next in let b = remarking_bound c.args.s.now l.next.at l.invariant c.in-Stands.from c.in-Stands.to c.in-Stands.past (sym c.comment_line.ensures ∙ c.in-Stands.is) (search rules) in
+overflow_add-count c = let l = c.loop-next in let b = remarking_bound c.args.s.now l.next.at l.invariant c.in-Some.remark.from c.in-Some.remark.to c.in-Some.remark.next (sym c.comment_line.ensures ∙ c.in-Some.is) (search rules) in
     omega (arith, b.0)
 
 pub overflow_sub-bytes : goal.overflow_sub-bytes
-overflow_sub-bytes c = let l = c.loop-next in (remark_goes c.args.s.now l.next.at c.in-Stands.from c.in-Stands.to c.in-Stands.past (sym c.comment_line.ensures ∙ c.in-Stands.is)).1
+overflow_sub-bytes c = let l = c.loop-next in (remark_goes c.args.s.now l.next.at c.in-Some.remark.from c.in-Some.remark.to c.in-Some.remark.next (sym c.comment_line.ensures ∙ c.in-Some.is)).1
 
 pub overflow_add-bytes : goal.overflow_add-bytes
-overflow_add-bytes c = let l = c.loop-next in let b = remarking_bound c.args.s.now l.next.at l.invariant c.in-Stands.from c.in-Stands.to c.in-Stands.past (sym c.comment_line.ensures ∙ c.in-Stands.is) (search rules) in
+overflow_add-bytes c = let l = c.loop-next in let b = remarking_bound c.args.s.now l.next.at l.invariant c.in-Some.remark.from c.in-Some.remark.to c.in-Some.remark.next (sym c.comment_line.ensures ∙ c.in-Some.is) (search rules) in
     omega (arith, b.1)
 
 pub loop-next-smaller : goal.loop-next-smaller
-loop-next-smaller c = let l = c.loop-next in let h = remark_goes c.args.s.now l.next.at c.in-Stands.from c.in-Stands.to c.in-Stands.past (sym c.comment_line.ensures ∙ c.in-Stands.is) in
+loop-next-smaller c = let l = c.loop-next in let h = remark_goes c.args.s.now l.next.at c.in-Some.remark.from c.in-Some.remark.to c.in-Some.remark.next (sym c.comment_line.ensures ∙ c.in-Some.is) in
     omega (arith, h.0, h.1, h.2, h.3)
 
 pub loop-next-preserved : goal.loop-next-preserved
-loop-next-preserved c = let l = c.loop-next in remarking_more c.args.s.now l.next.at l.invariant c.in-Stands.from c.in-Stands.to c.in-Stands.past (sym c.comment_line.ensures ∙ c.in-Stands.is)
+loop-next-preserved c = let l = c.loop-next in remarking_more c.args.s.now l.next.at l.invariant c.in-Some.remark.from c.in-Some.remark.to c.in-Some.remark.next (sym c.comment_line.ensures ∙ c.in-Some.is)

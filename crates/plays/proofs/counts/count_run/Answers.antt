@@ -28,8 +28,8 @@ returns-then-not-goes_on c =
     let x = c.loop-past.x in
     let a = c.args in
     let s = a.s.now in
-    let past = c.in-Past.past in
-    let k = line_back s x.next.at past (sym c.move_line_end.ensures ∙ c.in-Past.is) in
+    let past = c.in-Some.past in
+    let k = line_back s x.next.at past (sym c.move_line_end.ensures ∙ c.in-Some.is) in
     extending_done s c.loop-past.invariant x.next.at refl
     (run_stray s x.next.at k.0 k.1 past k.2 a.any (a.n + x.entries) (sym c.goes_on.ensures ∙ c.if-not-goes_on.true))
 
@@ -38,8 +38,8 @@ extended-x-requires c =
     let x = c.loop-past.x in
     let a = c.args in
     let s = a.s.now in
-    let past = c.in-Past.past in
-    let k = line_back s x.next.at past (sym c.move_line_end.ensures ∙ c.in-Past.is) in
+    let past = c.in-Some.past in
+    let k = line_back s x.next.at past (sym c.move_line_end.ensures ∙ c.in-Some.is) in
     let f = sym c.goes_on.ensures ∙ c.if-not-goes_on.false in
     rw c.count_comments.ensures
     (extending_room s c.loop-past.invariant k.1 past.at (run_at a.any (a.n + x.entries + 1) s (comments_at s past.at).at)
@@ -49,8 +49,8 @@ pub loop-past-smaller : goal.loop-past-smaller
 loop-past-smaller c =
     let s = c.args.s.now in
     let x = c.loop-past.x in
-    let past = c.in-Past.past in
-    let k = line_back s x.next.at past (sym c.move_line_end.ensures ∙ c.in-Past.is) in
+    let past = c.in-Some.past in
+    let k = line_back s x.next.at past (sym c.move_line_end.ensures ∙ c.in-Some.is) in
     rw (c.extended-x.ensures, c.count_comments.ensures) (omega (arith, line-past s x.next.at k.0 k.1 past k.2))
 
 pub loop-past-preserved : goal.loop-past-preserved
@@ -58,8 +58,8 @@ loop-past-preserved c =
     let x = c.loop-past.x in
     let a = c.args in
     let s = a.s.now in
-    let past = c.in-Past.past in
-    let k = line_back s x.next.at past (sym c.move_line_end.ensures ∙ c.in-Past.is) in
+    let past = c.in-Some.past in
+    let k = line_back s x.next.at past (sym c.move_line_end.ensures ∙ c.in-Some.is) in
     let f = sym c.goes_on.ensures ∙ c.if-not-goes_on.false in
     let one : a.n + x.entries + 1 ≡ a.n + (x.entries + 1) = omega arith in
     rw (c.extended-x.ensures, c.count_comments.ensures)

@@ -19,16 +19,16 @@ returns-in_default c =
     record { walk_value = w.0; out_after = w.1.0; at_value = w.1.1 }
 
 pub slice_bounds-put_comment-count : goal.slice_bounds-put_comment-count
-slice_bounds-put_comment-count c = (remark_goes c.args.s.now c.loop-walk.next.at c.in-Stands.from c.in-Stands.to c.in-Stands.past (sym c.comment_line.ensures ∙ c.in-Stands.is)).1
+slice_bounds-put_comment-count c = (remark_goes c.args.s.now c.loop-walk.next.at c.in-Some.remark.from c.in-Some.remark.to c.in-Some.remark.next (sym c.comment_line.ensures ∙ c.in-Some.is)).1
 
 pub slice_bounds-put_comment-start : goal.slice_bounds-put_comment-start
-slice_bounds-put_comment-start c = let h = remark_goes c.args.s.now c.loop-walk.next.at c.in-Stands.from c.in-Stands.to c.in-Stands.past (sym c.comment_line.ensures ∙ c.in-Stands.is) in omega (arith, h.1, h.2, h.3)
+slice_bounds-put_comment-start c = let h = remark_goes c.args.s.now c.loop-walk.next.at c.in-Some.remark.from c.in-Some.remark.to c.in-Some.remark.next (sym c.comment_line.ensures ∙ c.in-Some.is) in omega (arith, h.1, h.2, h.3)
 
 pub slice_bounds-put_comment-end : goal.slice_bounds-put_comment-end
-slice_bounds-put_comment-end c = let h = remark_goes c.args.s.now c.loop-walk.next.at c.in-Stands.from c.in-Stands.to c.in-Stands.past (sym c.comment_line.ensures ∙ c.in-Stands.is) in omega (arith, h.1, h.2, h.3)
+slice_bounds-put_comment-end c = let h = remark_goes c.args.s.now c.loop-walk.next.at c.in-Some.remark.from c.in-Some.remark.to c.in-Some.remark.next (sym c.comment_line.ensures ∙ c.in-Some.is) in omega (arith, h.1, h.2, h.3)
 
 pub loop-walk-smaller : goal.loop-walk-smaller
-loop-walk-smaller c = let h = remark_goes c.args.s.now c.loop-walk.next.at c.in-Stands.from c.in-Stands.to c.in-Stands.past (sym c.comment_line.ensures ∙ c.in-Stands.is) in omega (arith, h.0, h.1, h.2, h.3)
+loop-walk-smaller c = let h = remark_goes c.args.s.now c.loop-walk.next.at c.in-Some.remark.from c.in-Some.remark.to c.in-Some.remark.next (sym c.comment_line.ensures ∙ c.in-Some.is) in omega (arith, h.0, h.1, h.2, h.3)
 
 pub loop-walk-preserved : goal.loop-walk-preserved
-loop-walk-preserved c = commenting_step c.loop-walk.invariant c.in-Stands.from c.in-Stands.to c.in-Stands.past (sym c.comment_line.ensures ∙ c.in-Stands.is) c.put_comment-walk.ensures.value c.put_comment-walk.ensures.out_after
+loop-walk-preserved c = commenting_step c.loop-walk.invariant c.in-Some.remark.from c.in-Some.remark.to c.in-Some.remark.next (sym c.comment_line.ensures ∙ c.in-Some.is) c.put_comment-walk.ensures.value c.put_comment-walk.ensures.out_after

@@ -7,8 +7,8 @@ use mathlib.Core.Path.{◌≡◌}
 use Prim.Native.Nat.{◌+◌, ◌-◌}
 use Rattle.plays.proofs.fills.fill_moves.Given as goal
 
-abbrev pub invariant-loop-e : goal.invariant-loop-e
-invariant-loop-e l = Entering l.s l.initial.next.at l.next.at l.initial.walk l.walk l.initial.out l.out × (lost_from l.s l.initial.next.at ≡ l.lost + lost_from l.s l.next.at)
+abbrev pub invariant-loop-line : goal.invariant-loop-line
+invariant-loop-line l = Entering l.s l.initial.next.at l.next.at l.initial.walk l.walk l.initial.out l.out × (lost_from l.s l.initial.next.at ≡ l.lost + lost_from l.s l.next.at)
 
-abbrev pub decreases-loop-e : goal.decreases-loop-e
-decreases-loop-e l = length l.s - l.next.at
+abbrev pub decreases-loop-line : goal.decreases-loop-line
+decreases-loop-line l = length l.s - l.next.at

@@ -7,4 +7,4 @@ pub returns-in_default : goal.returns-in_default
 returns-in_default c = answer_stopped c.args.c c.in_default.field-0 c.in_default.is c.trail_of-trail.ensures c.no_position.ensures
 
 pub returns : goal.returns
-returns c = answer_goes c.args.c c.in-Goes.is c.trail_of-trail.ensures
+returns c = answer_goes c.args.c c.in-None.is c.trail_of-trail.ensures

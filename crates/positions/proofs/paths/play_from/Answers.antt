@@ -12,5 +12,5 @@ pub returns : goal.returns
 returns c =
     let a = c.args in
     c.course_of.ensures ∙ ap (course_of c.play_to-l.result) c.position_in.ensures ∙ c.play_to-l.ensures
-    ∙ ap₂ (λ (l : Trail) (p : Position). play_all a.b.now (path_to a.b.now a.k a.n) (course_of l p)) c.no_trail.ensures
-    (position-kept a.start c.requires.3 c.requires.4 (omega arith) c.put_position.ensures)
+    ∙ ap₂ (λ (l : Trail) (p : Position). play_all a.b.bytes.now (path_to a.b.bytes.now a.k a.n) (course_of l p)) c.no_trail.ensures
+    (position-kept a.start c.requires.2 c.requires.3 (omega arith) c.put_position.ensures)

@@ -9,12 +9,12 @@ returns-in_default c = rw c.in_default.is
 
 pub returns-in-Slot : goal.returns-in-Slot
 unfolding play_one
-returns-in-Slot c = rw (c.in-Goes.is, ← c.first_entry.ensures.0, ← c.entry_of.ensures, c.in-Slot.is)
+returns-in-Slot c = rw (c.in-None.is, ← c.first_entry.ensures.0, ← c.entry_of.ensures, c.in-Slot.is)
 
 pub returns-in-Moved : goal.returns-in-Moved
 unfolding play_one
-returns-in-Moved c = rw (c.in-Goes.is, ← c.first_entry.ensures.0, ← c.entry_of.ensures, c.in-Moved.is, ← c.play_move.ensures)
+returns-in-Moved c = rw (c.in-None.is, ← c.first_entry.ensures.0, ← c.entry_of.ensures, c.in-Moved.is, ← c.play_move.ensures)
 
 pub returns-in-End : goal.returns-in-End
 unfolding play_one
-returns-in-End c = rw (c.in-Goes.is, ← c.first_entry.ensures.0, ← c.entry_of.ensures, c.in-End.is)
+returns-in-End c = rw (c.in-None.is, ← c.first_entry.ensures.0, ← c.entry_of.ensures, c.in-End.is)

@@ -1,13 +1,13 @@
 -- The answers are those of the definition, test by test.
 -- Assumes nothing.
-use borrow.Author.Tests.{eq-eqb, ne_eqb}
+use borrow.Author.Rules.{rules}
 use Rattle.positions.specs.Paths.{has_start}
 use Rattle.positions.proofs.starts.has_start.Goals as goal
 
-pub returns-then-p-eq0 : goal.returns-then-p-eq0
+pub returns-then-p-ne0 : goal.returns-then-p-ne0
 unfolding has_start
-returns-then-p-eq0 c = rw (eq-eqb _ _ c.if-p-eq0.true)
+returns-then-p-ne0 c = search rules
 
-pub returns : goal.returns
+pub returns-else-p-ne0 : goal.returns-else-p-ne0
 unfolding has_start
-returns c = rw (ne_eqb _ _ c.if-p-eq0.false)
+returns-else-p-ne0 c = search rules

@@ -5,4 +5,4 @@ use Rattle.positions.proofs.steps.dropped.Goals as goal
 
 pub returns : goal.returns
 unfolding dropped
-returns c = rw (← c.other.ensures, ← c.piece_of.ensures, ← c.with_cell.ensures, ← c.hand_place.ensures, ← c.one_less.ensures)
+returns c = rw (← c.other.ensures, ← c.piece_of.ensures, ← c.with_number.ensures, ← c.hand_place.ensures, ← c.one_less.ensures)

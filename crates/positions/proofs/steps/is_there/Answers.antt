@@ -1,12 +1,13 @@
 -- The answers are those of the definition, test by test.
 -- Assumes nothing.
+use borrow.Author.Rules.{rules}
 use Rattle.positions.specs.Steps.{is_there}
 use Rattle.positions.proofs.steps.is_there.Goals as goal
 
-pub returns-then-not-owned : goal.returns-then-not-owned
+pub returns-then-owned : goal.returns-then-owned
 unfolding is_there
-returns-then-not-owned c = rw (← c.peek-c.ensures, ← c.owned.ensures, c.if-not-owned.true)
+returns-then-owned c = search rules
 
-pub returns : goal.returns
+pub returns-else-owned : goal.returns-else-owned
 unfolding is_there
-returns c = rw (← c.peek-c.ensures, ← c.owned.ensures, c.if-not-owned.false)
+returns-else-owned c = search rules

@@ -10,4 +10,4 @@ returns-then-n-lt1 c = rw (← c.peek-n.ensures, lt-ltb _ _ c.if-n-lt1.true)
 
 pub returns : goal.returns
 unfolding one_less
-returns c = rw (← c.peek-n.ensures, le-ltb _ _ c.if-n-lt1.false, ← c.with_count.ensures)
+returns c = rw (← c.peek-n.ensures, le-ltb _ _ c.if-n-lt1.false, ← c.with_number.ensures)

@@ -10,4 +10,4 @@ returns-then-n-gt254 c = rw (← c.peek-n.ensures, lt-ltb _ _ c.if-n-gt254.true)
 
 pub returns : goal.returns
 unfolding one_more
-returns c = rw (← c.peek-n.ensures, le-ltb _ _ c.if-n-gt254.false, ← c.with_count.ensures)
+returns c = rw (← c.peek-n.ensures, le-ltb _ _ c.if-n-gt254.false, ← c.with_number.ensures)

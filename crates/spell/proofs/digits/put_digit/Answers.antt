@@ -14,11 +14,6 @@ use Rattle.spell.proofs.digits.put_digit.Goals as goal
 pub returns-then-i-lt1 : goal.returns-then-i-lt1
 returns-then-i-lt1 c =
     let a = c.args in
-    λ es d. as_text (sym (fitting_nothing _ (digit_unspelled 1 es d.fits a.n (λ p q. omega arith)))) (nothing _)
-
-pub returns-then-codes-i : goal.returns-then-codes-i
-returns-then-codes-i c =
-    let a = c.args in
     λ es d.
     let l : length a.codes.now ≡ length es = ap length d.whole ∙ keys_length es in
     as_text (sym (fitting_nothing _ (digit_unspelled 1 es d.fits a.n (λ p q. omega arith)))) (nothing _)

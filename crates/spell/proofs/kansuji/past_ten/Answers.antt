@@ -2,8 +2,8 @@
 -- Assumes nothing.
 use Rattle.spell.proofs.kansuji.past_ten.Goals as goal
 
-pub returns-in_default : goal.returns-in_default
-returns-in_default c = rw (← c.tag.ensures, c.in_default.is)
+pub returns-in_err-e : goal.returns-in_err-e
+returns-in_err-e c = rw (← c.tag.ensures, c.in_err-e.was) c.from_residual.ensures
 
 pub returns : goal.returns
-returns c = rw (← c.tag.ensures, c.in-Past.is)
+returns c = rw (← c.tag.ensures, c.in_ok-e.was)

@@ -14,8 +14,8 @@ returns-in_default c = rw (← c.numeral.ensures, c.in_default.is) c.past_ten.en
 pub overflow_mul-d : goal.overflow_mul-d
 overflow_mul-d c =
     let a = c.args in
-    omega (arith, (as_is (numeral_small a.s.now a.c.at) (sym c.numeral.ensures ∙ c.in-As.is)).small)
+    omega (arith, (as_is (numeral_small a.s.now a.c.at) (sym c.numeral.ensures ∙ c.in-Some.is)).small)
 
 pub returns : goal.returns
 unfolding tens_at
-returns c = rw (← c.numeral.ensures, c.in-As.is) c.past_ten-2.ensures
+returns c = rw (← c.numeral.ensures, c.in-Some.is) c.past_ten-2.ensures

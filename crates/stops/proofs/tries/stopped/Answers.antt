@@ -3,10 +3,10 @@
 use Rattle.stops.specs.Stopping.{stopped_at, stopped_with}
 use Rattle.stops.proofs.tries.stopped.Goals as goal
 
-pub returns-in-Silent : goal.returns-in-Silent
+pub returns-in-None : goal.returns-in-None
 unfolding stopped_at stopped_with
-returns-in-Silent c = rw (← c.skips-p.ensures, ← c.seeking_at.ensures, ← c.tried.ensures, c.in-Silent.is)
+returns-in-None c = rw (← c.skips-p.ensures, ← c.seeking_at.ensures, ← c.tried.ensures, c.in-None.is)
 
-pub returns-in-At : goal.returns-in-At
+pub returns-in-Some : goal.returns-in-Some
 unfolding stopped_at stopped_with
-returns-in-At c = rw (← c.skips-p.ensures, ← c.seeking_at.ensures, ← c.tried.ensures, c.in-At.is)
+returns-in-Some c = rw (← c.skips-p.ensures, ← c.seeking_at.ensures, ← c.tried.ensures, c.in-Some.is)

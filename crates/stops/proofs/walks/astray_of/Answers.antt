@@ -1,8 +1,7 @@
--- The line that is found is one of the k before, so its row's places fit; its first and last ply are read from that row, and a line with no entry has its first for its last.
+-- The line that is found is one of the k before, so its row's places fit; its first and last ply are read from that row.
 -- Assumes nothing.
 -- the line that is found is one of those before
 use Prim.Native.Nat.{◌<◌}
-use native.Mathlib.Nat.{add-zero}
 use native.Mathlib.Omega.{arith}
 use Rattle.jkf.specs.Following.{start_at}
 use Rattle.jkf.proofs.Nears.{near_before}
@@ -25,10 +24,6 @@ overflow_mul-parent-2 c = omega (arith, parent-low (goal.at.overflow_mul-parent-
 pub overflow_add-parent : goal.overflow_add-parent
 overflow_add-parent c = omega (arith, parent-low (goal.at.overflow_add-parent c).After-nearest-parent)
 
-pub returns-then-count-eq0 : goal.returns-then-count-eq0
+pub returns : goal.returns
 unfolding astray_in
-returns-then-count-eq0 c = rw (← c.nearest-parent.ensures.as_searched c.requires.0, ← c.get16-first.ensures.0, ← c.get16-count.ensures.0, c.if-count-eq0.true, add-zero)
-
-pub returns-else-count-eq0 : goal.returns-else-count-eq0
-unfolding astray_in
-returns-else-count-eq0 c = rw (← c.nearest-parent.ensures.as_searched c.requires.0, ← c.get16-first.ensures.0, ← c.get16-count.ensures.0)
+returns c = rw (← c.nearest-parent.ensures.as_searched c.requires.0, ← c.get16-first.ensures.0, ← c.get16-count.ensures.0, c.saturating_sub.ensures)

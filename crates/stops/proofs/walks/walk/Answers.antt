@@ -32,4 +32,4 @@ pub loop-at-smaller : goal.loop-at-smaller
 loop-at-smaller c = let l = c.loop-at in let n = line_counted c.args.s.now c.args.begin.at c.skips-at.ensures c.count_moves-line.ensures in let p = variation_past c.args.s.now l.gone.next.at (λ z. c.if-line-eq0.false (n.0 ∙ z)) in omega (arith, p.0, p.1, c.skipped.ensures, ap (skipped_at c.args.s.now) n.1)
 
 pub loop-at-preserved : goal.loop-at-preserved
-loop-at-preserved c = let l = c.loop-at in let n = line_counted c.args.s.now c.args.begin.at c.skips-at.ensures c.count_moves-line.ensures in walked_more c.args.s.now c.args.begin.at c.requires.0 l.k l.gone.next.at l.gone.end.at l.rows l.invariant (λ z. c.if-line-eq0.false (n.0 ∙ z)) (c.ply-start.ensures ∙ ap (ply_at c.args.s.now) c.skips-at.ensures) (sym c.hang_of.ensures ∙ c.in-On.is) n.0 c.put_line_row.ensures.bytes n.1 (c.skipped.ensures ∙ ap (skipped_at c.args.s.now) n.1)
+loop-at-preserved c = let l = c.loop-at in let n = line_counted c.args.s.now c.args.begin.at c.skips-at.ensures c.count_moves-line.ensures in walked_more c.args.s.now c.args.begin.at c.requires.0 l.k l.gone.next.at l.gone.end.at l.rows l.invariant (λ z. c.if-line-eq0.false (n.0 ∙ z)) (c.ply-start.ensures ∙ ap (ply_at c.args.s.now) c.skips-at.ensures) (sym c.hang_of.ensures ∙ c.in-Some.is) n.0 c.put_line_row.ensures.bytes n.1 (c.skipped.ensures ∙ ap (skipped_at c.args.s.now) n.1)

@@ -1,6 +1,6 @@
 -- The invariant: of i characters n are counted, and where all are, they are one run.
 -- Assumes nothing.
-use Prim.Native.Nat.{◌+◌, ◌*◌, ◌-◌, ◌≤◌}
+use Prim.Native.Nat.{◌+◌, ◌*◌, ◌≤◌}
 use mathlib.Core.Path.{◌≡◌}
 use Rattle.text.specs.inner.Runs.{Run}
 use Rattle.text.specs.Text.{past_all}
@@ -8,7 +8,4 @@ use Rattle.text.specs.Utf8.{char_width}
 use Rattle.text.proofs.utf8.are_threes.Given as goal
 
 abbrev pub invariant-loop-i : goal.invariant-loop-i
-invariant-loop-i l = (l.i ≤ 16) × (l.n ≤ l.i) × (l.n ≡ l.i → Run (past_all char_width l.s) l.s l.at (l.at + 3 * l.i))
-
-abbrev pub decreases-loop-i : goal.decreases-loop-i
-decreases-loop-i l = 16 - l.i
+invariant-loop-i l = (l.n ≤ l.i) × (l.n ≡ l.i → Run (past_all char_width l.s) l.s l.at (l.at + 3 * l.i))
