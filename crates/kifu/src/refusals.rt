@@ -11,20 +11,25 @@ pub(crate) fn end(rt: &impl Streams, number: u64) {
     say_error(rt, b" (refusal %)\n", &[number]);
 }
 
-// A count that cannot be written, of a side and of a kind, in the order of the hands.
+// A count that cannot be written, of a side and of a kind, in the order of the hands: rows of six and of eight bytes.
 fn say_hand(rt: &impl Streams, side: u64, kind: u64) {
-    let pieces: &[u8] = match kind {
-        0 => b"pawns",
-        1 => b"lances",
-        2 => b"knights",
-        3 => b"silvers",
-        4 => b"golds",
-        5 => b"bishops",
-        _ => b"rooks",
-    };
-    put_error(rt, if side == 0 { b"Black" } else { b"White" });
+    let color = 6 * (side.min(1) as usize);
+    let piece = 8 * (kind.min(6) as usize);
+    put_error(rt, shown::table_text(b"\x05Black\x05White", color));
     put_error(rt, b" has more than 99 ");
-    put_error(rt, pieces);
+    put_error(
+        rt,
+        shown::table_text(
+            b"\x05pawns  \
+              \x06lances \
+              \x07knights\
+              \x07silvers\
+              \x05golds  \
+              \x07bishops\
+              \x05rooks  ",
+            piece,
+        ),
+    );
     put_error(rt, b" in hand, which no text can say");
 }
 

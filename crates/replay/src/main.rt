@@ -13,29 +13,8 @@ use std::fs::File;
 use std::io;
 use std::io::Read;
 
-// The kinds and their names.
-const KINDS: [(u8, &str); 20] = [
-    (b'u', "UTF-8 counts"),
-    (b't', "blanks, padding, tails, breaks"),
-    (b'd', "numbers read"),
-    (b'n', "spellings read"),
-    (b'z', "numerals read"),
-    (b'h', "hand counts read"),
-    (b'w', "spellings written"),
-    (b'c', "hand counts written"),
-    (b'f', "numbers written"),
-    (b's', "blocks, sound or not"),
-    (b'l', "look-ups"),
-    (b'm', "move lines"),
-    (b'k', "comments"),
-    (b'x', "skip lines"),
-    (b'g', "texts measured"),
-    (b'r', "texts read"),
-    (b'b', "blocks written"),
-    (b'p', "variations put in"),
-    (b'o', "lines cut"),
-    (b'q', "stops"),
-];
+// The kinds, in the order of their names.
+const KINDS: &[u8] = b"utdnzhwcfslmkxgrbpoq";
 
 // How many records of each kind there were, and in how many the answers agreed. The last place is for unknown kinds.
 #[derive(Drop)]
@@ -59,18 +38,35 @@ impl Tally {
 
 // Where a kind stands in the tally.
 fn place_of(kind: u8) -> usize {
-    KINDS
-        .iter()
-        .position(|k| k.0 == kind)
-        .unwrap_or(KINDS.len())
+    KINDS.iter().position(|k| *k == kind).unwrap_or(KINDS.len())
 }
 
-// The name of the kind at a place of the tally.
-fn name_at(place: usize) -> &'static str {
-    match KINDS.get(place) {
-        Some(k) => k.1,
-        None => "of unknown kind",
-    }
+// The name of the kind at a place of the tally: rows of 32 bytes.
+fn print_name(rt: &impl Print, place: usize) -> io::Result<()> {
+    rt.write_all(shown::table_text(
+        b"\x0cUTF-8 counts                   \
+          \x1eblanks, padding, tails, breaks \
+          \x0cnumbers read                   \
+          \x0espellings read                 \
+          \x0dnumerals read                  \
+          \x10hand counts read               \
+          \x11spellings written              \
+          \x13hand counts written            \
+          \x0fnumbers written                \
+          \x14blocks, sound or not           \
+          \x08look-ups                       \
+          \x0amove lines                     \
+          \x08comments                       \
+          \x0askip lines                     \
+          \x0etexts measured                 \
+          \x0atexts read                     \
+          \x0eblocks written                 \
+          \x11variations put in              \
+          \x09lines cut                      \
+          \x05stops                          \
+          \x0fof unknown kind                ",
+        32 * place.min(20),
+    ))
 }
 
 // Whether the library's answer to a request is the recorded one.
@@ -130,8 +126,8 @@ fn print_line(rt: &impl Print, place: usize, agreed: u64, asked: u64) -> io::Res
     if asked == 0 {
         return Ok(());
     }
-    let name = name_at(place);
-    println!(rt; "{name}: {agreed} of {asked} agree")
+    print_name(rt, place)?;
+    println!(rt; ": {agreed} of {asked} agree")
 }
 
 fn print_tally(rt: &impl Print, tally: Tally) -> io::Result<()> {
