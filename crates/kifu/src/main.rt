@@ -87,7 +87,8 @@ fn answer(
 
 // What is asked of the file with a name: of one byte more than a text or a block may have, so that a longer one is refused and not cut. What is
 // printed has room: of a block's bytes 20 of an entry come to at most 55 of text, and all others to less at that rate, but for the position, at most
-// 2,048; the longest listing has 112,133. A block that is made has room too, as long as a block can be.
+// 2,048; the longest listing has 112,133. A block that is made has room too, as long as a block can be. Wrong words pay for none of this.
+#[inline(never)]
 fn obey(rt: &(impl Streams + Env + Files + Input), word: Word, line: u64, entry: u64, name: &[u8]) {
     let mut input = [0u8; 65536];
     let Some(bytes) = files::fill(rt, name, !word.is_of_block(), &mut input) else {

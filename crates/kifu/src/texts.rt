@@ -144,7 +144,9 @@ fn keep(rt: &(impl Streams + Env + Files), taken: u64, b: &[u8]) -> Result<(), U
     printed
 }
 
-// Prints a block as a text once it is edited. The edit is done before anything is printed, so both use one buffer.
+// Prints a block as a text once it is edited. The edit is done before anything is printed, so both use one buffer. What an edit needs of the
+// stack no other word pays.
+#[inline(never)]
 fn print_edited(
     rt: &(impl Streams + Env + Files + Input),
     word: Word,
@@ -186,7 +188,7 @@ fn print_position(
     told(rt, shows::print(rt, b, after))
 }
 
-// What is asked of a text that was read into a block, but for `check`. Two calls keep what an edit needs of the stack apart from this function's.
+// What is asked of a text that was read into a block, but for `check`.
 fn give(
     rt: &(impl Streams + Env + Files + Input),
     word: Word,

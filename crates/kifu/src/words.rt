@@ -1,5 +1,5 @@
 // The words that the tool is told by, and how it is used.
-ghost use Rattle.std.specs.Prelude.{◌≤◌};
+ghost use Rattle.std.specs.Prelude.{◌≤◌, length};
 
 use crate::notes::{Streams, put_error};
 use crate::quotes;
@@ -117,7 +117,9 @@ impl Word {
 }
 
 // Word i of the command line, put into a buffer; nothing where there is none, or no room for it.
-pub(crate) fn arg<'a>(rt: &impl Env, i: usize, w: &'a mut [u8]) -> &'a [u8] {
+pub(crate) fn arg<'a>(rt: &impl Env, i: usize, w: &'a mut [u8]) -> &'a [u8]
+    ensures { length result.now ≤ length w.old }
+{
     match rt.arg(i, w) {
         Ok(n) => &w[..n],
         Err(_) => &[],
@@ -164,7 +166,9 @@ fn place_of(rt: &impl Env, k: usize) -> Option<usize> {
 }
 
 // Name k, put into a buffer; nothing where there is none, or no room for it.
-pub(crate) fn name<'a>(rt: &impl Env, k: usize, w: &'a mut [u8]) -> &'a [u8] {
+pub(crate) fn name<'a>(rt: &impl Env, k: usize, w: &'a mut [u8]) -> &'a [u8]
+    ensures { length result.now ≤ length w.old }
+{
     match place_of(rt, k) {
         Some(i) => arg(rt, i, w),
         None => &[],
