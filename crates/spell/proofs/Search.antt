@@ -7,7 +7,7 @@ use mathlib.Core.Path.{◌≡◌, sym, ap}
 use mathlib.Core.List.{List, [], ◌∷◌}
 use mathlib.Core.Bool.{true, false}
 use lib.ListN.{length, get_or, drop, take}
-use lib.Dec.{eqb}
+use lib.Dec.{eqb, leb}
 use Rattle.std.proofs.Common.{add-one}
 use borrow.Author.Tests.{eqb-true, leb-true, eq-eqb, ne_eqb}
 use Rattle.lists.proofs.Laws.{pick_both}
@@ -25,7 +25,7 @@ pub record Fits {w : ℕ} (r : Row w) : Type 0 where
 fits_so : {w : ℕ} (r : Row w) → fits r ≡ true → Fits r
 fits_so {w} r h =
     let (q, k) = pick_both (eqb (length r.bytes) w) _ h in
-    record { wide = eqb-true (length r.bytes) w q; fits = leb-true r.length w k }
+    record { wide = eqb-true (length r.bytes) w q; fits = leb-true r.length w (pick_both (leb r.length w) _ k).0 }
 
 pub fits_at : {w : ℕ} (rows : List (Row w)) (i : ℕ) (r : Row w) → all_fit rows ≡ true → i < length rows → r ≡ get_or rows i r → Fits r
 fits_at [] i r h l e = absurd (omega arith)

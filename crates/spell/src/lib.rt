@@ -205,6 +205,8 @@ pub fn preset(c: Cursor, s: &[u8]) -> Option<(u8, Cursor)>
 }
 
 // The side that stands at a place, 0 Black, 1 White.   (the Rust's color_prefix)
+// Compiled into its callers, since each header line is asked for one.
+#[inline(always)]
 pub fn side(c: Cursor, s: &[u8]) -> Option<(u8, Cursor)>
     ensures { result ≡ first_of sides s.now c.at }
 {

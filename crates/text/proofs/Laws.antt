@@ -4,7 +4,7 @@ use Rattle.std.specs.Prelude.{Option, Some, None}
 use Prim.Native.Nat.{ℕ, suc, ◌+◌, ◌*◌, ◌-◌, ◌≤◌, ◌<◌, max}
 use native.Mathlib.Nat.{le_refl}
 use native.Mathlib.Omega.{arith}
-use mathlib.Core.Path.{◌≡◌, refl, sym, ap, ap₂}
+use mathlib.Core.Path.{◌≡◌, refl, sym, ap, ap₂, ◌∙◌}
 use mathlib.Core.List.{List, [], ◌∷◌}
 use mathlib.Core.Bool.{Bool, true, false, false≢true}
 use lib.ListN.{length, get_or, drop, length-drop, drop_of_length-le}
@@ -101,6 +101,11 @@ prefix_fits (b ∷ t) (x ∷ l) e = go (eqb x b) (prefix_fits t l) e
 pub stands_fits : (t s : List ℕ) (at : ℕ) → stands_at t s at ≡ true → at + length t ≤ max at (length s)
 unfolding stands_at
 stands_fits t s at e = omega (arith, simp length-drop at (prefix_fits t (drop at s) e))
+
+-- at the end of the text and past it the empty byte string stands alone
+pub stands_empty : (t s : List ℕ) (at : ℕ) → length s ≤ at → stands_at t s at ≡ eqb (length t) 0
+stands_empty [] s at h = stands_done [] s 0 at (omega arith)
+stands_empty (b ∷ t) s at h = stands_short (b ∷ t) s 0 at (omega arith) h ∙ sym (ne_eqb (length (b ∷ t)) 0 λ e. absurd (omega (arith, e)))
 
 -- a byte string that is longer than the rest does not stand there
 pub stands_longer : (t s : List ℕ) (at : ℕ) → length (drop at s) < length t → stands_at t s at ≡ false

@@ -45,13 +45,15 @@ pub fn is_digit(b: u8) -> bool
 pub fn stands(s: &[u8], at: usize, t: &[u8]) -> bool
     ensures { result ≡ stands_at t.now s.now at }
 {
-    let here = lent::rest(s, at);
-    if here.len() < t.len() {
+    if s.len() <= at {
+        return t.is_empty();
+    }
+    if s.len() - at < t.len() {
         return false;
     }
-    // a loop in place, since the library's starts_with is a call, and most strings differ in the first bytes
+    // a loop in place, since starts_with is a call, a slice takes longer to make than to compare, and most strings differ in the first bytes
     for (i, &b) in t.iter().enumerate() {
-        if here[i] != b {
+        if s[at + i] != b {
             return false;
         }
     }

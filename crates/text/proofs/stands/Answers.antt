@@ -1,32 +1,28 @@
-use Prim.Native.Nat.{◌<◌}
+use Prim.Native.Nat.{◌+◌}
 use native.Mathlib.Omega.{arith}
-use mathlib.Core.Path.{sym, ◌∙◌}
-use lib.ListN.{length, drop}
+use mathlib.Core.Path.{sym, ap, ◌∙◌}
+use lib.ListN.{drop, length-drop}
 use Rattle.text.specs.Text.{stands_at}
-use Rattle.text.proofs.Laws.{stands_done, stands_longer, stands_off, stands_on}
+use Rattle.text.proofs.Laws.{stands_done, stands_empty, stands_longer, stands_off, stands_on}
 use Rattle.text.proofs.stands.Goals as goal
 
-pub returns-then-here-t : goal.returns-then-here-t
-returns-then-here-t c =
-    let a = c.args in
-    let h : length (drop a.at a.s.now) < length a.t.now = rw (← c.rest-here.ensures) c.if-here-t.true in
-    sym (stands_longer a.t.now a.s.now a.at h)
+pub returns-then-s-at : goal.returns-then-s-at
+returns-then-s-at c = let a = c.args in c.is_empty.ensures ∙ sym (stands_empty a.t.now a.s.now a.at (omega arith))
 
-pub loop-i-init : goal.loop-i-init
-unfolding stands_at
-loop-i-init c = rw c.rest-here.ensures
+pub returns-then-s-at-2 : goal.returns-then-s-at-2
+returns-then-s-at-2 c = let a = c.args in sym (stands_longer a.t.now a.s.now a.at (omega (arith, length-drop a.at a.s.now)))
 
-pub returns-then-here-i : goal.returns-then-here-i
-returns-then-here-i c =
-    let l = c.loop-i in
-    sym (l.invariant ∙ stands_off c.args.t.now c.rest-here.result.now l.i l.i (omega arith) (omega arith) c.if-here-i.true)
+pub returns-then-s-at-3 : goal.returns-then-s-at-3
+returns-then-s-at-3 c =
+    let a = c.args in let l = c.loop-i in
+    sym (l.invariant ∙ stands_off a.t.now a.s.now l.i (a.at + l.i) (omega arith) (omega arith) c.if-s-at-3.true)
 
 pub loop-i-preserved : goal.loop-i-preserved
 loop-i-preserved c =
-    let l = c.loop-i in
-    l.invariant ∙ stands_on c.args.t.now c.rest-here.result.now l.i l.i (omega arith) (omega arith) c.if-here-i.false
+    let a = c.args in let l = c.loop-i in
+    l.invariant ∙ stands_on a.t.now a.s.now l.i (a.at + l.i) (omega arith) (omega arith) c.if-s-at-3.false ∙ ap (stands_at (drop (l.i + 1) a.t.now) a.s.now) (omega arith)
 
 pub returns : goal.returns
 returns c =
-    let l = c.loop-i in
-    sym (l.invariant ∙ stands_done c.args.t.now c.rest-here.result.now l.i l.i (omega arith))
+    let a = c.args in let l = c.loop-i in
+    sym (l.invariant ∙ stands_done a.t.now a.s.now l.i (a.at + l.i) (omega arith))
